@@ -1,0 +1,5 @@
+pub mod Disparities
+pub mod Picture
+pub mod Rounding
+pub mod Sides
+pub mod Values
