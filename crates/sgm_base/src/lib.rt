@@ -13,9 +13,7 @@ mod span;
 
 pub use disp_map::DispMap;
 pub use image::Image;
-pub use limits::{
-    MAX_COUNT, MAX_FIRST, MAX_IMAGE_BYTES, MAX_SIDE, MAX_VOLUME, MIN_FIRST,
-};
+pub use limits::{MAX_COUNT, MAX_FIRST, MAX_IMAGE_BYTES, MAX_SIDE, MAX_VOLUME, MIN_FIRST};
 pub use plane::Plane;
 pub use point::{Point, round_div};
 pub use side::Side;

@@ -1,0 +1,10 @@
+pub mod Completing
+pub mod Filing
+pub mod Holding
+pub mod Joins
+pub mod PairLaws
+pub mod Parts
+pub mod Reading
+pub mod Steps
+pub mod VerdictLaws
+pub mod WordLaws

@@ -1,0 +1,66 @@
+-- What the outcome must be where no count of faults stands in the way.
+use Rattle.std.specs.Prelude.{◌≡◌, ◌≢◌, ◌⊎◌, ⊤, ℕ, List, Contains, Result, Ok, Err}
+use Rattle.sgm_io.specs.Counts.{Counts, Rose}
+use Rattle.sgm_app.specs.Words.{Operands, IsInputName}
+use Rattle.sgm_app.specs.Verdict.{Verdict, absent, refused, IsFiles, OutputFile, outputs_of}
+use Rattle.sgm_app.specs.Ends.{Faults}
+use Rattle.sgm_app.specs.declared.words.UsageFault.{UsageFault}
+use Rattle.sgm_app.specs.declared.words.Options.{Options}
+use Rattle.sgm_app.specs.declared.words.Options.TheVariants as options
+use Rattle.sgm_app.specs.declared.outcome.Input.{Input}
+use Rattle.sgm_app.specs.declared.outcome.Output.TheVariants.{Summary}
+use Rattle.sgm_app.specs.declared.outcome.Refusal.{Refusal}
+use Rattle.sgm_app.specs.declared.outcome.Outcome.{Outcome}
+use Rattle.sgm_app.specs.declared.outcome.Outcome.TheVariants.{Done, Usage, Refused, ReadFault, WriteFault, NoMemory}
+
+-- no count of reading an input's name rose
+abbrev pub NoReadRose : Operands → Faults → Faults → Type 0
+NoReadRose asked before now = (input : Input) (name : List ℕ) → IsInputName asked input name → Rose (before.reads name) (now.reads name) → ⊥
+
+-- no count of reading an input's name rose, but perhaps that of this input's
+abbrev pub OnlyReadRose : Operands → Input → Faults → Faults → Type 0
+OnlyReadRose asked input before now = (other : Input) (mine name : List ℕ) → IsInputName asked input mine → IsInputName asked other name → name ≢ mine
+    → Rose (before.reads name) (now.reads name) → ⊥
+
+-- no count of writing a file of the verdict rose, nor that of `out`
+pub record NoWriteRose (verdict : Verdict) (before now : Faults) : Type 0 where
+  pub file : (file : OutputFile) → Contains (outputs_of verdict) file → Rose (before.writes file.name) (now.writes file.name) → ⊥
+  pub out : Rose before.out now.out → ⊥
+
+-- the outcome is this one, or there was no memory
+abbrev pub IsUnlessMemory : Outcome → Outcome → Type 0
+IsUnlessMemory outcome wanted = (outcome ≡ wanted) ⊎ (outcome ≡ NoMemory)
+
+pub record IsComplete (asked : Operands) (verdict : Verdict) (outcome : Outcome) (before now : Faults) : Type 0 where
+  -- files that can be read and written are
+  pub files : IsFiles verdict → NoReadRose asked before now → NoWriteRose verdict before now → IsUnlessMemory outcome Done
+  -- inputs that can be read are refused for what they hold
+  pub refused_for : (refusal : Refusal) → verdict ≡ refused refusal → NoReadRose asked before now → IsUnlessMemory outcome (Refused refusal)
+  -- an absent input is a fault of reading
+  pub absent_one : (input : Input) → verdict ≡ absent input → ((at : Input) × (outcome ≡ ReadFault at)) ⊎ (outcome ≡ NoMemory)
+  -- of that input, where the count of no other input's name rose
+  pub absent_only : (input : Input) → verdict ≡ absent input → OnlyReadRose asked input before now → IsUnlessMemory outcome (ReadFault input)
+
+-- a demo is done, or there was no memory, where the count of `out` didn't rise
+pub record IsDemoComplete (verdict : Verdict) (outcome : Outcome) (before now : Faults) : Type 0 where
+  pub files : IsFiles verdict → (Rose before.out now.out → ⊥) → IsUnlessMemory outcome Done
+  pub refused_for : (refusal : Refusal) → verdict ≡ refused refusal → IsUnlessMemory outcome (Refused refusal)
+
+-- over the words, whose faults have a clause of their own
+abbrev pub RunComplete : Result Options UsageFault → Operands → Verdict → Outcome → Faults → Faults → Type 0
+RunComplete (Err fault) asked verdict outcome before now = ⊤
+RunComplete (Ok (options.Match strips workers)) asked verdict outcome before now = IsComplete asked verdict outcome before now
+RunComplete (Ok (options.Demo number strips workers)) asked verdict outcome before now = IsDemoComplete verdict outcome before now
+
+-- no fault of reading, and none of writing a file
+abbrev pub IsNoFileFault : Outcome → Type 0
+IsNoFileFault (ReadFault input) = ⊥
+IsNoFileFault (WriteFault output) = output ≡ Summary
+IsNoFileFault Done = ⊤
+IsNoFileFault (Usage fault) = ⊤
+IsNoFileFault (Refused refusal) = ⊤
+IsNoFileFault NoMemory = ⊤
+
+-- no count of these names rose
+abbrev pub NoneRose : Counts → Counts → Type 0
+NoneRose before now = (name : List ℕ) → Rose (before name) (now name) → ⊥

@@ -1,0 +1,171 @@
+-- What stands after a run, and what caused its outcome.
+use Rattle.std.specs.Prelude.{◌≡◌, ◌≢◌, ◌⊎◌, ℕ, ◌<◌, ◌≤◌, ⊤, List, [], ◌∷◌, ◌++◌, Option, None, Some, Bool, false, Contains, Result, Ok, Err}
+use Rattle.std.specs.List.{list_any}
+use Rattle.std.specs.Str.{bytes_eq}
+use Rattle.sgm_io.specs.Held.{Held, IsPrefix}
+use Rattle.sgm_io.specs.Counts.{Counts, NoneFell, RoseAt, Rose}
+use Rattle.sgm_io.specs.Sink.{GrowsByPrefix}
+use Rattle.sgm_app.specs.Words.{Operands, IsInputName, IsOutputName}
+use Rattle.sgm_app.specs.Verdict.{Verdict, OutputFile, absent, refused, usage, outputs_of, summary_of, IsFiles}
+use Rattle.sgm_app.specs.declared.words.UsageFault.{UsageFault}
+use Rattle.sgm_app.specs.declared.words.Options.{Options}
+use Rattle.sgm_app.specs.declared.words.Options.TheVariants as options
+use Rattle.sgm_app.specs.declared.outcome.Input.{Input}
+use Rattle.sgm_app.specs.declared.outcome.Input.TheVariants.{Left, Right, Calibration}
+use Rattle.sgm_app.specs.declared.outcome.Output.{Output}
+use Rattle.sgm_app.specs.declared.outcome.Output.TheVariants.{Summary}
+use Rattle.sgm_app.specs.declared.outcome.Refusal.TheVariants.{TooLong}
+use Rattle.sgm_app.specs.declared.outcome.Outcome.{Outcome}
+use Rattle.sgm_app.specs.declared.outcome.Outcome.TheVariants.{Done, Usage, Refused, ReadFault, WriteFault, NoMemory}
+
+-- the name is that of one of the files
+abbrev pub is_named : List OutputFile → List ℕ → Bool
+is_named wanted name = list_any (λ file. bytes_eq name file.name) wanted
+
+-- each file holds its text, and every other name is as before
+pub record Hold (wanted : List OutputFile) (old new : Held) : Type 0 where
+  pub texts : (file : OutputFile) → Contains wanted file → new file.name ≡ Some file.text
+  pub others : (name : List ℕ) → is_named wanted name ≡ false → new name ≡ old name
+
+-- the files before that of this output hold their texts; it is as before or holds the beginning of its text,
+-- perhaps all of it; every other name is as before
+pub record StoppedIn (output : Output) (wanted : List OutputFile) (old new : Held) : Type 0 where
+  pub before : List OutputFile
+  pub file : OutputFile
+  pub later : List OutputFile
+  pub split : wanted ≡ before ++ file ∷ later
+  pub is_output : file.output ≡ output
+  pub texts : (earlier : OutputFile) → Contains before earlier → new earlier.name ≡ Some earlier.text
+  pub begun : (new file.name ≡ old file.name) ⊎ ((part : List ℕ) × IsPrefix part file.text × (new file.name ≡ Some part))
+  pub others : (name : List ℕ) → is_named (before ++ file ∷ []) name ≡ false → new name ≡ old name
+
+-- what is held after an outcome
+abbrev pub FilesStand : Outcome → Verdict → Held → Held → Type 0
+FilesStand Done verdict old new = Hold (outputs_of verdict) old new
+FilesStand (Usage fault) verdict old new = new ≡ old
+FilesStand (Refused refusal) verdict old new = new ≡ old
+FilesStand (ReadFault input) verdict old new = new ≡ old
+FilesStand (WriteFault output) verdict old new = StoppedIn output (outputs_of verdict) old new ⊎ ((output ≡ Summary) × Hold (outputs_of verdict) old new)
+FilesStand NoMemory verdict old new = (new ≡ old) ⊎ ((output : Output) × StoppedIn output (outputs_of verdict) old new)
+
+-- what `out` has received after an outcome
+abbrev pub OutStands : Outcome → Verdict → List ℕ → List ℕ → Type 0
+OutStands Done verdict old new = new ≡ old ++ summary_of verdict
+OutStands (Usage fault) verdict old new = new ≡ old
+OutStands (Refused refusal) verdict old new = new ≡ old
+OutStands (ReadFault input) verdict old new = new ≡ old
+OutStands (WriteFault output) verdict old new = (new ≡ old) ⊎ ((output ≡ Summary) × GrowsByPrefix (summary_of verdict) old new)
+OutStands NoMemory verdict old new = new ≡ old
+
+-- `out` has received nothing, but after Done and where writing the summary failed
+abbrev pub OutUntouched : Outcome → List ℕ → List ℕ → Type 0
+OutUntouched Done old new = ⊤
+OutUntouched (Usage fault) old new = new ≡ old
+OutUntouched (Refused refusal) old new = new ≡ old
+OutUntouched (ReadFault input) old new = new ≡ old
+OutUntouched (WriteFault output) old new = output ≢ Summary → new ≡ old
+OutUntouched NoMemory old new = new ≡ old
+
+-- which name is being written after an outcome of a match: none after Done; after a fault of writing, and where
+-- there was no memory, it isn't said; else the one that was being written before
+abbrev pub WritingStands : Outcome → Option (List ℕ) → Option (List ℕ) → Type 0
+WritingStands Done old new = new ≡ None
+WritingStands (Usage fault) old new = new ≡ old
+WritingStands (Refused refusal) old new = new ≡ old
+WritingStands (ReadFault input) old new = new ≡ old
+WritingStands (WriteFault output) old new = ⊤
+WritingStands NoMemory old new = ⊤
+
+-- the order in which the inputs are fetched
+abbrev pub order_of : Input → ℕ
+order_of Left = 0
+order_of Right = 1
+order_of Calibration = 2
+
+-- none of the first n inputs is absent or too long
+pub record NoneBefore (n : ℕ) (verdict : Verdict) : Type 0 where
+  pub present : (input : Input) → order_of input < n → verdict ≢ absent input
+  pub fit : (input : Input) → order_of input < n → verdict ≢ refused (TooLong input)
+
+-- the part of an outcome's cause that the verdict shows
+abbrev pub ShownBy : Verdict → Outcome → Type 0
+ShownBy verdict Done = IsFiles verdict
+ShownBy verdict (Usage fault) = verdict ≡ usage fault
+ShownBy verdict (Refused refusal) = verdict ≡ refused refusal
+ShownBy verdict (ReadFault input) = NoneBefore (order_of input) verdict
+ShownBy verdict (WriteFault output) = IsFiles verdict
+ShownBy verdict NoMemory = ⊤
+
+-- the counts of faults of a shelf and of `out`
+pub record Faults : Type 0 where
+  pub reads : Counts
+  pub writes : Counts
+  pub out : ℕ
+
+abbrev pub faults : Counts → Counts → ℕ → Faults
+faults reads writes out = record { reads = reads; writes = writes; out = out }
+
+-- no count changed
+pub record SameFaults (before now : Faults) : Type 0 where
+  pub reads : now.reads ≡ before.reads
+  pub writes : now.writes ≡ before.writes
+  pub out : now.out ≡ before.out
+
+-- the count of reading the input's name rose, no count fell, and that of `out` is as before
+pub record ReadRose (asked : Operands) (input : Input) (before now : Faults) : Type 0 where
+  pub name : List ℕ
+  pub is_name : IsInputName asked input name
+  pub reads : RoseAt name before.reads now.reads
+  pub writes : NoneFell before.writes now.writes
+  pub out : now.out ≡ before.out
+
+-- the count of writing the output's name rose, no count fell, and that of `out` is as before
+pub record FileRose (asked : Operands) (output : Output) (before now : Faults) : Type 0 where
+  pub name : List ℕ
+  pub is_name : IsOutputName asked output name
+  pub writes : RoseAt name before.writes now.writes
+  pub reads : NoneFell before.reads now.reads
+  pub out : now.out ≡ before.out
+
+-- the count of `out` rose, and every other is as before
+pub record OutRose (before now : Faults) : Type 0 where
+  pub reads : now.reads ≡ before.reads
+  pub writes : now.writes ≡ before.writes
+  pub out_later : before.out ≤ now.out
+  pub out : Rose before.out now.out
+
+-- the part of an outcome's cause that the counts show
+abbrev pub CountsShow : Operands → Outcome → Faults → Faults → Type 0
+CountsShow asked Done before now = SameFaults before now
+CountsShow asked (Usage fault) before now = ⊥
+CountsShow asked (Refused refusal) before now = SameFaults before now
+CountsShow asked (ReadFault input) before now = ReadRose asked input before now
+CountsShow asked (WriteFault output) before now = FileRose asked output before now ⊎ ((output ≡ Summary) × OutRose before now)
+CountsShow asked NoMemory before now = SameFaults before now
+
+-- the part of an outcome's cause that the counts show, where no file is read or written
+abbrev pub OutCountsShow : Outcome → Faults → Faults → Type 0
+OutCountsShow Done before now = SameFaults before now
+OutCountsShow (Usage fault) before now = ⊥
+OutCountsShow (Refused refusal) before now = SameFaults before now
+OutCountsShow (ReadFault input) before now = ⊥
+OutCountsShow (WriteFault output) before now = (output ≡ Summary) × OutRose before now
+OutCountsShow NoMemory before now = SameFaults before now
+
+-- over the words: a fault of the words is the outcome, and no count changed
+abbrev pub RunCounts : Result Options UsageFault → Operands → Outcome → Faults → Faults → Type 0
+RunCounts (Err fault) asked outcome before now = (outcome ≡ Usage fault) × SameFaults before now
+RunCounts (Ok (options.Match strips workers)) asked outcome before now = CountsShow asked outcome before now
+RunCounts (Ok (options.Demo number strips workers)) asked outcome before now = OutCountsShow outcome before now
+
+-- which name is being written after an outcome: after Done of a match none; where a file was not written to its
+-- end, it isn't said; else the one that was being written before
+abbrev pub RunWriting : Result Options UsageFault → Outcome → Option (List ℕ) → Option (List ℕ) → Type 0
+RunWriting (Err fault) outcome old new = new ≡ old
+RunWriting (Ok (options.Match strips workers)) outcome old new = WritingStands outcome old new
+RunWriting (Ok (options.Demo number strips workers)) outcome old new = new ≡ old
+
+-- a stage over the shelf alone: at Ok no count changed; a stop is shown by the counts, whatever `out` has counted
+abbrev pub StageCounts : {T S : Type 0} → (S → Faults → Faults → Type 0) → Result T S → Counts → Counts → Counts → Counts → Type 0
+StageCounts shows (Ok value) reads writes reads' writes' = (reads' ≡ reads) × (writes' ≡ writes)
+StageCounts shows (Err stop) reads writes reads' writes' = (out : ℕ) → shows stop (faults reads writes out) (faults reads' writes' out)

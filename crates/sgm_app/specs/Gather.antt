@@ -1,0 +1,47 @@
+-- Fetching the inputs.
+use Rattle.std.specs.Prelude.{◌≡◌, ⊤, ℕ, List, Bool, true, false, Option, None, Some, Result, Ok, Err, Vec}
+use Rattle.std.specs.declared.alloc.Global.{Global}
+use Rattle.sgm_io.specs.Held.{Held}
+use Rattle.sgm_app.specs.Words.{Operands, IsInputName, is_plain}
+use Rattle.sgm_app.specs.Verdict.{Verdict, fetched, calib_fetched}
+use Rattle.sgm_app.specs.Ends.{ShownBy, NoneBefore, order_of, CountsShow, Faults}
+use Rattle.sgm_app.specs.Stops.{fetch_outcome}
+use Rattle.sgm_app.specs.declared.gather.Inputs.{Inputs}
+use Rattle.sgm_app.specs.declared.outcome.Input.{Input}
+use Rattle.sgm_app.specs.declared.outcome.Input.TheVariants as input
+use Rattle.sgm_app.specs.declared.stops.FetchStop.{FetchStop}
+
+-- a stop at this step of a verdict is shown by the verdict, however it would go on
+abbrev pub StopsAt : (Verdict → Verdict) → Input → FetchStop → Type 0
+StopsAt step input stop = (next : Verdict) → NoneBefore (order_of input) next → ShownBy (step next) (fetch_outcome stop)
+
+-- the bytes that are held, and the verdict goes on; or a stop
+abbrev pub FetchesInput : Input → ℕ → Option (List ℕ) → Result (Vec ℕ Global) FetchStop → Type 0
+FetchesInput input most held (Ok bytes) = (held ≡ Some bytes.items) × ((next : Verdict) → fetched input most held next ≡ next)
+FetchesInput input most held (Err stop) = StopsAt (fetched input most held) input stop
+
+-- nothing for the plain calibration, else the bytes that are held
+abbrev pub HasCalib : Bool → Option (List ℕ) → Option (Vec ℕ Global) → Type 0
+HasCalib true held None = ⊤
+HasCalib true held (Some bytes) = ⊥
+HasCalib false held None = ⊥
+HasCalib false held (Some bytes) = held ≡ Some bytes.items
+
+-- the calibration's bytes, where it isn't the plain one, and the verdict goes on; or a stop
+abbrev pub FetchesCalib : Bool → Option (List ℕ) → Result (Option (Vec ℕ Global)) FetchStop → Type 0
+FetchesCalib plain held (Ok bytes) = HasCalib plain held bytes × ((next : Verdict) → calib_fetched plain held next ≡ next)
+FetchesCalib plain held (Err stop) = StopsAt (calib_fetched plain held) input.Calibration stop
+
+-- what is at hand is what is held
+pub record AtHand (asked : Operands) (held : Held) (inputs : Inputs) : Type 0 where
+  pub left : held asked.left ≡ Some inputs.left.items
+  pub right : held asked.right ≡ Some inputs.right.items
+  pub calib : HasCalib (is_plain asked) (held asked.calib) inputs.calib
+
+-- where the name is that of the input, the counts show the stop
+abbrev pub FetchCounts : Input → List ℕ → FetchStop → Faults → Faults → Type 0
+FetchCounts input name stop before now = (asked : Operands) → IsInputName asked input name → CountsShow asked (fetch_outcome stop) before now
+
+-- the counts show the stop
+abbrev pub StopCounts : Operands → FetchStop → Faults → Faults → Type 0
+StopCounts asked stop before now = CountsShow asked (fetch_outcome stop) before now

@@ -1,0 +1,14 @@
+pub mod Complete
+pub mod Deliver
+pub mod Ends
+pub mod Gather
+pub mod Judge
+pub mod Lines
+pub mod Pair
+pub mod Readings
+pub mod Settings
+pub mod Status
+pub mod Stops
+pub mod Texts
+pub mod Verdict
+pub mod Words

@@ -1,0 +1,252 @@
+//! Judging the inputs, and making the texts.
+ghost use Rattle.std.specs.Prelude.{◌≡◌, ◌<◌, ◌≤◌, [], length, All, IfOk, MatchResult, Result, string_bytes};
+ghost use Rattle.sgm_base.specs.Picture.{Picture};
+ghost use Rattle.sgm_pgm.specs.Read.{Reads};
+ghost use Rattle.sgm_pgm.specs.declared.fault.PgmFault.{PgmFault};
+ghost use Rattle.sgm_calib.specs.Calibration.{Calibration, plain};
+ghost use Rattle.sgm_calib.specs.declared.calib.CalibFault.{CalibFault};
+ghost use Rattle.sgm_job.specs.Bounds.{AtMost};
+ghost use Rattle.sgm_job.specs.Survey.{surveyed};
+ghost use Rattle.sgm_app.specs.Ends.{ShownBy};
+ghost use Rattle.sgm_app.specs.Stops.{judge_outcome};
+ghost use Rattle.sgm_app.specs.Judge.{side_bytes, JudgesImage, JudgesCalib, JudgesSurvey, CalibReads, IsNamed};
+ghost use Rattle.sgm_app.specs.Texts.{summary_text, demo_text};
+ghost use Rattle.sgm_app.specs.Verdict.{OutputFile, judged, files, outputs, with_calib, with_survey, refusal_of};
+
+use crate::gather::Inputs;
+use crate::stops::JudgeStop;
+use crate::texts::{demo_text, disparity, output_name, summary};
+use crate::words::OperandWords;
+use crate::{Output, Refusal};
+use sgm_base::{Image, Side};
+use sgm_calib::{Calib, CalibError};
+use sgm_job::{SurveyError, SurveyFault, Surveyed, survey};
+use sgm_pgm::{PgmError, read};
+use std::alloc::{AllocError, Global};
+use std::marker::Model;
+
+/// A file that is to be written.
+#[derive(Drop)]
+pub struct OutputText {
+    output: Output,
+    name: String,
+    text: Vec<u8>,
+}
+
+impl Model for OutputText {
+    ghost use Rattle.std.specs.Prelude.{string_bytes};
+    ghost use Rattle.sgm_app.specs.Verdict.{OutputFile};
+
+    ghost Value = { OutputFile };
+
+    ghost view = { λ f. record { output = f.output; name = string_bytes f.name; text = f.text.items } };
+}
+
+impl OutputText {
+    pub fn output(&self) -> Output
+        ensures { result ≡ self.now.output }
+    {
+        self.output
+    }
+
+    pub fn name(&self) -> &str
+        ensures { result.now ≡ self.now.name }
+    {
+        self.name.as_str()
+    }
+
+    pub fn text(&self) -> &[u8]
+        ensures { result.now ≡ self.now.text }
+    {
+        &self.text
+    }
+}
+
+/// All that is to be written.
+#[derive(Drop)]
+pub struct Work {
+    pub files: Vec<OutputText>,
+    pub summary: String,
+}
+
+fn judge_image(alloc: Global, side: Side, bytes: &[u8]) -> Result<Image, JudgeStop>
+    ensures { (reading : Result Picture PgmFault) → Reads bytes.now reading → JudgesImage side reading result }
+{
+    match read(alloc, bytes) {
+        Ok(image) => Ok(image),
+        Err(PgmError::Fault(fault)) => Err(JudgeStop::Refused(Refusal::Pgm(side, fault))),
+        Err(PgmError::NoMemory) => Err(JudgeStop::NoMemory),
+    }
+}
+
+// The image of a side.
+fn judge_side(alloc: Global, side: Side, inputs: &Inputs) -> Result<Image, JudgeStop>
+    ensures { (reading : Result Picture PgmFault) → Reads (side_bytes inputs.now side) reading → JudgesImage side reading result }
+{
+    match side {
+        Side::Left => judge_image(alloc, Side::Left, &inputs.left),
+        Side::Right => judge_image(alloc, Side::Right, &inputs.right),
+    }
+}
+
+fn judge_calib(alloc: Global, bytes: &Option<Vec<u8>>) -> Result<Calib, JudgeStop>
+    ensures { (reading : Result Calibration CalibFault) → CalibReads bytes.now reading → JudgesCalib reading result }
+{
+    match bytes {
+        None => Ok(Calib::plain()),
+        Some(bytes) => match sgm_calib::read(alloc, bytes) {
+            Ok(calib) => Ok(calib),
+            Err(CalibError::Fault(fault)) => Err(JudgeStop::Refused(Refusal::Calib(fault))),
+            Err(CalibError::NoMemory) => Err(JudgeStop::NoMemory),
+        },
+    }
+}
+
+fn refusal(fault: SurveyFault) -> Refusal
+    ensures { result ≡ refusal_of fault }
+{
+    match fault {
+        SurveyFault::SizesDiffer { left, right } => Refusal::SizesDiffer { left, right },
+        SurveyFault::VolumeTooLarge { cells } => Refusal::VolumeTooLarge { cells },
+    }
+}
+
+fn judge_survey(
+    alloc: Global,
+    left: &Image,
+    right: &Image,
+    calib: &Calib,
+    strips: u32,
+    workers: u32,
+) -> Result<Surveyed, JudgeStop>
+    requires strips { (1 ≤ strips) × (strips ≤ 64) }
+    requires workers { (1 ≤ workers) × (workers ≤ 16) }
+    ensures verdict { JudgesSurvey (surveyed left.now right.now calib.now) result }
+    ensures bound { IfOk result (λ survey. AtMost 4080 survey.disp.entries) }
+{
+    match survey(alloc, left, right, calib, strips, workers) {
+        Ok(surveyed) => Ok(surveyed),
+        Err(SurveyError::Fault(fault)) => Err(JudgeStop::Refused(refusal(fault))),
+        Err(SurveyError::NoMemory) => Err(JudgeStop::NoMemory),
+    }
+}
+
+fn make_texts(
+    alloc: Global,
+    operands: &OperandWords<'_>,
+    survey: &Surveyed,
+) -> Result<Work, AllocError>
+    requires { AtMost 4080 survey.now.disp.entries }
+    ensures files { IfOk result (λ work. work.files.items ≡ outputs operands.now survey.now) }
+    ensures summary { IfOk result (λ work. string_bytes work.summary ≡ summary_text survey.now.disp) }
+    ensures named { IfOk result (λ work. All (IsNamed operands.now) work.files.items) }
+    ensures some { IfOk result (λ work. 0 < length work.files.items) }
+{
+    let text = disparity(alloc, &survey.disp)?;
+    let name = output_name(alloc, operands.out(), ".pgm")?;
+    let summary = summary(alloc, &survey.disp)?;
+    let files = vec![in alloc;
+        OutputText {
+            output: Output::Disparity,
+            name,
+            text
+        },
+    ]?;
+    Ok(Work { files, summary })
+}
+
+// The survey, and the texts that are made from it.
+fn survey_texts(
+    alloc: Global,
+    operands: &OperandWords<'_>,
+    left: &Image,
+    right: &Image,
+    calib: &Calib,
+    strips: u32,
+    workers: u32,
+) -> Result<Work, JudgeStop>
+    requires strips { (1 ≤ strips) × (strips ≤ 64) }
+    requires workers { (1 ≤ workers) × (workers ≤ 16) }
+    ensures verdict { MatchResult result
+        (λ work. with_survey (surveyed left.now right.now calib.now) (λ s. files (outputs operands.now s) (summary_text s.disp)) ≡ files work.files.items (string_bytes work.summary))
+        (λ stop. ShownBy (with_survey (surveyed left.now right.now calib.now) (λ s. files (outputs operands.now s) (summary_text s.disp))) (judge_outcome stop)) }
+    ensures named { IfOk result (λ work. All (IsNamed operands.now) work.files.items) }
+    ensures some { IfOk result (λ work. 0 < length work.files.items) }
+{
+    match judge_survey(alloc, left, right, calib, strips, workers) {
+        Ok(surveyed) => match make_texts(alloc, operands, &surveyed) {
+            Ok(work) => Ok(work),
+            Err(_) => Err(JudgeStop::NoMemory),
+        },
+        Err(stop) => Err(stop),
+    }
+}
+
+/// Judges the inputs, and makes the texts of the outputs.
+pub fn prepare(
+    alloc: Global,
+    operands: &OperandWords<'_>,
+    inputs: &Inputs,
+    strips: u32,
+    workers: u32,
+) -> Result<Work, JudgeStop>
+    requires strips { (1 ≤ strips) × (strips ≤ 64) }
+    requires workers { (1 ≤ workers) × (workers ≤ 16) }
+    ensures verdict { (left right : Result Picture PgmFault) (calib : Result Calibration CalibFault) → Reads inputs.now.left.items left → Reads inputs.now.right.items right → CalibReads inputs.now.calib calib → MatchResult result
+        (λ work. judged operands.now left right calib ≡ files work.files.items (string_bytes work.summary))
+        (λ stop. ShownBy (judged operands.now left right calib) (judge_outcome stop)) }
+    ensures named { IfOk result (λ work. All (IsNamed operands.now) work.files.items) }
+    ensures some { IfOk result (λ work. 0 < length work.files.items) }
+{
+    match judge_side(alloc, Side::Left, inputs) {
+        Ok(left) => match judge_side(alloc, Side::Right, inputs) {
+            Ok(right) => match judge_calib(alloc, &inputs.calib) {
+                Ok(calib) => {
+                    survey_texts(alloc, operands, &left, &right, &calib, strips, workers)
+                }
+                Err(stop) => Err(stop),
+            },
+            Err(stop) => Err(stop),
+        },
+        Err(stop) => Err(stop),
+    }
+}
+
+// The survey with the plain settings.
+fn survey_plain(
+    alloc: Global,
+    left: &Image,
+    right: &Image,
+    strips: u32,
+    workers: u32,
+) -> Result<Surveyed, JudgeStop>
+    requires strips { (1 ≤ strips) × (strips ≤ 64) }
+    requires workers { (1 ≤ workers) × (workers ≤ 16) }
+    ensures verdict { JudgesSurvey (surveyed left.now right.now plain) result }
+    ensures bound { IfOk result (λ survey. AtMost 4080 survey.disp.entries) }
+{
+    judge_survey(alloc, left, right, &Calib::plain(), strips, workers)
+}
+
+/// The survey of a generated pair with the plain settings, and its summary.
+pub fn survey_demo(
+    alloc: Global,
+    left: &Image,
+    right: &Image,
+    strips: u32,
+    workers: u32,
+) -> Result<String, JudgeStop>
+    requires strips { (1 ≤ strips) × (strips ≤ 64) }
+    requires workers { (1 ≤ workers) × (workers ≤ 16) }
+    ensures { MatchResult result
+        (λ summary. with_survey (surveyed left.now right.now plain) (λ s. files [] (demo_text s.disp)) ≡ files [] (string_bytes summary))
+        (λ stop. ShownBy (with_survey (surveyed left.now right.now plain) (λ s. files [] (demo_text s.disp))) (judge_outcome stop)) }
+{
+    match survey_plain(alloc, left, right, strips, workers) {
+        Ok(surveyed) => match demo_text(alloc, &surveyed.disp) {
+            Ok(summary) => Ok(summary),
+            Err(_) => Err(JudgeStop::NoMemory),
+        },
+        Err(stop) => Err(stop),
+    }
+}

@@ -1,0 +1,4 @@
+pub mod Answers
+pub mod Firsts
+pub mod Names
+pub mod Top

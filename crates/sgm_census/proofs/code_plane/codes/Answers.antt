@@ -1,0 +1,20 @@
+use Rattle.std.proofs.Common.{ℕ, List, Bool, ap, ◌∙◌, arith}
+use Rattle.std.proofs.lemmas.List.{with_items_is}
+use Rattle.std.specs.Vec.{with_items}
+use Rattle.sgm_census.specs.Windows.{greatest_of}
+use Rattle.sgm_census.proofs.CodeRows.{zeros_small}
+use Rattle.sgm_census.specs.Packed.{codes_in}
+use Rattle.sgm_census.proofs.CodeLists.{codes_in-is}
+use Rattle.sgm_census.proofs.code_plane.codes.Goals as goal
+
+pub code_rows-requires-clause-within : goal.code_rows-requires-clause-within
+code_rows-requires-clause-within c = λ k.
+    zeros_small (greatest_of c.args.window) c.pixels.result k c.as_mut_slice.result.now (c.as_mut_slice.ensures.value ∙ c.in_ok-words.ensures.items_if_clones_equal (λ y e. e))
+
+pub returns : goal.returns
+returns c =
+    let width = c.size-size.result.width in
+    let height = c.size-size.result.height in
+    ap (λ (us : List ℕ). codes_in width height c.args.window us (with_items c.in_ok-present.present c.code_rows.new.present).items) (with_items_is c.in_ok-words.words c.code_rows.new.words (omega arith))
+    ∙ ap (λ (us : List Bool). codes_in width height c.args.window c.code_rows.new.words us) (with_items_is c.in_ok-present.present c.code_rows.new.present (omega arith))
+    ∙ codes_in-is c.args.plane.now c.args.window width height c.code_rows.new.words c.code_rows.new.present c.size-size.ensures.width c.size-size.ensures.height (omega (arith, c.size-size.ensures.kept.width_in_range)) c.code_rows.ensures.each

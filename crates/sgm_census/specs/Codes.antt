@@ -1,0 +1,71 @@
+-- Census codes: which neighbours of a pixel are less than the pixel itself.
+use Rattle.std.specs.Prelude.{◌≡◌, ℕ, ◌+◌, ◌-◌, ◌*◌, ◌/◌, ◌%◌, Bool, ◌&&◌, nat_lt, nat_le, if◌then◌else◌, List, [], ◌∷◌, length, map, slice_index_or, remove, Option, Some, None, option_map, option_and_then}
+use Rattle.std.specs.List.{flat_map, range_with_len}
+use Rattle.sgm_base.specs.Sides.{IsSide}
+use Rattle.sgm_base.specs.Values.{Values}
+use Rattle.sgm_census.specs.Windows.{WindowSides, IsWindow, greatest_of}
+
+-- the value of the pixel (x, y), none where it is void or outside
+abbrev pub value_at : Values → ℕ → ℕ → Option ℕ
+value_at plane x y =
+    if nat_lt x plane.width && nat_lt y plane.height then slice_index_or plane.entries (y * plane.width + x) None else None
+
+-- the value in the column i and the row j of the window round the pixel (x, y)
+abbrev pub value_near : Values → WindowSides → ℕ → ℕ → ℕ → ℕ → Option ℕ
+value_near plane window x y i j =
+    let across = window.width / 2 in
+    let down = window.height / 2 in
+    if nat_le across (x + i) && nat_le down (y + j) then value_at plane (x + i - across) (y + j - down) else None
+
+-- all values of the window, row by row
+unfoldable pub window_values : Values → WindowSides → ℕ → ℕ → List (Option ℕ)
+window_values plane window x y =
+    flat_map (λ j. map (λ i. value_near plane window x y i j) (range_with_len 0 window.width)) (range_with_len 0 window.height)
+
+-- those beside the centre, row by row
+abbrev pub neighbours : Values → WindowSides → ℕ → ℕ → List (Option ℕ)
+neighbours plane window x y = remove (window_values plane window x y) (window.width * window.height / 2)
+
+-- all the values, where none is missing
+abbrev pub all_there : {X : Type 0} → List (Option X) → Option (List X)
+all_there [] = Some []
+all_there (None ∷ xs) = None
+all_there (Some x ∷ xs) = option_map (λ ys. x ∷ ys) (all_there xs)
+
+-- for each value whether it is less than centre, none where a value is missing
+unfoldable pub less_than : ℕ → List (Option ℕ) → Option (List Bool)
+less_than centre values = option_map (map (λ v. nat_lt v centre)) (all_there values)
+
+-- The code of the pixel (x, y): row by row over the window, the centre left out, whether the neighbour is less than
+-- the centre. None where a pixel of the window is void or outside.
+unfoldable pub code_at : Values → WindowSides → ℕ → ℕ → Option (List Bool)
+code_at plane window x y = option_and_then (λ centre. less_than centre (neighbours plane window x y)) (value_at plane x y)
+
+-- what f gives for each pixel (x, y) of an image, row by row
+unfoldable pub row_by_row : {X : Type 0} → ℕ → ℕ → (ℕ → ℕ → X) → List X
+row_by_row width height f = map (λ k. f (k % width) (k / width)) (range_with_len 0 (width * height))
+
+-- what contracts see of a plane of codes: its sides, its window, and for each pixel, row by row, its code or none
+pub record Codes : Type 0 where
+  pub width : ℕ
+  pub height : ℕ
+  pub window : WindowSides
+  pub codes : List (Option (List Bool))
+
+-- the codes of a plane
+abbrev pub codes_of : Values → WindowSides → Codes
+codes_of plane window =
+    record { width = plane.width; height = plane.height; window = window; codes = row_by_row plane.width plane.height (code_at plane window) }
+
+-- the code of the pixel (x, y), none where it has none or lies outside
+unfoldable pub code_in : Codes → ℕ → ℕ → Option (List Bool)
+code_in plane x y =
+    if nat_lt x plane.width && nat_lt y plane.height then slice_index_or plane.codes (y * plane.width + x) None else None
+
+-- what every plane of codes keeps
+pub record IsCodes (plane : Codes) : Type 0 where
+  pub width_in_range : IsSide plane.width
+  pub height_in_range : IsSide plane.height
+  pub window_in_range : IsWindow plane.window.width plane.window.height
+  pub full : length plane.codes ≡ plane.width * plane.height
+  pub lengths : (x y : ℕ) (code : List Bool) → code_in plane x y ≡ Some code → length code ≡ greatest_of plane.window

@@ -1,0 +1,5 @@
+pub mod Codes
+pub mod Columns
+pub mod Costs
+pub mod Packed
+pub mod Windows

@@ -1,0 +1,57 @@
+-- How a plane of codes lies in memory: a word for each pixel, whose bits are its code, and whether it has one. Each
+-- row stands from right to left, so that the right codes of one left pixel, index by index, stand in order.
+use Rattle.std.specs.Prelude.{◌≡◌, ℕ, ◌+◌, ◌-◌, ◌*◌, ◌/◌, ◌%◌, ◌^◌, ◌<◌, Bool, ◌==◌, false, if◌then◌else◌, List, [], ◌∷◌, ◌++◌, length, slice_index, slice_index_or, Option, Some, None, zero, suc}
+use Rattle.std.specs.Int.{from_bool}
+use Rattle.sgm_base.specs.Sides.{IsSide}
+use Rattle.sgm_census.specs.Windows.{WindowSides, IsWindow, greatest_of}
+use Rattle.sgm_census.specs.Codes.{Codes, row_by_row, code_in}
+
+-- the lowest n bits of a word, the highest of them first
+unfoldable pub bits_of : ℕ → ℕ → List Bool
+bits_of zero word = []
+bits_of (suc n) word = bits_of n (word / 2) ++ (word % 2 == 1) ∷ []
+
+-- where the pixel (x, y) stands
+abbrev pub place_of : ℕ → ℕ → ℕ → ℕ
+place_of width x y = y * width + (width - 1 - x)
+
+-- the code of n bits that stands at a place
+abbrev pub unpacked : ℕ → List ℕ → List Bool → ℕ → Option (List Bool)
+unpacked n words present place =
+    if slice_index_or present place false then Some (bits_of n (slice_index words place)) else None
+
+-- the plane of codes in these words
+abbrev pub codes_in : ℕ → ℕ → WindowSides → List ℕ → List Bool → Codes
+codes_in width height window words present =
+    record {
+      width = width;
+      height = height;
+      window = window;
+      codes = row_by_row width height (λ x y. unpacked (greatest_of window) words present (place_of width x y));
+    }
+
+-- what every plane of codes keeps: its sides and window are in range, and each pixel has a word, which has no bits but
+-- those of its code
+pub record IsPacked (width height : ℕ) (window : WindowSides) (words : List ℕ) (present : List Bool) : Type 0 where
+  pub width_in_range : IsSide width
+  pub height_in_range : IsSide height
+  pub window_in_range : IsWindow window.width window.height
+  pub words_full : length words ≡ width * height
+  pub present_full : length present ≡ width * height
+  pub within : (k : ℕ) → slice_index words k < 2 ^ greatest_of window
+
+-- the codes of the row y, from right to left
+pub record HoldsCodes (plane : Codes) (y : ℕ) (words : List ℕ) (present : List Bool) : Type 0 where
+  pub words_full : length words ≡ plane.width
+  pub present_full : length present ≡ plane.width
+  pub within : (k : ℕ) → slice_index words k < 2 ^ greatest_of plane.window
+  pub each : (x : ℕ) → x < plane.width → code_in plane x y ≡ unpacked (greatest_of plane.window) words present (plane.width - 1 - x)
+
+-- a word with a bit more for each truth value
+abbrev pub pushed : ℕ → List Bool → ℕ
+pushed word [] = word
+pushed word (b ∷ bs) = pushed (2 * word + from_bool b) bs
+
+-- words of n bits
+pub record HoldsSmall (n : ℕ) (words : List ℕ) : Type 0 where
+  pub within : (k : ℕ) → slice_index words k < 2 ^ n

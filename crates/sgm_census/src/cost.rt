@@ -1,0 +1,129 @@
+ghost use Rattle.std.specs.Prelude.{◌≡◌, ℕ, ◌+◌, ◌-◌, ◌*◌, ◌^◌, ◌<◌, ◌≤◌, ◌⊎◌, length, slice_index, slice_index_or, All, EachIndex, Some, option_and_then, if◌then◌else◌, false};
+ghost use Rattle.sgm_census.specs.Columns.{left_column};
+ghost use Rattle.sgm_census.specs.Costs.{cost_between, census_cost};
+ghost use Rattle.sgm_census.specs.Packed.{bits_of, unpacked, HoldsCodes, HoldsSmall};
+
+use crate::Overlap;
+use crate::code_plane::{CodePlane, CodeRow};
+use sgm_base::Span;
+use sgm_lanes::hamming;
+
+/// Writes the value into each cell.
+fn set_all(into: &mut [u8], value: u8)
+    ensures { EachIndex into.new (λ k. slice_index into.new k ≡ value) }
+{
+    for cell in into.iter_mut() {
+        *cell = value;
+    }
+}
+
+/// Writes the word into each cell.
+fn repeat(word: u64, into: &mut [u64])
+    ensures { EachIndex into.new (λ k. slice_index into.new k ≡ word) }
+{
+    for cell in into.iter_mut() {
+        *cell = word;
+    }
+}
+
+/// Replaces by `greatest` the costs where there is no code.
+fn mask(present: &[bool], greatest: u8, into: &mut [u8])
+    requires { length present.now ≡ length into.old }
+    ensures { EachIndex into.new (λ k. slice_index into.new k ≡ (if slice_index_or present.now k false then slice_index into.old k else greatest)) }
+{
+    for i in 0..into.len() {
+        let cost = into[i];
+        into[i] = if present[i] { cost } else { greatest };
+    }
+}
+
+/// Writes the costs of a code against each of some others. What `repeated` holds does not matter.
+fn cost_each(
+    code: u64,
+    words: &[u64],
+    present: &[bool],
+    greatest: u8,
+    repeated: &mut [u64],
+    into: &mut [u8],
+)
+    requires words_length { length words.now ≡ length into.old }
+    requires present_length { length present.now ≡ length into.old }
+    requires repeated_length { length repeated.old ≡ length into.old }
+    requires code { code < 2 ^ greatest }
+    requires words { HoldsSmall greatest words.now }
+    ensures { EachIndex into.new (λ k. slice_index into.new k
+        ≡ cost_between greatest (Some (bits_of greatest code)) (unpacked greatest words.now present.now k)) }
+{
+    repeat(code, repeated);
+    hamming(repeated, words, into);
+    mask(present, greatest, into);
+}
+
+/// Writes the costs of the pixel whose code stands at `place` in its row, index by index.
+fn cost_pixel(
+    left: CodeRow,
+    right: CodeRow,
+    greatest: u8,
+    span: Span,
+    place: usize,
+    repeated: &mut [u64],
+    into: &mut [u8],
+)
+    requires place { place < length left.words.now }
+    requires left_present { length left.present.now ≡ length left.words.now }
+    requires right_words { length right.words.now ≡ length left.words.now }
+    requires right_present { length right.present.now ≡ length left.words.now }
+    requires left_small { HoldsSmall greatest left.words.now }
+    requires right_small { HoldsSmall greatest right.words.now }
+    requires room { span.count ≤ length repeated.old }
+    requires whole { length into.old ≡ span.count }
+    ensures { (d : ℕ) → d < span.count → slice_index into.new d
+        ≡ cost_between greatest (unpacked greatest left.entry.words.now left.entry.present.now place)
+        (option_and_then (unpacked greatest right.entry.words.now right.entry.present.now) (left_column (length left.entry.words.now) span.first place d)) }
+{
+    if !left.present[place] {
+        set_all(into, greatest);
+        return;
+    }
+    let there = Overlap::of(left.words.len(), span, place);
+    let end = there.start + there.len;
+    let (before, rest) = into.split_at_mut(there.skipped);
+    let (inside, after) = rest.split_at_mut(there.len);
+    set_all(before, greatest);
+    cost_each(
+        left.words[place],
+        &right.words[there.start..end],
+        &right.present[there.start..end],
+        greatest,
+        &mut repeated[..there.len],
+        inside,
+    );
+    set_all(after, greatest);
+}
+
+/// Writes the costs of the row `y`: that of the column x and the index d, which stands for the disparity
+/// `first + d`, at `x * count + d`. It is the number of places in which the left code at (x, y) and the
+/// right code at (x - first - d, y) differ, or the window's `greatest` where either is none or outside.
+/// Takes no memory.
+pub fn cost_row(left: &CodePlane, right: &CodePlane, span: Span, y: u32, into: &mut [u8])
+    requires same_width { left.now.width ≡ right.now.width }
+    requires same_height { left.now.height ≡ right.now.height }
+    requires same_window { left.now.window ≡ right.now.window }
+    requires row { y < left.now.height }
+    requires whole { length into.old ≡ left.now.width * span.count }
+    ensures each { (x d : ℕ) → x < left.now.width → d < span.count
+        → slice_index into.new (x * span.count + d) ≡ census_cost left.now right.now span.first x y d }
+    ensures most { All (λ c. c ≤ 62) into.new }
+{
+    let count = span.count as usize;
+    let greatest = left.window().greatest();
+    let (left, right) = (left.row(y), right.row(y));
+    let width = left.words.len();
+    let mut repeated = [0; 256];
+    for x in 0..width {
+        let (_, rest) = into.split_at_mut(x * count);
+        let (cells, _) = rest.split_at_mut(count);
+        let place = width - 1 - x;
+        cost_pixel(left, right, greatest, span, place, &mut repeated, cells);
+    }
+}

@@ -1,0 +1,18 @@
+//! The census transform: for each pixel of a plane a code of truth values, and the cost of matching two
+//! pixels, which is the number of places in which their codes differ.
+#![tactic(auto)]
+
+mod code_plane;
+mod cost;
+pub mod laws;
+mod overlap;
+mod pack;
+mod window;
+
+pub use code_plane::{CodePlane, codes};
+pub use cost::cost_row;
+pub use overlap::Overlap;
+pub use window::Window;
+
+#[cfg(test)]
+mod tests;

@@ -1,0 +1,10 @@
+pub mod Members
+pub mod Leasts
+pub mod Sequences
+pub mod LeastEnergies
+pub mod RayLemmas
+pub mod Places
+pub mod Steps
+pub mod PathLaws
+pub mod SumLemmas
+mod Examples

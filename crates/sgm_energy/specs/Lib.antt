@@ -1,0 +1,5 @@
+pub mod Dirs
+pub mod Pens
+pub mod Rays
+pub mod Energies
+pub mod Rows

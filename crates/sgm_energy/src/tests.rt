@@ -1,0 +1,48 @@
+use super::{Dir, Pen};
+
+#[test]
+fn penalties_in_range(rt: HostRuntime) {
+    for (p1, p2, within) in [
+        (1, 1, true),
+        (10, 120, true),
+        (4000, 4000, true),
+        (0, 1, false),
+        (3, 2, false),
+        (1, 4001, false),
+    ] {
+        let pen = Pen::make(p1, p2);
+        assert_eq!(rt; pen.is_some(), within, "at {p1}, {p2}");
+        if let Some(pen) = pen {
+            assert_eq!(rt; (pen.p1(), pen.p2()), (p1, p2));
+        }
+    }
+}
+
+#[test]
+fn steps_and_fronts_of_directions(rt: HostRuntime) {
+    for (dir, offset, front) in [
+        (Dir::Right, (1, 0), None),
+        (Dir::Left, (-1, 0), None),
+        (Dir::Down, (0, 1), Some(0)),
+        (Dir::DownRight, (1, 1), Some(1)),
+        (Dir::DownLeft, (-1, 1), Some(2)),
+        (Dir::Up, (0, -1), Some(3)),
+        (Dir::UpRight, (1, -1), Some(4)),
+        (Dir::UpLeft, (-1, -1), Some(5)),
+    ] {
+        assert_eq!(rt; dir.offset(), offset);
+        assert_eq!(rt; dir.is_level(), front.is_none());
+        assert_eq!(rt; dir.front(), front);
+        if let Some(front) = front {
+            assert_eq!(rt; Dir::from_front(front), Some(dir));
+        }
+    }
+    assert_eq!(rt; Dir::from_front(6), None);
+}
+
+#[test]
+fn strips_from_the_top_and_from_the_bottom(rt: HostRuntime) {
+    assert_eq!(rt; Dir::DownLeft.position(1, 5), 1);
+    assert_eq!(rt; Dir::UpRight.position(1, 5), 3);
+    assert_eq!(rt; Dir::Up.position(0, 1), 0);
+}

@@ -1,0 +1,10 @@
+use Rattle.std.proofs.Common.{◌↔◌, Bool, IsTrue, IsSome, sym, subst}
+use Rattle.sgm_io.specs.SureShelf.{sure_writing}
+use Rattle.sgm_io.proofs.FiledLaws.{open_is}
+use Rattle.sgm_io.proofs.sure_shelf.SureShelfShelf.is_writing.Goals as goal
+
+pub returns : goal.returns
+returns c =
+    let files = c.args.self.now.files in
+    let P : Bool → Type 0 = λ b. IsTrue b ↔ IsSome (sure_writing c.args.self.now) in
+    subst P (sym c.is_open.ensures) (open_is files.is_open files.files.items files.has_last)

@@ -1,0 +1,14 @@
+pub mod Held
+pub mod Counts
+pub mod Piece
+pub mod Fetch
+pub mod Keep
+pub mod Sink
+pub mod Names
+pub mod Trips
+pub mod Calls
+pub mod Filed
+pub mod MemoryShelf
+pub mod Writing
+pub mod SureShelf
+pub mod MemorySink

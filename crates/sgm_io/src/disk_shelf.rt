@@ -1,0 +1,158 @@
+ghost use Rattle.std.specs.Prelude.{◌≡◌, ◌≤◌, ◌<◌, false, None, IsSome, IfSome, OnOk, length};
+ghost use Rattle.std.specs.Prelude.{option_map, string_bytes};
+
+use crate::device::{read_at_most, write_some};
+use crate::{FetchError, KeepError, Shelf};
+use std::alloc::Global;
+use std::fs;
+use std::io::Write;
+use std::rt::Files;
+
+// A file that is being written, and its name.
+#[derive(Drop)]
+struct Open<F> {
+    file: F,
+    name: String,
+}
+
+/// The real files. It tells no bytes. Its one count, of all calls that failed, is both counts of
+/// every name.
+#[derive(Drop)]
+pub struct DiskShelf<'a, R: Files> {
+    rt: &'a R,
+    alloc: Global,
+    current: Option<Open<R::File>>,
+    faults: u64,
+}
+
+impl<'a, R: Files> DiskShelf<'a, R> {
+    ghost use Rattle.sgm_io.specs.Counts.{no_faults};
+
+    /// A shelf of the files that the runtime reaches. None is being written, and nothing has
+    /// failed.
+    pub fn make(rt: &'a R, alloc: Global) -> DiskShelf<'a, R>
+        ensures writing { ⟦<DiskShelf<'a, R> as Shelf>⟧.writing result ≡ None }
+        ensures reads { ⟦<DiskShelf<'a, R> as Shelf>⟧.read_faults result ≡ no_faults }
+        ensures writes { ⟦<DiskShelf<'a, R> as Shelf>⟧.write_faults result ≡ no_faults }
+    {
+        DiskShelf {
+            rt,
+            alloc,
+            current: None,
+            faults: 0,
+        }
+    }
+}
+
+// The bytes of a file, if there are at most `most`.
+fn read_file<R: Files>(
+    rt: &R,
+    name: &str,
+    most: usize,
+    into: &mut Vec<u8>,
+) -> Result<(), FetchError>
+    ensures fits { OnOk result (length into.new.items ≤ most) }
+{
+    match fs::open(rt, name) {
+        Ok(mut file) => read_at_most(&mut file, most, into),
+        Err(_) => Err(FetchError::Failed),
+    }
+}
+
+impl<'a, R: Files> Shelf for DiskShelf<'a, R> {
+    ghost use Rattle.sgm_io.specs.Held.{no_files};
+
+    ghost tells = { false };
+
+    ghost held = { λ shelf. no_files };
+
+    ghost writing = { λ shelf. option_map (λ file. string_bytes file.name) shelf.current };
+
+    ghost read_faults = { λ shelf name. shelf.faults };
+
+    ghost write_faults = { λ shelf name. shelf.faults };
+
+    ghost writing_is_held = { λ shelf told name is. Prim.cc };
+
+    fn fetch(&mut self, name: &str, most: usize, into: &mut Vec<u8>) -> Result<(), FetchError> {
+        match read_file(self.rt, name, most, into) {
+            Ok(()) => Ok(()),
+            Err(FetchError::Failed) => {
+                into.clear();
+                self.faults = self.faults.saturating_add(1);
+                Err(FetchError::Failed)
+            }
+            Err(error) => {
+                into.clear();
+                Err(error)
+            }
+        }
+    }
+
+    fn create(&mut self, name: &str) -> Result<(), KeepError> {
+        let Ok(kept) = String::from_str(self.alloc, name) else {
+            return Err(KeepError::NoMemory);
+        };
+        match fs::create(self.rt, name) {
+            Ok(file) => {
+                self.current = Some(Open { file, name: kept });
+                Ok(())
+            }
+            Err(_) => {
+                self.current = None;
+                self.faults = self.faults.saturating_add(1);
+                Err(KeepError::Failed)
+            }
+        }
+    }
+
+    fn append(&mut self, piece: &[u8]) -> Result<usize, KeepError> {
+        match write_to(&mut self.current, piece) {
+            Some(count) => Ok(count),
+            None => {
+                self.faults = self.faults.saturating_add(1);
+                Err(KeepError::Failed)
+            }
+        }
+    }
+
+    fn finish(&mut self) -> Result<(), KeepError> {
+        let is_flushed = flush(&mut self.current);
+        self.current = None;
+        if is_flushed {
+            return Ok(());
+        }
+        self.faults = self.faults.saturating_add(1);
+        Err(KeepError::Failed)
+    }
+
+    fn is_writing(&self) -> bool {
+        self.current.is_some()
+    }
+}
+
+// Writes some bytes from the front of the piece to the file.
+fn write_to<F: Write>(current: &mut Option<Open<F>>, piece: &[u8]) -> Option<usize>
+    requires { IsSome current.old }
+    ensures within { IfSome result (λ count. count ≤ length piece.now) }
+    ensures some { IfSome result (λ count. 0 < length piece.now → 0 < count) }
+    ensures name { option_map (λ file. string_bytes file.name) current.new
+        ≡ option_map (λ file. string_bytes file.name) current.old }
+{
+    match current {
+        Some(open) => write_some(&mut open.file, piece),
+        None => unreachable!(),
+    }
+}
+
+// Whether all that was written has left for the device.
+fn flush<F: Write>(current: &mut Option<Open<F>>) -> bool
+    requires { IsSome current.old }
+    ensures { option_map (λ file. string_bytes file.name) current.new
+        ≡ option_map (λ file. string_bytes file.name) current.old }
+{
+    match current {
+        Some(open) => open.file.flush().is_ok(),
+        None => unreachable!(),
+    }
+}

@@ -1,0 +1,5 @@
+pub mod Bounds
+pub mod Refusals
+pub mod Survey
+pub mod Surveys
+pub mod Volumes

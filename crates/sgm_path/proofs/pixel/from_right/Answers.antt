@@ -1,0 +1,28 @@
+use Rattle.std.proofs.Common.{ℕ, ◌+◌, ◌-◌, ◌<◌, ◌∙◌, sym, ap, arith, slice_index, length, take}
+use Rattle.std.proofs.lemmas.List.{length-take, get_or-take, get_or-drop}
+use Rattle.sgm_path.proofs.Follow.{follows_part, mid_at_left, part_at}
+use Rattle.sgm_path.proofs.pixel.from_right.Goals as goal
+
+pub returns-clause-each : goal.returns-clause-each
+returns-clause-each c d h =
+    let done = c.split_at_mut-front.result.1.now in
+    let rest = c.split_at_mut-here.result.0.now in
+    let first : ℕ = c.args.at + c.args.count in
+    let lt : d < length c.follow.new.into = omega (arith, c.follow.auto.into, c.split_at_mut-here.ensures.back_len, c.split_at_mut-front.ensures.front_len) in
+    follows_part (take c.args.count done) (λ a. slice_index c.args.into.now (first + a)) c.args.count c.args.near c.args.far
+    _ (slice_index c.args.costs.now (c.args.at + d)) d (slice_index c.follow.new.into d) _
+    (omega (arith, length-take c.args.count done, c.split_at_mut-front.ensures.back_len))
+    h
+    (λ k hk. get_or-take c.args.count done k 0 hk
+    ∙ ap (λ l. slice_index l k) c.split_at_mut-front.ensures.back
+    ∙ get_or-drop first c.args.into.now k 0)
+    (part_at c.args.costs.now c.args.at (c.args.at + c.args.count - c.args.at) d (omega arith))
+    (sym (mid_at_left rest c.follow.new.into done c.args.at d c.split_at_mut-here.ensures.front_len lt))
+    (c.follow.ensures.each d lt)
+
+pub returns-clause-bound : goal.returns-clause-bound
+returns-clause-bound c d h =
+    let done = c.split_at_mut-front.result.1.now in
+    let rest = c.split_at_mut-here.result.0.now in
+    let lt : d < length c.follow.new.into = omega (arith, c.follow.auto.into, c.split_at_mut-here.ensures.back_len, c.split_at_mut-front.ensures.front_len) in
+    omega (arith, mid_at_left rest c.follow.new.into done c.args.at d c.split_at_mut-here.ensures.front_len lt, c.follow.ensures.bound d 0 lt)

@@ -1,0 +1,44 @@
+-- What rows of costs and of path values say of a problem.
+use Rattle.std.specs.Prelude.{◌≡◌, ℕ, ◌+◌, ◌*◌, ◌/◌, ◌<◌, List, length, map, slice_index, Some, MatchOption}
+use Rattle.sgm_terms.specs.Step.{IsStepped}
+use Rattle.sgm_energy.specs.declared.dir.Dir.{Dir}
+use Rattle.sgm_energy.specs.Rays.{pixel_at, Problem, column_before, row_before}
+use Rattle.sgm_energy.specs.Energies.{least, below, path_value}
+use Rattle.sgm_energy.specs.Rows.{HoldsRow}
+
+-- value is what the recurrence gives at the index d, from the values prev of the pixel before and d's cost
+abbrev pub Follows : (ℕ → ℕ) → ℕ → ℕ → ℕ → ℕ → ℕ → ℕ → Type 0
+Follows prev count near far cost d value = IsStepped prev count near far (least (map prev (below count))) cost d value
+
+-- value is that of the column x and the index d in a row that comes after the row before in this direction:
+-- the cost alone, where the direction comes from beyond the side of the image. far z x is the penalty of a
+-- change by more than one from the column z of the row before to the column x
+abbrev pub StepsAt : Dir → ℕ → ℕ → ℕ → (ℕ → ℕ → ℕ) → List ℕ → List ℕ → ℕ → ℕ → ℕ → Type 0
+StepsAt dir width count near far before costs x d value =
+    MatchOption (column_before dir width x) (value ≡ slice_index costs (x * count + d))
+    (λ z. Follows (λ a. slice_index before (z * count + a)) count near (far z x) (slice_index costs (x * count + d)) d value)
+
+-- each entry of a row is what the recurrence gives from the row before and the costs
+abbrev pub RowFollows : Dir → ℕ → ℕ → (ℕ → ℕ → ℕ) → List ℕ → List ℕ → List ℕ → Type 0
+RowFollows dir count near far before costs row =
+    let width = length row / count in
+    (x d : ℕ) → x < width → d < count → StepsAt dir width count near far before costs x d (slice_index row (x * count + d))
+
+-- a call with this near penalty, this count and these costs is about the row y of the problem
+pub record Suits (g : Problem) (y near count : ℕ) (costs : List ℕ) : Type 0 where
+  pub same_count : g.count ≡ count
+  pub same_near : g.near ≡ near
+  pub inside : y < g.height
+  pub holds : HoldsRow g y g.cost costs
+
+-- far z x is the problem's penalty from the column z of the row before to the column x of the row y
+pub record HasFar (g : Problem) (before y : ℕ) (far : ℕ → ℕ → ℕ) : Type 0 where
+  pub each : (z x : ℕ) → z < g.width → x < g.width → g.far (pixel_at z before) (pixel_at x y) ≡ far z x
+
+-- before holds the path values of the row from which the direction comes to the row y, and far is the
+-- problem's penalty between the two
+pub record HoldsRowBefore (g : Problem) (dir : Dir) (y : ℕ) (far : ℕ → ℕ → ℕ) (before : List ℕ) : Type 0 where
+  pub row : ℕ
+  pub comes_from : row_before dir g.height y ≡ Some row
+  pub has_far : HasFar g row y far
+  pub holds : HoldsRow g row (path_value g dir) before

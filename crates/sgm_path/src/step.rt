@@ -1,0 +1,92 @@
+ghost use Rattle.std.specs.Prelude.{◌≡◌, ℕ, ◌+◌, ◌-◌, ◌*◌, ◌/◌, ◌%◌, ◌^◌, ◌<◌, ◌≤◌, length, slice_index, All, EachIndex, IfSome, IfNone, MatchOption, false};
+ghost use Rattle.sgm_energy.specs.Dirs.{is_level};
+ghost use Rattle.sgm_energy.specs.Pens.{p1_of, p2_of};
+ghost use Rattle.sgm_energy.specs.Rays.{Problem, column_before, row_before};
+ghost use Rattle.sgm_energy.specs.Energies.{path_value};
+ghost use Rattle.sgm_energy.specs.Rows.{HoldsRow};
+ghost use Rattle.sgm_path.specs.Paths.{HoldsRowBefore, RowFollows, Suits};
+
+use crate::pixel::{begin_at, from_other};
+use sgm_energy::{Dir, Pen};
+
+/// The column that a direction comes from, where it lies in the image.
+#[inline]
+fn source(dir: Dir, width: usize, x: usize) -> Option<usize>
+    requires { x < width }
+    ensures value { result ≡ column_before dir width x }
+    ensures inside { IfSome result (λ z. z < width) }
+{
+    match dir.offset().0 {
+        1 => x.checked_sub(1),
+        -1 if x + 1 < width => Some(x + 1),
+        -1 => None,
+        _ => Some(x),
+    }
+}
+
+/// From the row that the direction comes from.
+fn step_from(dir: Dir, pen: Pen, costs: &[u8], before: &[u16], count: usize, into: &mut [u16])
+    requires positive { 0 < count }
+    requires same_length { length costs.now ≡ length into.old }
+    requires before_length { length before.now ≡ length into.old }
+    requires whole { length into.old % count ≡ 0 }
+    requires costs { All (λ c. c ≤ 62) costs.now }
+    requires values { All (λ v. v ≤ 4062) before.now }
+    ensures bound { All (λ v. v ≤ 4062) into.new }
+    ensures each { RowFollows dir count (p1_of pen) (λ _ _. p2_of pen) before.now costs.now into.new }
+{
+    let width = into.len() / count;
+    for x in 0..width {
+        let at = x * count;
+        match source(dir, width, x) {
+            Some(z) => {
+                let from = z * count;
+                from_other(
+                    &before[from..from + count],
+                    costs,
+                    pen.p1(),
+                    pen.p2(),
+                    at,
+                    into,
+                );
+            }
+            None => begin_at(costs, count, at, into),
+        }
+    }
+}
+
+/// Writes the path values of one row, in a direction that comes from the row above or below. `costs`,
+/// `before` and `into` are rows of `count` entries a pixel, no cost is above 62 and no value of
+/// `before` above 4062. `before` has the values of the row that the direction comes from, and is None
+/// where the image has no such row. A pixel without a predecessor in the image has its costs alone.
+/// Every other has what the recurrence gives from the values of its predecessor in `before`: so they
+/// are path values where `before` has path values.
+pub fn step_row(
+    dir: Dir,
+    pen: Pen,
+    costs: &[u8],
+    before: Option<&[u16]>,
+    count: usize,
+    into: &mut [u16],
+)
+    requires across { is_level dir ≡ false }
+    requires count_range { (1 ≤ count) × (count ≤ 256) }
+    requires same_length { length costs.now ≡ length into.old }
+    requires before_length { IfSome before (λ b. length b.now ≡ length into.old) }
+    requires whole { length into.old % count ≡ 0 }
+    requires costs { All (λ c. c ≤ 62) costs.now }
+    requires values { IfSome before (λ b. All (λ v. v ≤ 4062) b.now) }
+    ensures bound { All (λ v. v ≤ 4062) into.new }
+    ensures costs_alone { IfNone before.entry (EachIndex into.new (λ k. slice_index into.new k ≡ slice_index costs.now k)) }
+    ensures each { IfSome before.entry (λ b. RowFollows dir count (p1_of pen) (λ _ _. p2_of pen) b.now costs.now into.new) }
+    // Whatever row of whatever problem the costs belong to, path values of the row before give its
+    // path values.
+    ensures paths { (g : Problem) (y : ℕ) → Suits g y (p1_of pen) count costs.now
+        → MatchOption before.entry (row_before dir g.height y ≡ None) (λ b. HoldsRowBefore g dir y (λ _ _. p2_of pen) b.now)
+        → HoldsRow g y (path_value g dir) into.new }
+{
+    match before {
+        Some(before) => step_from(dir, pen, costs, before, count, into),
+        None => begin_at(costs, into.len(), 0, into),
+    }
+}

@@ -1,0 +1,2 @@
+/// The greatest maxval.
+pub const MAX_MAXVAL: u32 = 65_535;

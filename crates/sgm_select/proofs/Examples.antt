@@ -1,0 +1,35 @@
+-- What the definitions give for small rows.
+use Rattle.std.proofs.Common.{◌≡◌, ℕ, [], ◌∷◌, map, Option, Some, None, pos, negsuc, refl, List}
+use Rattle.sgm_energy.specs.Energies.{least}
+use Rattle.sgm_select.specs.Selection.{least_index}
+use Rattle.sgm_select.specs.Rows.{base_in, matched_in, checked_in}
+
+-- of two least sums the first
+first_of_two : base_in (7 ∷ 3 ∷ 3 ∷ 9 ∷ []) 4 0 ≡ 1
+unfolding base_in least_index least
+first_of_two = refl
+
+-- five columns, two indices each
+abbrev sums : List ℕ
+sums = 64 ∷ 65 ∷ 49 ∷ 64 ∷ 49 ∷ 1 ∷ 49 ∷ 0 ∷ 65 ∷ 64 ∷ []
+
+matches_of_five : map (matched_in sums 5 (pos 0) 2) (0 ∷ 1 ∷ 2 ∷ 3 ∷ 4 ∷ []) ≡ Some 0 ∷ Some 1 ∷ Some 1 ∷ Some 0 ∷ Some 0 ∷ []
+unfolding matched_in least_index least
+matches_of_five = refl
+
+-- one column to the left, and beyond the row
+matches_to_the_left : map (matched_in sums 5 (negsuc 0) 2) (0 ∷ 1 ∷ 2 ∷ 3 ∷ 4 ∷ []) ≡ Some 1 ∷ Some 0 ∷ Some 1 ∷ Some 1 ∷ Some 0 ∷ []
+unfolding matched_in least_index least
+matches_to_the_left = refl
+
+matches_beyond : map (matched_in sums 5 (pos 5) 2) (0 ∷ 4 ∷ []) ≡ None ∷ None ∷ []
+unfolding matched_in least_index least
+matches_beyond = refl
+
+-- the base index 3 at the column 5 against the index of the column 2
+checked_with : Option ℕ → Option ℕ
+checked_with m = checked_in (0 ∷ 0 ∷ 0 ∷ 0 ∷ 0 ∷ 3 ∷ []) (None ∷ None ∷ m ∷ []) (None ∷ None ∷ None ∷ None ∷ None ∷ Some 7 ∷ []) (None ∷ None ∷ Some 7 ∷ []) (pos 0) 5
+
+differences : map checked_with (Some 1 ∷ Some 2 ∷ Some 3 ∷ Some 4 ∷ Some 5 ∷ None ∷ []) ≡ None ∷ Some 48 ∷ Some 48 ∷ Some 48 ∷ None ∷ None ∷ []
+unfolding checked_with checked_in
+differences = refl

@@ -1,0 +1,4 @@
+pub mod Examples
+pub mod LeastIndex
+pub mod Matches
+pub mod Rows
