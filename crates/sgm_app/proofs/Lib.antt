@@ -2,6 +2,7 @@ pub mod Completing
 pub mod Filing
 pub mod Holding
 pub mod Joins
+pub mod OneVerdict
 pub mod PairLaws
 pub mod Parts
 pub mod Reading

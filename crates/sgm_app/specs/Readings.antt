@@ -1,5 +1,5 @@
 -- How the inputs read.
-use Rattle.std.specs.Prelude.{⊤, ℕ, List, Option, None, Some, Result}
+use Rattle.std.specs.Prelude.{⊤, ℕ, ◌<◌, List, All, Option, None, Some, IfSome, Result}
 use Rattle.sgm_base.specs.Picture.{Picture}
 use Rattle.sgm_io.specs.Held.{Held}
 use Rattle.sgm_pgm.specs.declared.fault.PgmFault.{PgmFault}
@@ -25,3 +25,7 @@ pub record AreReadings (asked : Operands) (held : Held) (readings : Readings) : 
   pub left : IsReading Reads (held asked.left) readings.left
   pub right : IsReading Reads (held asked.right) readings.right
   pub calib : IsReading ReadsCalib (held asked.calib) readings.calib
+
+-- what is held are lists of bytes
+abbrev pub HoldsBytes : Held → Type 0
+HoldsBytes held = (name : List ℕ) → IfSome (held name) (λ contents. All (λ b. b < 256) contents)

@@ -5,6 +5,7 @@ mod deliver;
 mod gather;
 mod generated;
 mod judge;
+pub mod laws;
 mod line;
 mod outcome;
 mod stops;

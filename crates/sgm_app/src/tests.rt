@@ -368,13 +368,64 @@ fn words_are_read_in_the_order_of_the_checks(rt: HostRuntime) -> Result<(), Fail
             UsageFault::RepeatedOption { position: 6 },
         ),
         (
-            "match a o.csv - o",
+            "match o.pgm b c o",
+            UsageFault::OutputIsInput { position: 1 },
+        ),
+        (
+            "match o.asc b c o",
+            UsageFault::OutputIsInput { position: 1 },
+        ),
+        (
+            "match o.csv b c o",
+            UsageFault::OutputIsInput { position: 1 },
+        ),
+        (
+            "match a o.pgm c o",
             UsageFault::OutputIsInput { position: 2 },
+        ),
+        (
+            "match a o.asc c o",
+            UsageFault::OutputIsInput { position: 2 },
+        ),
+        (
+            "match a o.csv c o",
+            UsageFault::OutputIsInput { position: 2 },
+        ),
+        (
+            "match a b o.pgm o",
+            UsageFault::OutputIsInput { position: 3 },
         ),
         (
             "match a b o.asc o",
             UsageFault::OutputIsInput { position: 3 },
         ),
+        (
+            "match a b o.csv o",
+            UsageFault::OutputIsInput { position: 3 },
+        ),
+        ("match a b - ", UsageFault::EmptyName { position: 4 }),
+        ("match  o.pgm - o", UsageFault::EmptyName { position: 1 }),
+        ("match o.pgm b - o x", UsageFault::BadOption { position: 5 }),
+        (
+            "match a b - o strips=065x",
+            UsageFault::BadOption { position: 5 },
+        ),
+        (
+            "match a b - o strips=065",
+            UsageFault::BadOption { position: 5 },
+        ),
+        (
+            "match a b - o strips=1 strips=1 x",
+            UsageFault::RepeatedOption { position: 6 },
+        ),
+        ("match a b", UsageFault::TooFew { have: 2, need: 4 }),
+        ("demo x y", UsageFault::BadNumber { position: 1 }),
+        ("demo 1 2", UsageFault::BadOption { position: 2 }),
+        (
+            "demo 1 workers=2 workers=2",
+            UsageFault::RepeatedOption { position: 3 },
+        ),
+        ("demo ", UsageFault::BadNumber { position: 1 }),
     ] {
         assert_eq!(rt; read_words(&words(alloc, line)?), Err(fault), "{line}");
     }
