@@ -1,0 +1,58 @@
+-- The texts of rows.
+use Rattle.std.proofs.Common.{◌≡◌, ℕ, ◌<◌, List, [], ◌∷◌, ◌++◌, map, length, drop, get_or, ℤ, Option, None, sym, ap, ◌∙◌, arith, append-nil, append_assoc, take, subst, ◌-◌, ◌≤◌, Result, Ok, Err, is_ok, OnOk, if◌then◌else◌}
+use Rattle.std.proofs.lemmas.List.{take-append-drop, take_all, length-drop}
+use Rattle.std.proofs.Math.Seq.{take-append_seam}
+use Rattle.std.specs.List.{join_with_byte}
+use Rattle.sgm_grid.specs.Text.{StartsAs, after_spaces, height_text, line, row_text}
+
+-- what is added at the end leaves what stood before
+pub starts_append : (xs ys : List ℕ) → StartsAs xs (xs ++ ys)
+starts_append xs ys = take-append_seam xs ys
+
+-- and so on
+pub starts_on : (xs ys zs : List ℕ) → StartsAs xs ys → StartsAs ys zs → StartsAs xs zs
+starts_on xs ys zs p q =
+    let second : ys ≡ xs ++ drop (length xs) ys = sym (take-append-drop (length xs) ys) ∙ ap (λ (t : List ℕ). t ++ drop (length xs) ys) p in
+    let third : zs ≡ ys ++ drop (length ys) zs = sym (take-append-drop (length ys) zs) ∙ ap (λ (t : List ℕ). t ++ drop (length ys) zs) q in
+    let whole : zs ≡ xs ++ (drop (length xs) ys ++ drop (length ys) zs) =
+    third ∙ ap (λ (t : List ℕ). t ++ drop (length ys) zs) second ∙ append_assoc xs (drop (length xs) ys) (drop (length ys) zs) in
+    subst (λ (t : List ℕ). StartsAs xs t) (sym whole) (starts_append xs _)
+
+-- texts with a space between each two are the first, and each other after a space
+joined_is : (x : Option ℤ) (xs : List (Option ℤ)) → join_with_byte 32 (map height_text (x ∷ xs)) ≡ height_text x ++ after_spaces xs
+joined_is x [] = sym (append-nil (height_text x))
+joined_is x (y ∷ ys) = ap (λ (t : List ℕ). height_text x ++ (32 ∷ t)) (joined_is y ys)
+
+pub row_is : (heights : List (Option ℤ)) (d : Option ℤ) → 0 < length heights
+    → row_text heights ≡ height_text (get_or heights 0 d) ++ (after_spaces (drop 1 heights) ++ (10 ∷ []))
+row_is [] d h = absurd (omega arith)
+row_is (x ∷ xs) d h = ap line (joined_is x xs) ∙ append_assoc (height_text x) (after_spaces xs) (10 ∷ [])
+
+-- a row that was added piece by piece
+pub row_ends : {E : Type 0} (r : Result (Unit {0}) E) (old first all new : List ℕ) (heights : List (Option ℤ)) → 0 < length heights
+    → first ≡ old ++ height_text (get_or heights 0 None)
+    → all ≡ first ++ after_spaces (take (length heights - 1) (drop 1 heights))
+    → new ≡ (if is_ok r then all ++ (10 ∷ []) else all)
+    → OnOk r (new ≡ old ++ row_text heights)
+row_ends (Err e) old first all new heights some p q s = tt
+row_ends (Ok u) old first all new heights some p q s =
+    let head = height_text (get_or heights 0 None) in
+    let rest = after_spaces (drop 1 heights) in
+    let short : length (drop 1 heights) ≤ length heights - 1 = omega (arith, length-drop 1 heights) in
+    let every : all ≡ first ++ rest = q ∙ ap (λ (t : List (Option ℤ)). first ++ after_spaces t) (take_all (length heights - 1) (drop 1 heights) short) in
+    s
+    ∙ ap (λ (t : List ℕ). t ++ (10 ∷ [])) (every ∙ ap (λ (t : List ℕ). t ++ rest) p ∙ append_assoc old head rest)
+    ∙ append_assoc old (head ++ rest) (10 ∷ [])
+    ∙ ap (λ (t : List ℕ). old ++ t) (append_assoc head rest (10 ∷ []) ∙ sym (row_is heights None some))
+
+-- two lines, one after the other
+pub two_lines : {E : Type 0} (r : Result (Unit {0}) E) (old first new word value word2 value2 text text2 : List ℕ)
+    → first ≡ old ++ line (word ++ value) → value ≡ text → value2 ≡ text2
+    → OnOk r (new ≡ first ++ line (word2 ++ value2))
+    → OnOk r (new ≡ old ++ (line (word ++ text) ++ line (word2 ++ text2)))
+two_lines (Err e) old first new word value word2 value2 text text2 p t u s = tt
+two_lines (Ok x) old first new word value word2 value2 text text2 p t u s =
+    s
+    ∙ ap (λ (b : List ℕ). first ++ line (word2 ++ b)) u
+    ∙ ap (λ (b : List ℕ). b ++ line (word2 ++ text2)) (p ∙ ap (λ (b : List ℕ). old ++ line (word ++ b)) t)
+    ∙ append_assoc old (line (word ++ text)) (line (word2 ++ text2))

@@ -1,0 +1,51 @@
+-- The text of a grid of heights.
+use Rattle.std.specs.Prelude.{◌≡◌, ℕ, zero, suc, ℤ, List, [], ◌∷◌, ◌++◌, map, flat_map, codes, take, length, decimal, Option, Some, None}
+use Rattle.std.specs.Fmt.{signed_decimal}
+use Rattle.std.specs.List.{join_with_byte}
+use Rattle.sgm_grid.specs.declared.grid_spec.GridSpec.{GridSpec}
+use Rattle.sgm_grid.specs.Cells.{Cells, row_of}
+
+-- a line: its bytes and a line feed
+abbrev pub line : List ℕ → List ℕ
+line bytes = bytes ++ (10 ∷ [])
+
+-- the lines with the numbers of columns and rows
+abbrev pub size_text : GridSpec → List ℕ
+size_text spec = line (codes "ncols " ++ decimal spec.cols) ++ line (codes "nrows " ++ decimal spec.rows)
+
+-- the lines on where the grid lies
+abbrev pub corner_text : GridSpec → List ℕ
+corner_text spec = line (codes "xllcorner " ++ signed_decimal spec.west) ++ line (codes "yllcorner " ++ signed_decimal spec.south)
+
+-- the lines on a cell's side and on an empty cell
+abbrev pub cell_text : GridSpec → List ℕ
+cell_text spec = line (codes "cellsize " ++ signed_decimal spec.cell) ++ line (codes "NODATA_value -2147483648")
+
+-- the six lines that stand before the rows
+abbrev pub head_text : GridSpec → List ℕ
+head_text spec = size_text spec ++ corner_text spec ++ cell_text spec
+
+-- a height, or what stands for an empty cell
+abbrev pub height_text : Option ℤ → List ℕ
+height_text None = codes "-2147483648"
+height_text (Some height) = signed_decimal height
+
+-- a row: its heights with a space between each two
+abbrev pub row_text : List (Option ℤ) → List ℕ
+row_text heights = line (join_with_byte 32 (map height_text heights))
+
+-- heights, each after a space
+abbrev pub after_spaces : List (Option ℤ) → List ℕ
+after_spaces heights = flat_map (λ height. 32 ∷ height_text height) heights
+
+-- the first n rows from the north
+abbrev pub rows_text : Cells → ℕ → List ℕ
+rows_text grid zero = []
+rows_text grid (suc n) = rows_text grid n ++ row_text (row_of grid n)
+
+abbrev pub grid_text : Cells → List ℕ
+grid_text grid = head_text grid.spec ++ rows_text grid grid.spec.rows
+
+-- what was there before still stands in front
+abbrev pub StartsAs : List ℕ → List ℕ → Type 0
+StartsAs before now = take (length before) now ≡ before

@@ -1,0 +1,5 @@
+pub mod Corners
+pub mod Means
+pub mod Rows
+pub mod Suits
+pub mod Sums

@@ -1,0 +1,51 @@
+#!/usr/bin/env bash
+# Checks that GDAL reads a height grid as it is meant: size, origin, cell size, the value of empty cells
+# and every height, each against the calibration or the text that the program wrote, and the least and
+# greatest height against the report. Skipped where gdalinfo isn't installed (Debian: gdal-bin). The
+# program is the one that the variable SGM names (./sgm of this repository without it).
+set -u
+here=$(cd "$(dirname "$0")" && pwd)
+SGM=$(realpath -- "${SGM:-$here/../sgm}")
+if ! command -v gdalinfo gdallocationinfo >/dev/null; then
+    echo "asc_gdal: skipped, gdalinfo isn't installed"
+    exit 0
+fi
+work=$(mktemp -d) || exit 1
+trap 'rm -rf "$work"' EXIT
+failed=0
+
+same() {
+    [ "$2" = "$3" ] && return
+    failed=$((failed + 1))
+    echo "asc_gdal: $1 is '$3', not '$2'"
+}
+
+# The case of make_cases.py that has a grid with filled and empty cells, and a region over all of it.
+python3 "$here/make_cases.py" "$work/cases" && cd "$work/cases/everything" || exit 1
+"$SGM" match l.pgm r.pgm c.json o >/dev/null || { echo "asc_gdal: $SGM failed"; exit 1; }
+of_grid() { python3 -c "import json; grid = json.load(open('c.json'))['grid']; print($1)"; }
+gdalinfo -mm o.asc >info || exit 1
+of_info() { sed -n "s/^ *$1//p" info; }
+
+same driver "AAIGrid/Arc/Info ASCII Grid" "$(of_info 'Driver: ')"
+same size "$(of_grid "f\"{grid['cols']}, {grid['rows']}\"")" "$(of_info 'Size is ')"
+zeros=000000000000000
+same origin "$(of_grid "f\"({grid['west']}.$zeros,{grid['south'] + grid['rows'] * grid['cell']}.$zeros)\"")" \
+    "$(of_info 'Origin = ')"
+same "cell size" "$(of_grid "f\"({grid['cell']}.$zeros,-{grid['cell']}.$zeros)\"")" "$(of_info 'Pixel Size = ')"
+same "value of empty cells" -2147483648 "$(of_info 'NoData Value=')"
+# Region `all`, the first, covers the grid: its lowest and highest are those of all cells.
+same "least and greatest" "$(sed -n '2s/.*,\(.*\),\(.*\)/\1.000,\2.000/p' o.csv)" "$(of_info 'Computed Min\/Max=')"
+
+# Every cell: GDAL counts columns from the west and rows from the north, as the text goes.
+for row in $(seq 0 "$(of_grid "grid['rows'] - 1")"); do
+    for col in $(seq 0 "$(of_grid "grid['cols'] - 1")"); do echo "$col $row"; done
+done | gdallocationinfo -valonly o.asc >found
+tail -n +7 o.asc | tr ' ' '\n' | cmp -s - found || { failed=$((failed + 1)); echo "asc_gdal: heights differ"; }
+if ! grep -qx -- -2147483648 found || ! grep -qvx -- -2147483648 found; then
+    failed=$((failed + 1))
+    echo "asc_gdal: the grid has no filled or no empty cell"
+fi
+
+[ "$failed" = 0 ] && echo "asc_gdal: $(wc -l <found) heights as GDAL reads them"
+[ "$failed" = 0 ]

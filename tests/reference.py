@@ -1,0 +1,152 @@
+#!/usr/bin/env python3
+"""A second, separate sgm: the same words, files, lines and statuses, from the plain definitions.
+
+It takes the words of `sgm match` and `sgm demo` and is meant for small pictures: it goes pixel by
+pixel, needs some microseconds for each pixel and disparity, and hundreds of bytes. compare.sh sets
+the program against it, byte for byte. It knows no want of memory (status 6).
+"""
+
+import os
+import sys
+
+from reference_inputs import (
+    LONGEST_CALIBRATION, LONGEST_IMAGE, REFUSED, UNREAD, UNWRITTEN,
+    Calibration, Ended, Image, read_calibration, read_pgm, read_words,
+)
+from reference_matching import VOLUME_MOST, survey, warp_fault
+
+
+def generated_pair(width, height, number):
+    """The pair of `demo`: a picture of noise, of which the left one is the right one shifted by parts."""
+
+    def noise(x, y):
+        v = ((number + 1) * 2654435761 + 40503 * x + 69069 * y) % 2**32
+        v = v ^ (v // 32768)
+        v = (1664525 * v + 1013904223) % 2**32
+        return v // 16777216
+
+    def shift(x, y):
+        return 28 if 96 <= x < 160 and 64 <= y < 128 else 8 + 4 * (y // 48 % 4)
+
+    places = [(x, y) for y in range(height) for x in range(width)]
+    left = [noise(x + 64 - shift(x, y), y) for x, y in places]
+    right = [noise(x + 64, y) for x, y in places]
+    return Image(width, height, 255, left), Image(width, height, 255, right)
+
+
+def disparity_samples(found):
+    return [0 if value is None else value + 16 for row in found for value in row]
+
+
+def disparity_text(found):
+    head = f"P5\n{len(found[0])} {len(found)}\n65535\n".encode()
+    return head + b"".join(sample.to_bytes(2, "big") for sample in disparity_samples(found))
+
+
+def grid_text(grid, cells):
+    lines = [
+        f"ncols {grid['cols']}",
+        f"nrows {grid['rows']}",
+        f"xllcorner {grid['west']}",
+        f"yllcorner {grid['south']}",
+        f"cellsize {grid['cell']}",
+        "NODATA_value -2147483648",
+    ]
+    lines += [" ".join(str(-2147483648 if height is None else height) for height in row) for row in cells]
+    return "".join(line + "\n" for line in lines).encode()
+
+
+def table_text(regions, tallies):
+    lines = ["region,cells,empty,fill,cut,lowest,highest"]
+    lines += [",".join(map(str, [region["name"], *row])) for region, row in zip(regions, tallies)]
+    return "".join(line + "\n" for line in lines).encode()
+
+
+def summary_text(found):
+    values = [value for row in found for value in row]
+    return f"valid {sum(value is not None for value in values)} of {len(values)}\n"
+
+
+def fetch(name, most, what):
+    try:
+        with open(name, "rb") as file:
+            data = file.read(most + 1)
+    except OSError:
+        raise Ended(UNREAD, f"sgm: cannot read {what}")
+    if len(data) > most:
+        raise Ended(REFUSED, f"sgm: {what} is too long")
+    return data
+
+
+def write(name, data, what):
+    try:
+        with open(name, "wb", buffering=0) as file:
+            while data:
+                data = data[file.write(data) :]
+    except OSError:
+        raise Ended(UNWRITTEN, f"sgm: cannot write {what}")
+
+
+def say(text):
+    try:
+        while text:
+            text = text[os.write(1, text.encode()) :]
+    except OSError:
+        raise Ended(UNWRITTEN, "sgm: cannot write summary")
+
+
+def judged(left_data, right_data, calibration_data):
+    """The two pictures and the calibration, or the first refusal."""
+    left, right = read_pgm(left_data, "left"), read_pgm(right_data, "right")
+    calibration = Calibration() if calibration_data is None else read_calibration(calibration_data)
+    if (left.width, left.height) != (right.width, right.height):
+        raise Ended(REFUSED, f"sgm: sizes differ: {left.width}x{left.height} and {right.width}x{right.height}")
+    cells = left.width * left.height * calibration.count
+    if cells > VOLUME_MOST:
+        raise Ended(REFUSED, f"sgm: volume of {cells} cells is above {VOLUME_MOST}")
+    for side, warp in (("left", calibration.left), ("right", calibration.right)):
+        fault = warp_fault(warp, left.width, left.height)
+        if fault:
+            raise Ended(REFUSED, f"sgm: {side} warp: {fault}")
+    return left, right, calibration
+
+
+def match(left_name, right_name, calibration_name, out):
+    left = fetch(left_name, LONGEST_IMAGE, "left")
+    right = fetch(right_name, LONGEST_IMAGE, "right")
+    calibration = None
+    if calibration_name != "-":
+        calibration = fetch(calibration_name, LONGEST_CALIBRATION, "calibration")
+    left, right, calibration = judged(left, right, calibration)
+    found, cells, tallies = survey(left, right, calibration)
+    write(out + ".pgm", disparity_text(found), "disparity")
+    if cells is not None:
+        write(out + ".asc", grid_text(calibration.grid, cells), "heights")
+    if tallies is not None:
+        write(out + ".csv", table_text(calibration.regions, tallies), "report")
+    say(summary_text(found))
+
+
+def demo(number):
+    found, _, _ = survey(*generated_pair(256, 192, int(number)), Calibration())
+    say(summary_text(found) + f"sum {sum(disparity_samples(found))}\n")
+
+
+def main(words):
+    # A word that isn't UTF-8 comes with bytes in disguise: then there are no words.
+    if any("\udc80" <= letter <= "\udcff" for word in words for letter in word):
+        return 1
+    try:
+        operands = read_words(words)
+        match(*operands) if words[0] == "match" else demo(*operands)
+    except Ended as end:
+        try:
+            os.write(2, (end.line + "\n").encode())
+        except OSError:
+            pass
+        return end.status
+    return 0
+
+
+if __name__ == "__main__":
+    sys.exit(main(sys.argv[1:]))

@@ -1,0 +1,318 @@
+#!/usr/bin/env python3
+"""Checks the reference against values worked out by hand, and its path values against their meaning.
+
+The worked pair is one of 5 x 3 pixels with two disparities, whose costs, sums, selections and three
+output texts were computed on paper. Path values are compared with the least energy over all
+sequences of disparities along the ray, found by trying every sequence.
+"""
+
+import itertools
+import os
+import subprocess
+import sys
+import tempfile
+import unittest
+
+import reference
+import reference_inputs as inputs
+import reference_matching as matching
+
+PLAIN = (
+    '{"version":1,"disparities":{"first":0,"count":2},'
+    '"census":{"width":3,"height":3},"penalties":{"p1":1,"p2":3}'
+)
+CAMERA = (
+    ',"camera":{"focal":25600,"baseline":1000,"cx":0,"cy":0,"doffs":0,'
+    '"mount":150000,"near":1,"far":1000000}'
+)
+GRID = ',"grid":{"west":2000,"south":-2000,"cell":1000,"cols":4,"rows":3}'
+REGIONS = (
+    ',"regions":[{"name":"all","col":0,"row":0,"cols":4,"rows":3,"base":40000},'
+    '{"name":"east","col":3,"row":0,"cols":1,"rows":1,"base":60000}]'
+)
+WORKED = {
+    "l.pgm": b"P5\n5 3\n255\n" + 3 * bytes([90, 10, 50, 20, 40]),
+    "r.pgm": b"P5\n5 3\n255\n" + 3 * bytes([10, 50, 20, 40, 30]),
+    "c.json": (PLAIN + CAMERA + GRID + REGIONS + "}").encode(),
+}
+DISPARITY_TEXT = b"P5\n5 3\n65535\n" + 3 * bytes([0, 16, 0, 16, 0, 32, 0, 32, 0, 32])
+GRID_TEXT = (
+    b"ncols 4\nnrows 3\nxllcorner 2000\nyllcorner -2000\ncellsize 1000\nNODATA_value -2147483648\n"
+    + 3 * b"50000 50000 50000 -2147483648\n"
+)
+TABLE_TEXT = b"region,cells,empty,fill,cut,lowest,highest\nall,9,3,90000000000,0,50000,50000\neast,0,1,0,0,,\n"
+
+
+def run(files, words):
+    """Runs the reference in a new folder: its status, both streams, and the files that it made."""
+    with tempfile.TemporaryDirectory() as folder:
+        for name, data in files.items():
+            with open(os.path.join(folder, name), "wb") as file:
+                file.write(data)
+        command = [sys.executable, os.path.abspath(reference.__file__), *words.split()]
+        done = subprocess.run(command, cwd=folder, capture_output=True)
+        made = {}
+        for name in sorted(set(os.listdir(folder)) - set(files)):
+            with open(os.path.join(folder, name), "rb") as file:
+                made[name] = file.read()
+    return done.returncode, done.stdout.decode(), done.stderr.decode(), made
+
+
+def line_of(call, *arguments):
+    """The line with which a call ends, without the program's name."""
+    try:
+        call(*arguments)
+    except inputs.Ended as end:
+        return end.line[len("sgm: ") :]
+    return None
+
+
+class WorkedPair(unittest.TestCase):
+    def test_three_files(self):
+        made = {"o.asc": GRID_TEXT, "o.csv": TABLE_TEXT, "o.pgm": DISPARITY_TEXT}
+        for options in ("", " strips=3 workers=2"):
+            answer = run(WORKED, "match l.pgm r.pgm c.json o" + options)
+            self.assertEqual(answer, (0, "valid 15 of 15\n", "", made))
+
+    def test_costs_and_sums(self):
+        left, right = (inputs.read_pgm(WORKED[name], "left") for name in ("l.pgm", "r.pgm"))
+        planes = [matching.rectify(image, {"kind": "identity"}) for image in (left, right)]
+        costs = matching.costs_of(*(matching.census_codes(plane, (3, 3)) for plane in planes), 0, 2, 8)
+        self.assertEqual(costs[0], 5 * [[8, 8]])
+        self.assertEqual(costs[1], [[8, 8], [6, 8], [6, 0], [6, 0], [8, 8]])
+        level = [matching.path_values(costs, direction, 1, 3)[1] for direction in ((1, 0), (-1, 0))]
+        self.assertEqual(level[0], [[8, 8], [6, 8], [6, 1], [7, 0], [9, 8]])
+        self.assertEqual(level[1], [[8, 9], [7, 8], [7, 0], [6, 0], [8, 8]])
+        sums = matching.sums_of(costs, 1, 3)
+        self.assertEqual(sums[1], [[64, 65], [49, 64], [49, 1], [49, 0], [65, 64]])
+        self.assertEqual(sums[2], [[64, 65], [65, 65], [66, 65], [66, 64], [65, 64]])
+        self.assertEqual([matching.match_of(sums[1], q, 0) for q in range(5)], [0, 1, 1, 0, 0])
+        self.assertEqual([matching.match_of(sums[0], q, 0) for q in range(5)], [0, 0, 1, 1, 0])
+
+    def test_fewer_outputs(self):
+        without = {"o.asc": GRID_TEXT, "o.pgm": DISPARITY_TEXT}
+        files = {**WORKED, "c.json": (PLAIN + CAMERA + GRID + "}").encode()}
+        self.assertEqual(run(files, "match l.pgm r.pgm c.json o")[3], without)
+        for keys in (PLAIN, PLAIN + CAMERA):
+            files["c.json"] = (keys + "}").encode()
+            self.assertEqual(run(files, "match l.pgm r.pgm c.json o")[3], {"o.pgm": DISPARITY_TEXT})
+        files["c.json"] = (PLAIN + GRID + "}").encode()
+        answer = run(files, "match l.pgm r.pgm c.json o")
+        self.assertEqual(answer, (3, "", "sgm: calibration: camera is missing\n", {}))
+
+    def test_ends(self):
+        smaller = {**WORKED, "r.pgm": b"P5\n4 3\n255\n" + bytes(12)}
+        differ = (3, "", "sgm: sizes differ: 5x3 and 4x3\n", {})
+        self.assertEqual(run(smaller, "match l.pgm r.pgm c.json o"), differ)
+        self.assertEqual(run({}, "match l.pgm r.pgm - o"), (4, "", "sgm: cannot read left\n", {}))
+        pair = {name: b"P5\n2 1\n255\n\0\xff" for name in ("l.pgm", "r.pgm")}
+        made = {"o.pgm": b"P5\n2 1\n65535\n\0\x10\0\x10"}
+        self.assertEqual(run(pair, "match l.pgm r.pgm - o"), (0, "valid 2 of 2\n", "", made))
+
+    def test_too_large(self):
+        size = b"P5 4096 4096 255\n" + bytes(4096 * 4096)
+        line = line_of(reference.judged, size, size, None)
+        self.assertEqual(line, "volume of 1073741824 cells is above 268435456")
+
+
+class Words(unittest.TestCase):
+    def test_lines(self):
+        for words, line in [
+            ([], "no command"),
+            (["march"], "unknown command"),
+            (["match", "a", "b", "-"], "3 words after the command, 4 needed"),
+            (["match", "a", "", "-", ""], "word 2 is empty"),
+            (["match", "a", "b", "-", "o", "strips=0"], "word 5 is not an option"),
+            (["match", "a", "b", "-", "o", "strips=2", "strips=2"], "word 6 repeats an option"),
+            (["match", "a", "b", "-", "o", "strips=02", "workers=16"], None),
+            (["match", "a", "b", "-", "o", "workers=17"], "word 5 is not an option"),
+            (["match", "o.pgm", "b", "-", "o"], "word 1 is also an output"),
+            (["match", "a", "b", "o.csv", "o"], "word 3 is also an output"),
+            (["demo"], "0 words after the command, 1 needed"),
+            (["demo", "x"], "word 1 is not a number in range"),
+            (["demo", "4294967296"], "word 1 is not a number in range"),
+            (["demo", "0004294967295", "x"], "word 2 is not an option"),
+        ]:
+            self.assertEqual(line_of(inputs.read_words, words), line, words)
+
+
+class Pictures(unittest.TestCase):
+    def test_accepted(self):
+        for data, samples in [
+            (b"P5\n2 1\n255\n\0\xff", [0, 255]),
+            (b"P5\n# Created by GIMP\n2 1\n65535\n\0\1\xff\xff", [1, 65535]),
+            (b"P5 1 1 255\n\7P5", [7]),
+            (b"P5#a\r002\v1\f# b\n 0255\t\1\2", [1, 2]),
+        ]:
+            self.assertEqual(inputs.read_pgm(data, "left").samples, samples, data)
+
+    def test_refused(self):
+        for data, line in [
+            (b"P5 2 2 255\n\1\2\3", "raster has 3 of 4 bytes"),
+            (b"P5 2 1 15\n\x0f\x10", "sample 1 is above maxval"),
+            (b"", "not a binary PGM"),
+            (b"P5\n2 1", "header ends early"),
+            (b"P5\n2 1#", "header ends early"),
+            (b"P5\n2 x1\n", "unexpected byte at 5"),
+            (b"P5 1 1 255#", "unexpected byte at 10"),
+            (b"P5 4097 1 255\n", "size out of range"),
+            (b"P5 1 1 65536\n\0", "maxval out of range"),
+            (b"P5 0 1 0\n", "size out of range"),
+            (b"P5 4096 4096 65535\n", "raster has 0 of 33554432 bytes"),
+            (b"P5 " + 40 * b"9" + b" 1 255\n", "size out of range"),
+        ]:
+            self.assertEqual(line_of(inputs.read_pgm, data, "left"), "left: " + line, data)
+
+    def test_every_cut(self):
+        whole = WORKED["r.pgm"]
+        for length in range(len(whole) + 1):
+            line = line_of(inputs.read_pgm, whole[:length], "right")
+            if length < 2:
+                self.assertEqual(line, "right: not a binary PGM")
+            elif length < 11:
+                self.assertEqual(line, "right: header ends early")
+            elif length < 26:
+                self.assertEqual(line, f"right: raster has {length - 11} of 15 bytes")
+            else:
+                self.assertIsNone(line)
+
+
+class Calibrations(unittest.TestCase):
+    def test_first_fault(self):
+        top = '{"version":1,'
+        for text, line in [
+            ("{", "not JSON"),
+            ("[" * 200 + "]" * 200, "not JSON"),
+            ('{"version":1,"x":1e400}', "not JSON"),
+            ('{"version":NaN}', "not JSON"),
+            ("[]", "top has the wrong type"),
+            ("{}", "version is missing"),
+            ('{"version":3}', "unknown version"),
+            ('{"version":1.0}', "version has the wrong type"),
+            ('{"version":-0}', "version has the wrong type"),
+            ('{"version":true}', "version has the wrong type"),
+            ('{"version":9223372036854775808}', "version has the wrong type"),
+            ('{"version":1,"x":0}', "top has an unknown name"),
+            (top + '"disparities":{"first":0,"count":0}}', "disparities.count is out of range"),
+            (top + '"disparities":{"first":0,"count":1.5}}', "disparities.count has the wrong type"),
+            (top + '"disparities":{"first":0,"x":0}}', "disparities has an unknown name"),
+            (PLAIN + ',"warp":{"left":{"kind":"mesh","matrix":[]}}}', "warp.left has an unknown name"),
+            (PLAIN + ',"warp":{"left":{"kind":"mash","x":0}}}', "warp.left.kind is out of range"),
+            (PLAIN + ',"warp":{"left":{"kind":"identity"}}}', "warp.right is missing"),
+            (PLAIN + ',"warp":{"left":{"kind":"projective","matrix":[1,2.5]}}}', "warp.left.matrix has the wrong type"),
+            (PLAIN + ',"warp":{"left":{"kind":"projective","matrix":[1,2]}}}', "warp.left.matrix is out of range"),
+            (PLAIN + CAMERA + ',"regions":[]}', "grid is missing"),
+            (PLAIN + ',"regions":[]}', "grid is missing"),
+            (PLAIN + CAMERA + GRID + ',"regions":[{"name":""}]}', "regions[0].name is out of range"),
+            (PLAIN + CAMERA + GRID + ',"regions":[0]}', "regions[0] has the wrong type"),
+        ]:
+            self.assertEqual(line_of(inputs.read_calibration, text.encode()), "calibration: " + line, text)
+
+    def test_last_of_equal_names_counts(self):
+        text = PLAIN.replace('"first":0', '"first":0.5,"first":-7') + "}"
+        self.assertEqual(inputs.read_calibration(text.encode()).first, -7)
+
+
+class Definitions(unittest.TestCase):
+    def test_code(self):
+        plane = [[5, 4, 6], [5, 5, 9], [1, 5, 5]]
+        self.assertEqual(matching.census_codes(plane, (3, 3))[1][1], 0b01000100)
+
+    def test_path_values(self):
+        costs = [[[0, 5], [5, 0], [0, 5]]]
+        self.assertEqual(matching.path_values(costs, (1, 0), 1, 3), [[[0, 5], [5, 1], [1, 5]]])
+
+    def test_least_energies(self):
+        draw = 1
+        for width, height, count, p1, p2 in [(4, 3, 3, 1, 3), (3, 4, 3, 2, 2), (5, 1, 4, 1, 9)]:
+            costs = []
+            for _ in range(height):
+                row = []
+                for _ in range(width * count):
+                    draw = (1103515245 * draw + 12345) % 2**31
+                    row.append(draw // 65536 % 9)
+                costs.append([row[count * x : count * x + count] for x in range(width)])
+            for direction in matching.DIRECTIONS:
+                values = matching.path_values(costs, direction, p1, p2)
+                for x, y in itertools.product(range(width), range(height)):
+                    for d in range(count):
+                        meaning = path_value_by_trying(costs, direction, (x, y), d, p1, p2)
+                        self.assertEqual(values[y][x][d], meaning)
+
+    def test_check(self):
+        plane = [[0] * 6]
+        for matched, answer in ((3, 48), (2, 48), (1, None), (0, None)):
+            sums = [[9, 9, 9, 9] for _ in range(6)]
+            sums[5] = [9, 9, 9, 3]
+            if matched < 3:
+                sums[2 + matched][matched] = 2
+            self.assertEqual(matching.least_index(sums[5]), 3)
+            self.assertEqual(matching.match_of(sums, 2, 0), matched)
+            self.assertEqual(matching.disparities([sums], plane, plane, 0)[0][5], answer)
+
+    def test_ties(self):
+        self.assertEqual(matching.least_index([7, 3, 3, 9]), 1)
+        self.assertIsNone(matching.match_of([[0]], 0, 1))
+
+    def test_bilinear(self):
+        image = inputs.Image(2, 1, 255, [0, 255])
+        self.assertEqual(matching.bilinear(image, 128, 0), 128)
+        self.assertEqual(matching.bilinear(image, 256, 0), 255)
+        self.assertIsNone(matching.bilinear(image, 257, 0))
+        self.assertIsNone(matching.bilinear(image, -1, 0))
+
+    def test_projective(self):
+        def projective(*matrix):
+            return {"kind": "projective", "matrix": matrix}
+
+        self.assertEqual(matching.place(projective(1, 0, 0, 0, 1, 0, 0, 0, 2), 3, 0), (384, 0))
+        bad = projective(1, 0, 0, 0, 1, 0, -1, 0, 4)
+        self.assertEqual(matching.warp_fault(bad, 5, 3), "denominator not positive at corner 1")
+        image = inputs.Image(5, 1, 255, [90, 10, 50, 20, 40])
+        shifted = matching.rectify(image, projective(1, 0, 1, 0, 1, 0, 0, 0, 1))
+        self.assertEqual(shifted, [[10, 50, 20, 40, None]])
+
+    def test_mesh(self):
+        mesh = {"kind": "mesh", "step": 2, "cols": 2, "rows": 2, "nodes": [0, 0, 511, 0, 0, 512, 511, 512]}
+        self.assertIsNone(matching.warp_fault(mesh, 2, 1))
+        self.assertEqual(matching.place(mesh, 1, 0), (255, 0))
+        wide = {**mesh, "cols": 3}
+        self.assertEqual(matching.warp_fault(wide, 2, 1), "mesh is 3x2, 2x2 needed")
+
+    def test_point(self):
+        camera = {"focal": 256000, "baseline": 100000, "cx": 0, "cy": 0, "doffs": 0, "mount": 0, "near": 1, "far": 2000000000}
+        self.assertEqual(matching.point(camera, 0, 0, 800), (0, 0, -2000000))
+        self.assertEqual(matching.point(camera, 0, 0, 808), (0, 0, -1980198))
+        self.assertIsNone(matching.point(camera, 0, 0, 0))
+
+    def test_tally(self):
+        region = {"row": 0, "rows": 1, "col": 0, "cols": 3, "base": 6}
+        self.assertEqual(matching.tally([[5, 7, None]], 1000, region), (2, 1, 1000000, 1000000, 5, 7))
+
+    def test_generated_pair(self):
+        left, right = reference.generated_pair(1, 1, 0)
+        self.assertEqual((left.samples, right.samples), ([155], [170]))
+
+
+def path_value_by_trying(costs, direction, p, d, p1, p2):
+    """The least energy of any sequence along the ray that ends in d, less that of the ray before its last pixel."""
+    (dx, dy), (x, y) = direction, p
+    ray = []
+    while 0 <= x < len(costs[0]) and 0 <= y < len(costs):
+        ray.insert(0, costs[y][x])
+        x, y = x - dx, y - dy
+
+    def energy(sequence):
+        jumps = [abs(a - b) for a, b in zip(sequence, sequence[1:])]
+        return sum(cost[s] for cost, s in zip(ray, sequence)) + sum({0: 0, 1: p1}.get(jump, p2) for jump in jumps)
+
+    count = len(ray[-1])
+    sequences = list(itertools.product(range(count), repeat=len(ray)))
+    least = min(energy(s) for s in sequences if s[-1] == d)
+    # zip stops at the shorter list, so a sequence without its last entry has the energy of the ray before.
+    before = min(energy(s[:-1]) for s in sequences)
+    return least - before
+
+
+if __name__ == "__main__":
+    unittest.main()
