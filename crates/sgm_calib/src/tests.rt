@@ -181,6 +181,18 @@ fn faults_and_their_order(rt: HostRuntime) {
             CalibFault::Type_(key(3)),
         ),
         (
+            "{\"version\":1,\"disparities\":true}",
+            CalibFault::Type_(key(3)),
+        ),
+        (
+            "{\"version\":1,\"disparities\":0}",
+            CalibFault::Type_(key(3)),
+        ),
+        (
+            "{\"version\":1,\"disparities\":\"d\"}",
+            CalibFault::Type_(key(3)),
+        ),
+        (
             "{\"version\":1,\"disparities\":{\"x\":0}}",
             CalibFault::Unknown(key(3)),
         ),
@@ -223,6 +235,10 @@ fn faults_of_later_objects(rt: HostRuntime) -> Result<(), Fail> {
         ("}", CalibFault::Missing(key(6))),
         (",\"penalties\":{}}", CalibFault::Missing(key(6))),
         (",\"census\":3}", CalibFault::Type_(key(6))),
+        (",\"census\":null}", CalibFault::Type_(key(6))),
+        (",\"census\":true}", CalibFault::Type_(key(6))),
+        (",\"census\":[]}", CalibFault::Type_(key(6))),
+        (",\"census\":\"c\"}", CalibFault::Type_(key(6))),
         (
             ",\"census\":{\"width\":3,\"p1\":3}}",
             CalibFault::Unknown(key(6)),
@@ -239,6 +255,22 @@ fn faults_of_later_objects(rt: HostRuntime) -> Result<(), Fail> {
         ),
         (
             ",\"census\":{\"width\":3,\"height\":3},\"penalties\":\"p\"}",
+            CalibFault::Type_(key(9)),
+        ),
+        (
+            ",\"census\":{\"width\":3,\"height\":3},\"penalties\":null}",
+            CalibFault::Type_(key(9)),
+        ),
+        (
+            ",\"census\":{\"width\":3,\"height\":3},\"penalties\":false}",
+            CalibFault::Type_(key(9)),
+        ),
+        (
+            ",\"census\":{\"width\":3,\"height\":3},\"penalties\":1}",
+            CalibFault::Type_(key(9)),
+        ),
+        (
+            ",\"census\":{\"width\":3,\"height\":3},\"penalties\":[]}",
             CalibFault::Type_(key(9)),
         ),
         (
