@@ -17,35 +17,49 @@ failed=0
 same() {
     [ "$2" = "$3" ] && return
     failed=$((failed + 1))
-    echo "asc_gdal: $1 is '$3', not '$2'"
+    echo "asc_gdal: $name: $1 is '$3', not '$2'"
 }
 
-# The case of make_cases.py that has a grid with filled and empty cells, and a region over all of it.
-python3 "$here/make_cases.py" "$work/cases" && cd "$work/cases/everything" || exit 1
-"$SGM" match l.pgm r.pgm c.json o >/dev/null || { echo "asc_gdal: $SGM failed"; exit 1; }
-of_grid() { python3 -c "import json; grid = json.load(open('c.json'))['grid']; print($1)"; }
-gdalinfo -mm o.asc >info || exit 1
+of_grid() { python3 -c "import json; grid = json.load(open('$calibration'))['grid']; print($1)"; }
 of_info() { sed -n "s/^ *$1//p" info; }
 
-same driver "AAIGrid/Arc/Info ASCII Grid" "$(of_info 'Driver: ')"
-same size "$(of_grid "f\"{grid['cols']}, {grid['rows']}\"")" "$(of_info 'Size is ')"
-zeros=000000000000000
-same origin "$(of_grid "f\"({grid['west']}.$zeros,{grid['south'] + grid['rows'] * grid['cell']}.$zeros)\"")" \
-    "$(of_info 'Origin = ')"
-same "cell size" "$(of_grid "f\"({grid['cell']}.$zeros,-{grid['cell']}.$zeros)\"")" "$(of_info 'Pixel Size = ')"
-same "value of empty cells" -2147483648 "$(of_info 'NoData Value=')"
-# Region `all`, the first, covers the grid: its lowest and highest are those of all cells.
-same "least and greatest" "$(sed -n '2s/.*,\(.*\),\(.*\)/\1.000,\2.000/p' o.csv)" "$(of_info 'Computed Min\/Max=')"
+# check NAME LEFT RIGHT CALIBRATION: runs the program in the folder at hand and asks GDAL about its grid.
+check() {
+    name=$1 calibration=$4
+    "$SGM" match "$2" "$3" "$4" o >/dev/null || { echo "asc_gdal: $SGM failed"; exit 1; }
+    gdalinfo -mm o.asc >info || exit 1
+    same driver "AAIGrid/Arc/Info ASCII Grid" "$(of_info 'Driver: ')"
+    same size "$(of_grid "f\"{grid['cols']}, {grid['rows']}\"")" "$(of_info 'Size is ')"
+    local zeros=000000000000000
+    same origin "$(of_grid "f\"({grid['west']}.$zeros,{grid['south'] + grid['rows'] * grid['cell']}.$zeros)\"")" \
+        "$(of_info 'Origin = ')"
+    same "cell size" "$(of_grid "f\"({grid['cell']}.$zeros,-{grid['cell']}.$zeros)\"")" "$(of_info 'Pixel Size = ')"
+    same "value of empty cells" -2147483648 "$(of_info 'NoData Value=')"
+    # Every cell: GDAL counts columns from the west and rows from the north, as the text goes.
+    local row col cols rows
+    cols=$(of_grid "grid['cols']") rows=$(of_grid "grid['rows']")
+    for ((row = 0; row < rows; row++)); do
+        for ((col = 0; col < cols; col++)); do echo "$col $row"; done
+    done | gdallocationinfo -valonly o.asc >found
+    tail -n +7 o.asc | tr ' ' '\n' | cmp -s - found || { failed=$((failed + 1)); echo "asc_gdal: $name: heights differ"; }
+    if ! grep -qx -- -2147483648 found || ! grep -qvx -- -2147483648 found; then
+        failed=$((failed + 1))
+        echo "asc_gdal: $name: the grid has no filled or no empty cell"
+    fi
+    local ends
+    ends=$(grep -vx -- -2147483648 found | sort -n | sed -n '1p;$p' | tr '\n' ' ')
+    same "least and greatest" "$(printf '%d.000,%d.000' $ends)" "$(of_info 'Computed Min\/Max=')"
+    echo "asc_gdal: $name: $(wc -l <found) heights asked of GDAL"
+}
 
-# Every cell: GDAL counts columns from the west and rows from the north, as the text goes.
-for row in $(seq 0 "$(of_grid "grid['rows'] - 1")"); do
-    for col in $(seq 0 "$(of_grid "grid['cols'] - 1")"); do echo "$col $row"; done
-done | gdallocationinfo -valonly o.asc >found
-tail -n +7 o.asc | tr ' ' '\n' | cmp -s - found || { failed=$((failed + 1)); echo "asc_gdal: heights differ"; }
-if ! grep -qx -- -2147483648 found || ! grep -qvx -- -2147483648 found; then
-    failed=$((failed + 1))
-    echo "asc_gdal: the grid has no filled or no empty cell"
-fi
+# The case of make_cases.py in which the first region covers the grid: its lowest and highest are those of all cells.
+python3 "$here/make_cases.py" "$work/cases" && cd "$work/cases/everything" || exit 1
+check everything l.pgm r.pgm c.json
+same "report's lowest and highest" "$(sed -n '2s/.*,\(.*\),\(.*\)/\1.000,\2.000/p' o.csv)" "$(of_info 'Computed Min\/Max=')"
 
-[ "$failed" = 0 ] && echo "asc_gdal: $(wc -l <found) heights as GDAL reads them"
+# The example with the heap.
+cd "$work/cases/heap" || exit 1
+check heap left.pgm right.pgm calibration.json
+
+[ "$failed" = 0 ] && echo "asc_gdal: GDAL reads them as they are meant"
 [ "$failed" = 0 ]

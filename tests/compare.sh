@@ -1,7 +1,8 @@
 #!/usr/bin/env bash
-# Runs the program and the reference on small pairs with many calibrations, and on bad input, each in
-# a folder of its own, and compares every byte: the files made, both streams and the status. The
-# program is the one that the variable SGM names (./sgm of this repository without it).
+# Runs the program and the reference on small pairs with many calibrations, on bad input and on the example
+# with the heap, each in a folder of its own, and compares every byte: the files made, both streams and the
+# status. The reference's files for the heap are also compared with those that the example holds. The
+# program is the one that the variable SGM names (./sgm of this repository without it). Takes minutes.
 set -u
 here=$(cd "$(dirname "$0")" && pwd)
 SGM=$(realpath -- "${SGM:-$here/../sgm}")
@@ -31,6 +32,9 @@ for folder in "$work"/program/*/; do
         echo "differs: $name"
         cat "$work/differences"
     fi
+done
+for ending in pgm asc csv; do
+    cmp "$work/reference/heap/out.$ending" "$here/../examples/stockpile/expected/out.$ending" || failed=$((failed + 1))
 done
 echo "compare: $passed the same, $failed different"
 [ "$failed" = 0 ]

@@ -9,20 +9,26 @@ SGM=$(realpath -- "${SGM:-$here/../sgm}")
 work=$(mktemp -d) || exit 1
 trap 'chmod -R u+rwx "$work"; rm -rf "$work"' EXIT
 passed=0 failed=0
-outputs=(o.pgm)
+outputs=(o.pgm o.asc o.csv)
+
+# The parts of the calibration: what has to be there, and what asks for heights and volumes.
+plain='"version":1,"disparities":{"first":0,"count":2},
+ "census":{"width":3,"height":3},"penalties":{"p1":1,"p2":3}'
+camera='"camera":{"focal":25600,"baseline":1000,"cx":0,"cy":0,"doffs":0,
+           "mount":150000,"near":1,"far":1000000}'
+grid='"grid":{"west":2000,"south":-2000,"cell":1000,"cols":4,"rows":3}'
+regions='"regions":[{"name":"all","col":0,"row":0,"cols":4,"rows":3,"base":40000},
+            {"name":"east","col":3,"row":0,"cols":1,"rows":1,"base":60000}]'
 
 # A new folder with the pair and its calibration; the words are those of a good run.
 begin() {
     name=$1
-    folder=$work/${name//[^a-z]/-}
+    folder=$work/${name//[^a-z0-9]/-}
     words=(match l.pgm r.pgm c.json o)
     mkdir "$folder" && cd "$folder" || exit 1
     printf 'P5\n5 3\n255\n\132\12\62\24\50\132\12\62\24\50\132\12\62\24\50' >l.pgm
     printf 'P5\n5 3\n255\n\12\62\24\50\36\12\62\24\50\36\12\62\24\50\36' >r.pgm
-    cat >c.json <<'JSON'
-{"version":1,"disparities":{"first":0,"count":2},
- "census":{"width":3,"height":3},"penalties":{"p1":1,"p2":3}}
-JSON
+    echo "{$plain,$camera,$grid,$regions}" >c.json
 }
 
 # ends STATUS LINE SUMMARY [OUTPUT..]: runs the words and compares. `-` as LINE or SUMMARY asks for
@@ -50,7 +56,7 @@ ends() {
         wrong+=("standard output has '$(cat "$work/out")', not '$summary'")
     [ "$(ls -A)" = "$(printf '%s\n' "$before" "$@" | sort -u)" ] || wrong+=("the files are $(echo *)")
     for file in "$@"; do
-        cmp -s "$file" "$work/whole/$file" || wrong+=("$file isn't whole")
+        cmp -s "$file" "$whole/$file" || wrong+=("$file isn't whole")
     done
     if [ ${#wrong[@]} = 0 ]; then
         passed=$((passed + 1))
@@ -61,19 +67,54 @@ ends() {
     cd "$work" || exit 1
 }
 
-# What is written where nothing is wrong, from the formats.
-mkdir "$work/whole"
-printf 'P5\n5 3\n65535\n' >"$work/whole/o.pgm"
-for _ in 1 2 3; do printf '\0\20\0\20\0\40\0\40\0\40' >>"$work/whole/o.pgm"; done
+# What is written where nothing is wrong, worked out on paper: index 0 has no depth; index 1 lies 50 mm high.
+whole=$work/whole
+mkdir "$whole"
+printf 'P5\n5 3\n65535\n' >"$whole/o.pgm"
+for _ in 1 2 3; do printf '\0\20\0\20\0\40\0\40\0\40' >>"$whole/o.pgm"; done
+cat >"$whole/o.asc" <<'ASC'
+ncols 4
+nrows 3
+xllcorner 2000
+yllcorner -2000
+cellsize 1000
+NODATA_value -2147483648
+50000 50000 50000 -2147483648
+50000 50000 50000 -2147483648
+50000 50000 50000 -2147483648
+ASC
+cat >"$whole/o.csv" <<'CSV'
+region,cells,empty,fill,cut,lowest,highest
+all,9,3,90000000000,0,50000,50000
+east,0,1,0,0,,
+CSV
 
 # What has to be built is built here, so that its messages come into no case.
 "$SGM" demo 0 >/dev/null || { echo "ends: $SGM doesn't run" >&2; exit 1; }
 
 begin "done"
 ends 0 - 'valid 15 of 15' "${outputs[@]}"
+begin "one strip"
+words+=(strips=1)
+ends 0 - 'valid 15 of 15' "${outputs[@]}"
 begin "strips and workers"
 words+=(strips=3 workers=2)
 ends 0 - 'valid 15 of 15' "${outputs[@]}"
+begin "no regions"
+echo "{$plain,$camera,$grid}" >c.json
+ends 0 - 'valid 15 of 15' o.pgm o.asc
+begin "a camera without a grid"
+echo "{$plain,$camera}" >c.json
+ends 0 - 'valid 15 of 15' o.pgm
+begin "disparities alone"
+echo "{$plain}" >c.json
+ends 0 - 'valid 15 of 15' o.pgm
+begin "a grid without a camera"
+echo "{$plain,$grid}" >c.json
+ends 3 'sgm: calibration: camera is missing' -
+begin "regions without a grid"
+echo "{$plain,$camera,$regions}" >c.json
+ends 3 'sgm: calibration: grid is missing' -
 begin "an output that was there"
 echo old >o.pgm
 ends 0 - 'valid 15 of 15' "${outputs[@]}"
@@ -120,7 +161,7 @@ begin "an output in no folder"
 words[4]=none/o
 ends 5 'sgm: cannot write disparity' -
 count=0
-for output in disparity; do
+for output in disparity heights report; do
     file=${outputs[count]}
     begin "a folder as $output"
     mkdir "$file"
@@ -129,6 +170,95 @@ for output in disparity; do
     ln -s /dev/full "$file"
     ends 5 "sgm: cannot write $output" - "${outputs[@]:0:count}"
     count=$((count + 1))
+done
+
+# Warps that leave every pixel where it is, in each of their kinds.
+identity='{"kind":"identity"}'
+mesh() { # mesh COLS ROWS: nodes two pixels apart that map each pixel to itself
+    local x y nodes=
+    for ((y = 0; y < $2; y++)); do
+        for ((x = 0; x < $1; x++)); do nodes+=,$((512 * x)),$((512 * y)); done
+    done
+    echo "{\"kind\":\"mesh\",\"step\":2,\"cols\":$1,\"rows\":$2,\"nodes\":[${nodes#,}]}"
+}
+matrix() { # matrix A0 .. A8
+    local IFS=,
+    echo "{\"kind\":\"projective\",\"matrix\":[$*]}"
+}
+warped() { echo "{$plain,\"warp\":{\"left\":$1,\"right\":$2},$camera,$grid,$regions}" >c.json; }
+
+begin "both identity"
+warped "$identity" "$identity"
+ends 0 - 'valid 15 of 15' "${outputs[@]}"
+begin "both projective"
+warped "$(matrix 1 0 0 0 1 0 0 0 1)" "$(matrix 7 0 0 0 7 0 0 0 7)"
+ends 0 - 'valid 15 of 15' "${outputs[@]}"
+begin "both meshes"
+warped "$(mesh 4 3)" "$(mesh 4 3)"
+ends 0 - 'valid 15 of 15' "${outputs[@]}"
+begin "one of each"
+warped "$(matrix 1 0 0 0 1 0 0 0 1)" "$(mesh 4 3)"
+ends 0 - 'valid 15 of 15' "${outputs[@]}"
+
+# The right picture's first column is the left one's second. Shifted by a column, each equals the other one
+# but for a void column, so every other pixel has index 0, and no depth.
+whole=$work/shifted
+mkdir "$whole"
+head -n 6 "$work/whole/o.asc" >"$whole/o.asc"
+for _ in 1 2 3; do echo -2147483648 -2147483648 -2147483648 -2147483648; done >>"$whole/o.asc"
+printf 'region,cells,empty,fill,cut,lowest,highest\nall,0,12,0,0,,\neast,0,1,0,0,,\n' >"$whole/o.csv"
+printf 'P5\n5 3\n65535\n' >"$whole/o.pgm"
+for _ in 1 2 3; do printf '\0\20\0\20\0\20\0\20\0\0' >>"$whole/o.pgm"; done
+begin "the left picture shifted"
+warped "$(matrix 1 0 1 0 1 0 0 0 1)" "$identity"
+ends 0 - 'valid 12 of 15' "${outputs[@]}"
+printf 'P5\n5 3\n65535\n' >"$whole/o.pgm"
+for _ in 1 2 3; do printf '\0\0\0\20\0\20\0\20\0\20' >>"$whole/o.pgm"; done
+begin "the right picture shifted"
+warped "$identity" "$(matrix 1 0 -1 0 1 0 0 0 1)"
+ends 0 - 'valid 12 of 15' "${outputs[@]}"
+whole=$work/whole
+
+# The corners of 5 x 3 pixels are (0, 0), (4, 0), (0, 2), (4, 2); each matrix has 0 there, the last one below.
+corner=0
+for below in "1 1 0" "-1 0 4" "0 -1 2" "-1 -1 6" "-1 -1 5"; do
+    for side in left right; do
+        begin "a denominator $side $below"
+        bad=$(matrix 1 0 0 0 1 0 $below)
+        if [ $side = left ]; then warped "$bad" "$identity"; else warped "$identity" "$bad"; fi
+        ends 3 "sgm: $side warp: denominator not positive at corner $((corner < 3 ? corner : 3))" -
+    done
+    corner=$((corner + 1))
+done
+for size in 3x3 5x3 4x2 4x4; do
+    for side in left right; do
+        begin "a mesh $side $size"
+        bad=$(mesh ${size%x*} ${size#*x})
+        if [ $side = left ]; then warped "$bad" "$identity"; else warped "$identity" "$bad"; fi
+        ends 3 "sgm: $side warp: mesh is $size, 4x3 needed" -
+    done
+done
+for side in left right; do
+    begin "a mesh $side for two pixels"
+    for file in l.pgm r.pgm; do printf 'P5\n2 1\n255\n\0\377' >$file; done
+    bad='{"kind":"mesh","step":2,"cols":3,"rows":2,"nodes":[0,0,512,0,1024,0,0,512,512,512,1024,512]}'
+    if [ $side = left ]; then warped "$bad" "$identity"; else warped "$identity" "$bad"; fi
+    ends 3 "sgm: $side warp: mesh is 3x2, 2x2 needed" -
+done
+begin "both warps wrong"
+warped "$(mesh 4 2)" "$(matrix 1 0 0 0 1 0 0 0 0)"
+ends 3 'sgm: left warp: mesh is 4x2, 4x3 needed' -
+begin "two sizes and a wrong warp"
+warped "$(mesh 4 2)" "$identity"
+printf 'P5\n4 3\n255\n123412341234' >r.pgm
+ends 3 'sgm: sizes differ: 5x3 and 4x3' -
+
+# The calibrations with one fault each.
+python3 "$here/calibration_cases.py" "$work/calibrations" || exit 1
+for file in "$work"/calibrations/*.json; do
+    begin "calibration $(basename "$file" .json)"
+    cp "$file" c.json
+    ends 3 "$(cat "${file%.json}.line")" -
 done
 
 begin "a closed standard output"

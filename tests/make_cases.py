@@ -3,12 +3,17 @@
 
 A case has the file `words`, one word a line, and the files that the words name. The pictures are
 small and drawn from fixed numbers, so the cases are the same each time. They go over sizes, spans,
-windows, penalties, options, and the refusals.
+windows, penalties, options, warps, cameras, grids, regions, and the refusals. The last case is the
+example with the heap.
 """
 
 import json
 import os
 import sys
+
+import calibration_cases
+
+HEAP = os.path.join(os.path.dirname(os.path.abspath(__file__)), "..", "examples", "stockpile")
 
 
 class Draw:
@@ -74,7 +79,169 @@ def cases():
     yield good("more-than-wide", 12, 10, 255, calibration(count=256, window=(3, 3)))
     yield good("negative-first", 30, 20, 255, calibration(first=-5), first=-5)
     yield good("far-first", 30, 20, 255, calibration(first=-1024))
+    for name, warps in warped().items():
+        yield good("warp-" + name, 33, 22, 255, calibration(warp=warps))
+    deep = {"left": tilted(33, 22, 4, 9), "right": shifted(300, -77, 256)}
+    yield good("warp-of-two-bytes", 33, 22, 65535, calibration(first=-3, warp=deep), "strips=4 workers=2", first=-3)
+    for name, (first, sections) in surveyed().items():
+        yield good("survey-" + name, 40, 30, 255, calibration(first=first, **sections), first=first, deepest=7)
+    yield good("everything", 40, 30, 255, everything(), "strips=5 workers=3", first=2, deepest=7)
     yield from refusals(left, right)
+    yield from calibrations()
+    yield heap()
+
+
+# Warps
+
+
+def projective(*matrix):
+    return {"kind": "projective", "matrix": list(matrix)}
+
+
+def shifted(u, v, scale):
+    """Every place moved by the same fraction of a pixel."""
+    return projective(scale, 0, u * scale // 256, 0, scale, v * scale // 256, 0, 0, scale)
+
+
+def mesh(width, height, step, place):
+    """A mesh whose node at the pixel (x, y) is place(x, y)."""
+    cols, rows = (width - 1) // step + 2, (height - 1) // step + 2
+    nodes = [part for j in range(rows) for i in range(cols) for part in place(i * step, j * step)]
+    return {"kind": "mesh", "step": step, "cols": cols, "rows": rows, "nodes": nodes}
+
+
+def tilted(width, height, step, amount):
+    """A mesh that is wavy by some pixels' 256ths, as a lens and a turned camera make it."""
+    draw = Draw(amount)
+    wave = lambda: amount * (draw.below(33) - 16)
+    return mesh(width, height, step, lambda x, y: (256 * x + wave() - 3 * y, 256 * y + wave() + 2 * x))
+
+
+def warped():
+    identity, same = {"kind": "identity"}, lambda x, y: (256 * x, 256 * y)
+    # The exact fractions at both ends of a pixel, the sides of the picture, and what lies just beyond them.
+    fractions = {number: mesh(33, 22, 8, lambda x, y: (256 * x + number, 256 * y - number)) for number in (1, 128, 255)}
+    return {
+        "identity": {"left": identity, "right": identity},
+        "scaled-identity": {"left": projective(5, 0, 0, 0, 5, 0, 0, 0, 5), "right": mesh(33, 22, 7, same)},
+        "left-alone": {"left": tilted(33, 22, 5, 6), "right": identity},
+        "right-alone": {"left": identity, "right": tilted(33, 22, 5, 6)},
+        "step-divides": {"left": tilted(33, 22, 11, 8), "right": tilted(33, 22, 2, 5)},
+        "one-cell": {"left": tilted(33, 22, 1024, 100), "right": tilted(33, 22, 33, 3)},
+        "fractions": {"left": fractions[1], "right": fractions[255]},
+        "halves": {"left": fractions[128], "right": shifted(128, 128, 256)},
+        "just-outside": {"left": shifted(-1, 0, 256), "right": shifted(0, 1, 256)},
+        "last-column-and-row": {"left": shifted(256 * 32, 0, 1), "right": shifted(0, 256 * 21, 1)},
+        "nothing-left": {"left": shifted(256 * 33, 0, 1), "right": identity},
+        "turned": {"left": projective(-1, 0, 32, 0, -1, 21, 0, 0, 1), "right": projective(0, 1, 0, 1, 0, 0, 0, 0, 1)},
+        "perspective": {
+            "left": projective(1000, 30, -2000, 10, 990, -1500, 1, 2, 980),
+            "right": projective(-970, 0, 31000, 4, 1010, -700, -1, 1, 1020),
+        },
+        "large-numbers": {
+            "left": projective(1099511627776, -7, 31, 5, 1099511627775, -1099511627776, 0, 0, 1099511627776),
+            "right": projective(1, 0, 0, 0, 1, 0, 1099511627776, 1099511627776, 1),
+        },
+        "far-nodes": {"left": mesh(33, 22, 3, lambda x, y: (16777216 - x, -16777216 + y)), "right": identity},
+    }
+
+
+# Cameras, grids and regions. With 30 pixels of focal length and a baseline of 1 m, the disparity d lies 30 / d
+# metres away, and a pixel is 1 / d metres wide there.
+
+
+def camera(**more):
+    plain = {"focal": 7680, "baseline": 1000000, "cx": 5120, "cy": 3840, "doffs": 0}
+    return {**plain, "mount": 15000000, "near": 1, "far": 2000000000, **more}
+
+
+def grid(**more):
+    return {"west": -10000000, "south": -8000000, "cell": 1000000, "cols": 20, "rows": 16, **more}
+
+
+def region(name, col, row, cols, rows, base):
+    return {"name": name, "col": col, "row": row, "cols": cols, "rows": rows, "base": base}
+
+
+def surveyed():
+    """Names, each with the first disparity and the sections of the calibration."""
+    whole = [region("all", 0, 0, 20, 16, 0)]
+    bases = [region(f"base {base}", 0, 0, 20, 16, base) for base in (-2000000000, 0, 5000000, 9000000, 2000000000)]
+    parts = [region("north-west", 0, 0, 5, 4, 0), region("south.east", 15, 12, 5, 4, 0)]
+    parts += [region("one_cell", 10, 8, 1, 1, 7)]
+    one, fine = [region("a", 0, 0, 1, 1, -5)], grid(west=-2000000, south=-3000000, cell=70001, cols=60, rows=90)
+    return {
+        "camera-alone": (2, {"camera": camera()}),
+        "grid-alone": (2, {"camera": camera(), "grid": grid()}),
+        "no-regions": (2, {"camera": camera(), "grid": grid(), "regions": []}),
+        "whole": (2, {"camera": camera(), "grid": grid(), "regions": whole}),
+        "bases": (2, {"camera": camera(), "grid": grid(), "regions": bases}),
+        "parts": (2, {"camera": camera(), "grid": grid(), "regions": parts}),
+        "beginning-at-zero": (0, {"camera": camera(), "grid": grid(), "regions": whole}),
+        "negative-first": (-4, {"camera": camera(), "grid": grid(), "regions": whole}),
+        "offset": (-4, {"camera": camera(doffs=1300, cx=5000, cy=3777), "grid": grid(), "regions": whole}),
+        "negative-offset": (2, {"camera": camera(doffs=-700), "grid": grid(), "regions": whole}),
+        "near-and-far": (2, {"camera": camera(near=4000000, far=7000000), "grid": grid(), "regions": whole}),
+        "one-depth": (2, {"camera": camera(near=6000000, far=6000000), "grid": grid(), "regions": whole}),
+        "nothing-in-range": (2, {"camera": camera(near=1, far=1), "grid": grid(), "regions": whole}),
+        "mount-of-zero": (2, {"camera": camera(mount=0), "grid": grid(), "regions": whole}),
+        "beside-the-grid": (2, {"camera": camera(), "grid": grid(west=20000000), "regions": whole}),
+        "one-cell": (2, {"camera": camera(), "grid": grid(west=0, cols=1, rows=1, cell=8000000), "regions": one}),
+        "largest-cell": (2, {"camera": camera(), "grid": grid(west=0, south=0, cell=1000000000), "regions": whole}),
+        "small-cells": (2, {"camera": camera(), "grid": fine, "regions": parts}),
+        "greatest-camera": (
+            2,
+            {
+                "camera": camera(focal=16777216, baseline=2000000000, doffs=16777216),
+                "grid": grid(cell=200000000, west=-2000000000, south=-1600000000),
+                "regions": whole,
+            },
+        ),
+        "too-far": (2, {"camera": camera(focal=16777216, baseline=2000000000), "grid": grid()}),
+        "odd-numbers": (
+            2,
+            {
+                "camera": camera(focal=7681, baseline=999983, cx=-777, cy=12345, doffs=13, mount=14999999),
+                "grid": grid(west=-9876543, south=-7654321, cell=987654),
+                "regions": bases + parts,
+            },
+        ),
+    }
+
+
+def everything():
+    """All sections; the first region is the whole grid, which has filled and empty cells."""
+    warps = {"left": tilted(40, 30, 6, 7), "right": projective(1000, 3, -900, -2, 1001, 700, 0, 1, 990)}
+    regions = [region("all", 0, 0, 20, 16, 6000000), region("middle", 6, 5, 9, 7, -1), region("corner", 19, 0, 1, 1, 0)]
+    return calibration(first=2, warp=warps, camera=camera(doffs=-9), grid=grid(), regions=regions)
+
+
+def calibrations():
+    """The calibrations with one fault, and those at the ends of the ranges."""
+    left, right = (bytes(row) * 3 for row in ((90, 10, 50, 20, 40), (10, 50, 20, 40, 30)))
+    pair = {"words": "match l.pgm r.pgm c.json o", "l.pgm": pgm(5, 3, 255, left), "r.pgm": pgm(5, 3, 255, right)}
+    for name, made, _ in calibration_cases.faults():
+        yield "fault-" + name, {**pair, "c.json": json.dumps(made)}
+    for name, made in calibration_cases.bounds():
+        yield name, {**pair, "c.json": json.dumps(made)}
+    # The smallest picture for which a mesh has more than one row of cells' corners.
+    mesh_of = {"kind": "mesh", "step": 2, "cols": 3, "rows": 2, "nodes": [0, 0] * 6}
+    small = {"l.pgm": pgm(2, 1, 255, [0, 255]), "r.pgm": pgm(2, 1, 255, [0, 255])}
+    for side, other in (("left", "right"), ("right", "left")):
+        settings = calibration(warp={side: mesh_of, other: {"kind": "identity"}})
+        yield "mesh-too-wide-" + side, {**pair, **small, "c.json": json.dumps(settings)}
+        for corner, below in enumerate(([1, 1, 0], [-1, 0, 4], [0, -1, 2], [-1, -1, 6])):
+            bad = projective(1, 0, 0, 0, 1, 0, *below)
+            settings = calibration(warp={side: bad, other: {"kind": "identity"}})
+            yield f"corner-{corner}-{side}", {**pair, "c.json": json.dumps(settings)}
+
+
+def heap():
+    files = {"words": "match left.pgm right.pgm calibration.json out"}
+    for name in ("left.pgm", "right.pgm", "calibration.json"):
+        with open(os.path.join(HEAP, name), "rb") as file:
+            files[name] = file.read()
+    return "heap", files
 
 
 def refusals(left, right):

@@ -7,12 +7,14 @@ sequences of disparities along the ray, found by trying every sequence.
 """
 
 import itertools
+import json
 import os
 import subprocess
 import sys
 import tempfile
 import unittest
 
+import calibration_cases
 import reference
 import reference_inputs as inputs
 import reference_matching as matching
@@ -207,6 +209,12 @@ class Calibrations(unittest.TestCase):
             (PLAIN + CAMERA + GRID + ',"regions":[0]}', "regions[0] has the wrong type"),
         ]:
             self.assertEqual(line_of(inputs.read_calibration, text.encode()), "calibration: " + line, text)
+
+    def test_every_key(self):
+        for name, made, line in calibration_cases.faults():
+            self.assertEqual("sgm: " + line_of(inputs.read_calibration, json.dumps(made).encode()), line, name)
+        for name, made in calibration_cases.bounds():
+            self.assertIsNone(line_of(inputs.read_calibration, json.dumps(made).encode()), name)
 
     def test_last_of_equal_names_counts(self):
         text = PLAIN.replace('"first":0', '"first":0.5,"first":-7') + "}"

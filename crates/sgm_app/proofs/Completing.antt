@@ -2,7 +2,7 @@
 use Rattle.std.proofs.Common.{◌≡◌, ◌≢◌, ◌⊎◌, inl, inr, ℕ, ◌<◌, List, [], ◌∷◌, refl, sym, ap, subst, ◌∙◌, arith, Option, None, Some, Result, Ok, Err, Bool, true, false, length, nat_lt, if◌then◌else◌, Contains}
 use Rattle.std.specs.Str.{bytes_eq}
 use Rattle.std.proofs.lemmas.Slice.Eq.{bytes_eq-Decides}
-use Rattle.std.proofs.lemmas.List.Elements.{Contains-append_right}
+use Rattle.std.proofs.lemmas.List.Elements.{All-contains, Contains-append_right}
 use Rattle.std.proofs.lemmas.Bool.{cases_lt}
 use Rattle.sgm_base.specs.Picture.{Picture}
 use Rattle.sgm_base.specs.declared.side.Side.{Side}
@@ -12,10 +12,12 @@ use Rattle.sgm_io.specs.Held.{Held}
 use Rattle.sgm_io.specs.Counts.{Rose}
 use Rattle.sgm_pgm.specs.declared.fault.PgmFault.{PgmFault}
 use Rattle.sgm_calib.specs.Calibration.{Calibration, plain}
-use Rattle.sgm_calib.specs.declared.calib.CalibFault.{CalibFault}
-use Rattle.sgm_calib.specs.declared.calib.TheConstants.{MAX_CALIB_BYTES}
-use Rattle.sgm_job.specs.Survey.{surveyed}
-use Rattle.sgm_job.specs.declared.job.Surveyed.{Surveyed}
+use Rattle.sgm_calib.specs.declared.keys.CalibFault.{CalibFault}
+use Rattle.sgm_calib.specs.declared.keys.TheConstants.{MAX_CALIB_BYTES}
+use Rattle.sgm_grid.specs.Cells.{Cells}
+use Rattle.sgm_report.specs.Areas.{Area}
+use Rattle.sgm_report.specs.declared.volumes.RegionTally.{RegionTally}
+use Rattle.sgm_job.specs.Survey.{Survey, surveyed}
 use Rattle.sgm_job.specs.declared.job.SurveyFault.{SurveyFault}
 use Rattle.sgm_app.specs.Words.{Operands, is_plain, IsInputName, IsOutputName}
 use Rattle.sgm_app.specs.Readings.{Readings}
@@ -38,6 +40,7 @@ use Rattle.sgm_app.specs.declared.outcome.Refusal.TheVariants.{TooLong, Pgm, Cal
 use Rattle.sgm_app.specs.declared.outcome.Outcome.{Outcome}
 use Rattle.sgm_app.specs.declared.outcome.Outcome.TheVariants.{Done, Usage, Refused, ReadFault, WriteFault, NoMemory}
 use Rattle.sgm_app.proofs.Holding.{Distinct, in_cases, in_none}
+use Rattle.sgm_app.proofs.Named.{all_named, all_distinct}
 use Rattle.sgm_app.proofs.VerdictLaws.{none_judged}
 
 -- the files of a verdict have the names of their outputs, which differ
@@ -59,17 +62,14 @@ proper_calib : (asked : Operands) (reading : Result Calibration CalibFault) (nex
 proper_calib asked (Err fault) next later = proper_none asked (refused (Calib fault)) refl
 proper_calib asked (Ok calib) next later = later calib
 
-proper_survey : (asked : Operands) (wanted : Result Surveyed SurveyFault) (next : Surveyed → Verdict) → ((s : Surveyed) → IsProper asked (next s)) → IsProper asked (with_survey wanted next)
+proper_survey : (asked : Operands) (wanted : Result Survey SurveyFault) (next : Survey → Verdict) → ((s : Survey) → IsProper asked (next s)) → IsProper asked (with_survey wanted next)
 proper_survey asked (Err fault) next later = proper_none asked (refused (refusal_of fault)) refl
 proper_survey asked (Ok survey) next later = later survey
 
-proper_files : (asked : Operands) (survey : Surveyed) → IsProper asked (files (outputs asked survey) (summary_text survey.disp))
-proper_files asked survey = record {
-  named = λ file c. elim (in_cases _ [] file c) [
-    | inl same ↦ let P : OutputFile → Type 0 = λ f. IsNamed asked f in subst P same refl
-    | inr later ↦ absurd (in_none file later)
-  ];
-  distinct = (refl, tt);
+proper_files : (asked : Operands) (calib : Calibration) (survey : Survey) → IsProper asked (files (outputs asked calib survey) (summary_text survey.disp))
+proper_files asked calib survey = record {
+  named = λ file c. All-contains (IsNamed asked) (outputs asked calib survey) file (all_named asked calib survey) c;
+  distinct = all_distinct asked calib survey;
 }
 
 proper_judged : (asked : Operands) (left right : Result Picture PgmFault) (calib : Result Calibration CalibFault) → IsProper asked (judged asked left right calib)
@@ -78,7 +78,7 @@ proper_judged asked left right calib =
     proper_image asked side.Left left _ (λ a.
     proper_image asked side.Right right _ (λ b.
     proper_calib asked calib _ (λ c.
-    proper_survey asked (surveyed a b c) _ (λ s. proper_files asked s))))
+    proper_survey asked (surveyed a b c) _ (λ s. proper_files asked c s))))
 
 proper_fetched : (asked : Operands) (i : Input) (most : ℕ) (held : Option (List ℕ)) (next : Verdict) → IsProper asked next → IsProper asked (fetched i most held next)
 proper_fetched asked i most None next later = proper_none asked (absent i) refl
@@ -96,7 +96,7 @@ proper_matched asked held r =
     proper_calib_fetched asked (is_plain asked) (held asked.calib) _ (
     proper_judged asked r.left r.right (calib_of asked r))))
 
-proper_demo : (asked : Operands) (wanted : Result Surveyed SurveyFault) → IsProper asked (with_survey wanted (λ s. files [] (demo_text s.disp)))
+proper_demo : (asked : Operands) (wanted : Result Survey SurveyFault) → IsProper asked (with_survey wanted (λ s. files [] (demo_text s.disp)))
 proper_demo asked (Err fault) = proper_none asked (refused (refusal_of fault)) refl
 proper_demo asked (Ok survey) = proper_none asked (files [] (demo_text survey.disp)) refl
 
@@ -269,7 +269,7 @@ same_order input.Right input.Calibration e = absurd (omega arith)
 same_order input.Calibration input.Left e = absurd (omega arith)
 same_order input.Calibration input.Right e = absurd (omega arith)
 
-demo_files : (wanted : Result Surveyed SurveyFault) → outputs_of (with_survey wanted (λ s. files [] (demo_text s.disp))) ≡ []
+demo_files : (wanted : Result Survey SurveyFault) → outputs_of (with_survey wanted (λ s. files [] (demo_text s.disp))) ≡ []
 demo_files (Err fault) = refl
 demo_files (Ok survey) = refl
 

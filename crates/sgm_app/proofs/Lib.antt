@@ -2,10 +2,12 @@ pub mod Completing
 pub mod Filing
 pub mod Holding
 pub mod Joins
+pub mod Named
 pub mod OneVerdict
 pub mod PairLaws
 pub mod Parts
 pub mod Reading
 pub mod Steps
+pub mod Tallied
 pub mod VerdictLaws
 pub mod WordLaws

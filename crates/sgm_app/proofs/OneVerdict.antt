@@ -9,8 +9,8 @@ use Rattle.sgm_pgm.specs.declared.fault.PgmFault.TheVariants.{NotPgm}
 use Rattle.sgm_pgm.proofs.ReadLaws.{reads_some, reads_one}
 use Rattle.sgm_calib.specs.Calibration.{Calibration, plain}
 use Rattle.sgm_calib.specs.Read.{Reads as ReadsCalib}
-use Rattle.sgm_calib.specs.declared.calib.CalibFault.{CalibFault}
-use Rattle.sgm_calib.specs.declared.calib.TheConstants.{MAX_CALIB_BYTES}
+use Rattle.sgm_calib.specs.declared.keys.CalibFault.{CalibFault}
+use Rattle.sgm_calib.specs.declared.keys.TheConstants.{MAX_CALIB_BYTES}
 use Rattle.sgm_calib.proofs.Answers.{some_answer, one_answer}
 use Rattle.sgm_app.specs.Readings.{Readings, IsReading, AreReadings, HoldsBytes}
 use Rattle.sgm_app.specs.Words.{Operands, operands, is_plain, read_of}

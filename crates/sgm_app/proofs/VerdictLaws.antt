@@ -5,10 +5,9 @@ use Rattle.sgm_base.specs.declared.side.Side.{Side}
 use Rattle.sgm_base.specs.declared.side.Side.TheVariants as side
 use Rattle.sgm_pgm.specs.declared.fault.PgmFault.{PgmFault}
 use Rattle.sgm_calib.specs.Calibration.{Calibration}
-use Rattle.sgm_calib.specs.declared.calib.CalibFault.{CalibFault}
-use Rattle.sgm_calib.specs.declared.calib.TheConstants.{MAX_CALIB_BYTES}
-use Rattle.sgm_job.specs.Survey.{surveyed}
-use Rattle.sgm_job.specs.declared.job.Surveyed.{Surveyed}
+use Rattle.sgm_calib.specs.declared.keys.CalibFault.{CalibFault}
+use Rattle.sgm_calib.specs.declared.keys.TheConstants.{MAX_CALIB_BYTES}
+use Rattle.sgm_job.specs.Survey.{Survey, surveyed}
 use Rattle.sgm_job.specs.declared.job.SurveyFault.{SurveyFault}
 use Rattle.sgm_job.specs.declared.job.SurveyFault.TheVariants as fault
 use Rattle.sgm_app.specs.Words.{Operands}
@@ -33,9 +32,10 @@ none_calib : (n : ℕ) (reading : Result Calibration CalibFault) (next : Calibra
 none_calib n (Err fault) next later = record { present = λ i lt e. (cc); fit = λ i lt e. (cc) }
 none_calib n (Ok calib) next later = later calib
 
-none_survey : (n : ℕ) (wanted : Result Surveyed SurveyFault) (next : Surveyed → Verdict) → ((s : Surveyed) → NoneBefore n (next s)) → NoneBefore n (with_survey wanted next)
+none_survey : (n : ℕ) (wanted : Result Survey SurveyFault) (next : Survey → Verdict) → ((s : Survey) → NoneBefore n (next s)) → NoneBefore n (with_survey wanted next)
 none_survey n (Err (fault.SizesDiffer a b)) next later = record { present = λ i lt e. (cc); fit = λ i lt e. (cc) }
 none_survey n (Err (fault.VolumeTooLarge cells)) next later = record { present = λ i lt e. (cc); fit = λ i lt e. (cc) }
+none_survey n (Err (fault.Warp s found)) next later = record { present = λ i lt e. (cc); fit = λ i lt e. (cc) }
 none_survey n (Ok survey) next later = later survey
 
 pub none_judged : (n : ℕ) (asked : Operands) (left right : Result Picture PgmFault) (calib : Result Calibration CalibFault) → NoneBefore n (judged asked left right calib)
@@ -44,7 +44,7 @@ none_judged n asked left right calib =
     none_image n side.Left left _ (λ a.
     none_image n side.Right right _ (λ b.
     none_calib n calib _ (λ c.
-    none_survey n (surveyed a b c) _ (λ s. none_files n (outputs asked s) (summary_text s.disp)))))
+    none_survey n (surveyed a b c) _ (λ s. none_files n (outputs asked c s) (summary_text s.disp)))))
 
 -- a step that fetches an input none of whose order comes before n
 pub none_fetched : (n : ℕ) (i : Input) (most : ℕ) (held : Option (List ℕ)) (next : Verdict) → n ≤ order_of i → NoneBefore n next → NoneBefore n (fetched i most held next)

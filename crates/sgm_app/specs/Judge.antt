@@ -8,7 +8,9 @@ use Rattle.sgm_app.specs.declared.gather.Inputs.{Inputs}
 use Rattle.sgm_pgm.specs.declared.fault.PgmFault.{PgmFault}
 use Rattle.sgm_calib.specs.Calibration.{Calibration, plain}
 use Rattle.sgm_calib.specs.Read.{Reads as ReadsCalib}
-use Rattle.sgm_calib.specs.declared.calib.CalibFault.{CalibFault}
+use Rattle.sgm_calib.specs.declared.keys.CalibFault.{CalibFault}
+use Rattle.sgm_job.specs.Survey.{Survey}
+use Rattle.sgm_job.specs.Surveys.{seen}
 use Rattle.sgm_job.specs.declared.job.Surveyed.{Surveyed}
 use Rattle.sgm_job.specs.declared.job.SurveyFault.{SurveyFault}
 use Rattle.sgm_app.specs.Words.{Operands, IsOutputName}
@@ -38,9 +40,9 @@ JudgesCalib reading (Ok calib) = (next : Calibration → Verdict) → with_calib
 JudgesCalib reading (Err stop) = (next : Calibration → Verdict) → ShownBy (with_calib reading next) (judge_outcome stop)
 
 -- the verdict goes on with the survey, or shows the stop
-abbrev pub JudgesSurvey : Result Surveyed SurveyFault → Result Surveyed JudgeStop → Type 0
-JudgesSurvey wanted (Ok survey) = (next : Surveyed → Verdict) → with_survey wanted next ≡ next survey
-JudgesSurvey wanted (Err stop) = (next : Surveyed → Verdict) → ShownBy (with_survey wanted next) (judge_outcome stop)
+abbrev pub JudgesSurvey : Result Survey SurveyFault → Result Surveyed JudgeStop → Type 0
+JudgesSurvey wanted (Ok survey) = (next : Survey → Verdict) → with_survey wanted next ≡ next (seen survey)
+JudgesSurvey wanted (Err stop) = (next : Survey → Verdict) → ShownBy (with_survey wanted next) (judge_outcome stop)
 
 -- the file has the name that its output is to have
 abbrev pub IsNamed : Operands → OutputFile → Type 0

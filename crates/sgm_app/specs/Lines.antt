@@ -7,9 +7,11 @@ use Rattle.sgm_base.specs.declared.side.Side.{Side}
 use Rattle.sgm_base.specs.declared.side.Side.TheVariants as side
 use Rattle.sgm_pgm.specs.declared.fault.PgmFault.{PgmFault}
 use Rattle.sgm_pgm.specs.declared.fault.PgmFault.TheVariants as pgm
-use Rattle.sgm_calib.specs.declared.calib.Key.{Key}
-use Rattle.sgm_calib.specs.declared.calib.CalibFault.{CalibFault}
-use Rattle.sgm_calib.specs.declared.calib.CalibFault.TheVariants as calib
+use Rattle.sgm_rectify.specs.declared.warp.WarpFault.{WarpFault}
+use Rattle.sgm_rectify.specs.declared.warp.WarpFault.TheVariants as warp
+use Rattle.sgm_calib.specs.declared.keys.Key.{Key}
+use Rattle.sgm_calib.specs.declared.keys.CalibFault.{CalibFault}
+use Rattle.sgm_calib.specs.declared.keys.CalibFault.TheVariants as calib
 use Rattle.sgm_calib.specs.Paths.{front_of, has_index, back_of}
 use Rattle.sgm_app.specs.declared.words.UsageFault.{UsageFault}
 use Rattle.sgm_app.specs.declared.words.UsageFault.TheVariants as usage
@@ -18,7 +20,7 @@ use Rattle.sgm_app.specs.declared.outcome.Input.TheVariants as input
 use Rattle.sgm_app.specs.declared.outcome.Output.{Output}
 use Rattle.sgm_app.specs.declared.outcome.Output.TheVariants.{Disparity, Heights, Report, Summary}
 use Rattle.sgm_app.specs.declared.outcome.Refusal.{Refusal}
-use Rattle.sgm_app.specs.declared.outcome.Refusal.TheVariants.{TooLong, Pgm, Calib, SizesDiffer, VolumeTooLarge}
+use Rattle.sgm_app.specs.declared.outcome.Refusal.TheVariants.{TooLong, Pgm, Calib, SizesDiffer, VolumeTooLarge, Warp}
 use Rattle.sgm_app.specs.declared.outcome.Outcome.{Outcome}
 use Rattle.sgm_app.specs.declared.outcome.Outcome.TheVariants.{Done, Usage, Refused, ReadFault, WriteFault, NoMemory}
 
@@ -74,7 +76,12 @@ calib_parts (calib.Missing key) = path_parts key (codes " is missing\n")
 calib_parts (calib.Unknown key) = path_parts key (codes " has an unknown name\n")
 calib_parts (calib.Type_ key) = path_parts key (codes " has the wrong type\n")
 calib_parts (calib.Range key) = path_parts key (codes " is out of range\n")
-calib_parts (calib.NotBuilt key) = path_parts key (codes " is not built\n")
+
+abbrev pub warp_parts : Side → WarpFault → List (List ℕ)
+warp_parts side (warp.Denominator corner) = codes "sgm: " ∷ side_word side ∷ codes " warp: denominator not positive at corner " ∷ decimal corner ∷ codes "\n" ∷ []
+warp_parts side (warp.MeshSize cols rows need_cols need_rows) =
+    codes "sgm: " ∷ side_word side ∷ codes " warp: mesh is " ∷ decimal cols ∷ codes "x" ∷ decimal rows ∷ codes ", "
+    ∷ decimal need_cols ∷ codes "x" ∷ decimal need_rows ∷ codes " needed\n" ∷ []
 
 -- the parts of a refusal's line
 abbrev pub refusal_parts : Refusal → List (List ℕ)
@@ -83,6 +90,7 @@ refusal_parts (Pgm side fault) = pgm_parts side fault
 refusal_parts (Calib fault) = calib_parts fault
 refusal_parts (SizesDiffer left right) = codes "sgm: sizes differ: " ∷ decimal left.width ∷ codes "x" ∷ decimal left.height ∷ codes " and " ∷ decimal right.width ∷ codes "x" ∷ decimal right.height ∷ codes "\n" ∷ []
 refusal_parts (VolumeTooLarge cells) = codes "sgm: volume of " ∷ decimal cells ∷ codes " cells is above 268435456\n" ∷ []
+refusal_parts (Warp side fault) = warp_parts side fault
 
 -- the parts of the line, none for Done
 abbrev pub parts_of : Outcome → List (List ℕ)

@@ -6,7 +6,7 @@ use Rattle.sgm_pgm.specs.declared.fault.PgmFault.{PgmFault}
 use Rattle.sgm_pgm.specs.Read.{Reads}
 use Rattle.sgm_calib.specs.Calibration.{Calibration}
 use Rattle.sgm_calib.specs.Read.{Reads as ReadsCalib}
-use Rattle.sgm_calib.specs.declared.calib.CalibFault.{CalibFault}
+use Rattle.sgm_calib.specs.declared.keys.CalibFault.{CalibFault}
 use Rattle.sgm_app.specs.Words.{Operands}
 
 -- each input as an image or a calibration, or as the first fault that its bytes have

@@ -7,10 +7,14 @@ use Rattle.sgm_base.specs.declared.limits.TheConstants.{MAX_IMAGE_BYTES}
 use Rattle.sgm_io.specs.Held.{Held}
 use Rattle.sgm_pgm.specs.declared.fault.PgmFault.{PgmFault}
 use Rattle.sgm_calib.specs.Calibration.{Calibration, plain}
-use Rattle.sgm_calib.specs.declared.calib.CalibFault.{CalibFault}
-use Rattle.sgm_calib.specs.declared.calib.TheConstants.{MAX_CALIB_BYTES}
-use Rattle.sgm_job.specs.Survey.{surveyed}
-use Rattle.sgm_job.specs.declared.job.Surveyed.{Surveyed}
+use Rattle.sgm_calib.specs.declared.keys.CalibFault.{CalibFault}
+use Rattle.sgm_calib.specs.declared.keys.TheConstants.{MAX_CALIB_BYTES}
+use Rattle.sgm_grid.specs.Cells.{Cells}
+use Rattle.sgm_grid.specs.Text.{grid_text}
+use Rattle.sgm_report.specs.Areas.{Area}
+use Rattle.sgm_report.specs.Table.{table_text}
+use Rattle.sgm_report.specs.declared.volumes.RegionTally.{RegionTally}
+use Rattle.sgm_job.specs.Survey.{Survey, surveyed}
 use Rattle.sgm_job.specs.declared.job.SurveyFault.{SurveyFault}
 use Rattle.sgm_job.specs.declared.job.SurveyFault.TheVariants as fault
 use Rattle.sgm_app.specs.Words.{Operands, operands, is_plain, read_of}
@@ -23,9 +27,9 @@ use Rattle.sgm_app.specs.declared.words.Options.TheVariants as options
 use Rattle.sgm_app.specs.declared.outcome.Input.{Input}
 use Rattle.sgm_app.specs.declared.outcome.Input.TheVariants as input
 use Rattle.sgm_app.specs.declared.outcome.Output.{Output}
-use Rattle.sgm_app.specs.declared.outcome.Output.TheVariants.{Disparity}
+use Rattle.sgm_app.specs.declared.outcome.Output.TheVariants.{Disparity, Heights, Report}
 use Rattle.sgm_app.specs.declared.outcome.Refusal.{Refusal}
-use Rattle.sgm_app.specs.declared.outcome.Refusal.TheVariants.{TooLong, Pgm, Calib, SizesDiffer, VolumeTooLarge}
+use Rattle.sgm_app.specs.declared.outcome.Refusal.TheVariants.{TooLong, Pgm, Calib, SizesDiffer, VolumeTooLarge, Warp}
 
 -- a file that is to be written
 pub record OutputFile : Type 0 where
@@ -67,9 +71,10 @@ with_calib (Ok calib) next = next calib
 abbrev pub refusal_of : SurveyFault → Refusal
 refusal_of (fault.SizesDiffer left right) = SizesDiffer left right
 refusal_of (fault.VolumeTooLarge cells) = VolumeTooLarge cells
+refusal_of (fault.Warp side found) = Warp side found
 
 -- the pair as it is surveyed
-abbrev pub with_survey : Result Surveyed SurveyFault → (Surveyed → Verdict) → Verdict
+abbrev pub with_survey : Result Survey SurveyFault → (Survey → Verdict) → Verdict
 with_survey (Err fault) next = refused (refusal_of fault)
 with_survey (Ok survey) next = next survey
 
@@ -77,9 +82,23 @@ with_survey (Ok survey) next = next survey
 abbrev pub calib_of : Operands → Readings → Result Calibration CalibFault
 calib_of asked readings = if is_plain asked then Ok plain else readings.calib
 
--- the files of a match
-abbrev pub outputs : Operands → Surveyed → List OutputFile
-outputs asked survey = record { output = Disparity; name = asked.out ++ codes ".pgm"; text = disparity_text survey.disp } ∷ []
+-- the file of the disparities
+abbrev pub disparity_file : Operands → Survey → OutputFile
+disparity_file asked survey = record { output = Disparity; name = asked.out ++ codes ".pgm"; text = disparity_text survey.disp }
+
+-- the file of the heights, where there is a grid
+abbrev pub heights_files : Operands → Option Cells → List OutputFile
+heights_files asked None = []
+heights_files asked (Some grid) = record { output = Heights; name = asked.out ++ codes ".asc"; text = grid_text grid } ∷ []
+
+-- the file of the report, where there are regions
+abbrev pub report_files : Operands → Option (List Area) → Option (List RegionTally) → List OutputFile
+report_files asked (Some areas) (Some tallies) = record { output = Report; name = asked.out ++ codes ".csv"; text = table_text areas tallies } ∷ []
+report_files asked _ _ = []
+
+-- the files of a match, in this order
+abbrev pub outputs : Operands → Calibration → Survey → List OutputFile
+outputs asked calib survey = disparity_file asked survey ∷ heights_files asked survey.grid ++ report_files asked calib.regions survey.tallies
 
 -- what the inputs call for that read like this
 unfoldable pub judged : Operands → Result Picture PgmFault → Result Picture PgmFault → Result Calibration CalibFault → Verdict
@@ -88,7 +107,7 @@ judged asked left right calib =
     with_image side.Right right (λ b.
     with_calib calib (λ c.
     with_survey (surveyed a b c) (λ survey.
-    files (outputs asked survey) (summary_text survey.disp)))))
+    files (outputs asked c survey) (summary_text survey.disp)))))
 
 -- what a match calls for
 unfoldable pub matched : Operands → Held → Readings → Verdict

@@ -60,6 +60,7 @@ fn samples(alloc: Global, number: u32, side: Side, size: Size) -> Result<Vec<u16
 fn image(alloc: Global, number: u32, side: Side, size: Size) -> Result<Image, AllocError>
     ensures { IfOk result (λ i. i ≡ pair_image number side size.width size.height) }
 {
+    // That the samples are few enough to be counted is seen by their number alone.
     let _count = size.pixels();
     let samples = samples(alloc, number, side, size)?;
     match Image::make(size, 255, samples) {

@@ -1,27 +1,34 @@
 //! Judging the inputs, and making the texts.
-ghost use Rattle.std.specs.Prelude.{◌≡◌, ◌<◌, ◌≤◌, [], length, All, IfOk, MatchResult, Result, string_bytes};
+ghost use Rattle.std.specs.Prelude.{◌≡◌, ◌<◌, ◌≤◌, ◌++◌, [], length, codes, All, IfOk, IfSome, OnOk, MatchResult, Result, option_map, string_bytes};
 ghost use Rattle.sgm_base.specs.Picture.{Picture};
 ghost use Rattle.sgm_pgm.specs.Read.{Reads};
 ghost use Rattle.sgm_pgm.specs.declared.fault.PgmFault.{PgmFault};
 ghost use Rattle.sgm_calib.specs.Calibration.{Calibration, plain};
-ghost use Rattle.sgm_calib.specs.declared.calib.CalibFault.{CalibFault};
+ghost use Rattle.sgm_calib.specs.declared.keys.CalibFault.{CalibFault};
 ghost use Rattle.sgm_job.specs.Bounds.{AtMost};
-ghost use Rattle.sgm_job.specs.Survey.{surveyed};
+ghost use Rattle.sgm_grid.specs.Text.{grid_text};
+ghost use Rattle.sgm_report.specs.Areas.{IsRegionName};
+ghost use Rattle.sgm_report.specs.Table.{table_text};
+ghost use Rattle.sgm_job.specs.Survey.{surveyed, tallies_of};
+ghost use Rattle.sgm_job.specs.Surveys.{seen};
+ghost use Rattle.sgm_app.specs.declared.outcome.Output.TheVariants.{Disparity, Heights, Report};
 ghost use Rattle.sgm_app.specs.Ends.{ShownBy};
 ghost use Rattle.sgm_app.specs.Stops.{judge_outcome};
 ghost use Rattle.sgm_app.specs.Judge.{side_bytes, JudgesImage, JudgesCalib, JudgesSurvey, CalibReads, IsNamed};
-ghost use Rattle.sgm_app.specs.Texts.{summary_text, demo_text};
-ghost use Rattle.sgm_app.specs.Verdict.{OutputFile, judged, files, outputs, with_calib, with_survey, refusal_of};
+ghost use Rattle.sgm_app.specs.Texts.{disparity_text, summary_text, demo_text};
+ghost use Rattle.sgm_app.specs.Verdict.{OutputFile, judged, files, heights_files, report_files, outputs, with_calib, with_survey, refusal_of};
 
 use crate::gather::Inputs;
 use crate::stops::JudgeStop;
 use crate::texts::{demo_text, disparity, output_name, summary};
 use crate::words::OperandWords;
 use crate::{Output, Refusal};
-use sgm_base::{Image, Side};
+use sgm_base::{DispMap, Image, Side};
 use sgm_calib::{Calib, CalibError};
+use sgm_grid::Grid;
 use sgm_job::{SurveyError, SurveyFault, Surveyed, survey};
 use sgm_pgm::{PgmError, read};
+use sgm_report::{Region, RegionTally, write_report};
 use std::alloc::{AllocError, Global};
 use std::marker::Model;
 
@@ -108,6 +115,7 @@ fn refusal(fault: SurveyFault) -> Refusal
     match fault {
         SurveyFault::SizesDiffer { left, right } => Refusal::SizesDiffer { left, right },
         SurveyFault::VolumeTooLarge { cells } => Refusal::VolumeTooLarge { cells },
+        SurveyFault::Warp { side, fault } => Refusal::Warp(side, fault),
     }
 }
 
@@ -123,6 +131,7 @@ fn judge_survey(
     requires workers { (1 ≤ workers) × (workers ≤ 16) }
     ensures verdict { JudgesSurvey (surveyed left.now right.now calib.now) result }
     ensures bound { IfOk result (λ survey. AtMost 4080 survey.disp.entries) }
+    ensures tallies { IfOk result (λ survey. (seen survey).tallies ≡ tallies_of survey.grid calib.now.regions) }
 {
     match survey(alloc, left, right, calib, strips, workers) {
         Ok(surveyed) => Ok(surveyed),
@@ -131,27 +140,135 @@ fn judge_survey(
     }
 }
 
+// The file of the disparities.
+fn disparity_file(
+    alloc: Global,
+    operands: &OperandWords<'_>,
+    disparities: &DispMap,
+) -> Result<OutputText, AllocError>
+    requires { AtMost 4080 disparities.now.entries }
+    ensures { IfOk result (λ file. file ≡ record { output = Disparity; name = operands.now.out ++ codes ".pgm"; text = disparity_text disparities.now }) }
+{
+    let text = disparity(alloc, disparities)?;
+    let name = output_name(alloc, operands.out(), ".pgm")?;
+    Ok(OutputText {
+        output: Output::Disparity,
+        name,
+        text,
+    })
+}
+
+// The file of the heights.
+fn heights_file(
+    alloc: Global,
+    operands: &OperandWords<'_>,
+    grid: &Grid,
+) -> Result<OutputText, AllocError>
+    ensures { IfOk result (λ file. file ≡ record { output = Heights; name = operands.now.out ++ codes ".asc"; text = grid_text grid.now }) }
+{
+    let mut text = Vec::new(alloc);
+    grid.write_asc(&mut text)?;
+    let name = output_name(alloc, operands.out(), ".asc")?;
+    Ok(OutputText {
+        output: Output::Heights,
+        name,
+        text,
+    })
+}
+
+// The file of the report.
+fn report_file(
+    alloc: Global,
+    operands: &OperandWords<'_>,
+    regions: &[Region],
+    tallies: &[RegionTally],
+) -> Result<OutputText, AllocError>
+    requires lengths { length tallies.now ≡ length regions.now }
+    requires names { All (λ area. IsRegionName area.name) regions.now }
+    ensures { IfOk result (λ file. file ≡ record { output = Report; name = operands.now.out ++ codes ".csv"; text = table_text regions.now tallies.now }) }
+{
+    let mut text = Vec::new(alloc);
+    write_report(regions, tallies, &mut text)?;
+    let name = output_name(alloc, operands.out(), ".csv")?;
+    Ok(OutputText {
+        output: Output::Report,
+        name,
+        text,
+    })
+}
+
+// Adds the file of the heights, where there is a grid.
+fn add_heights(
+    alloc: Global,
+    operands: &OperandWords<'_>,
+    grid: &Option<Grid>,
+    files: &mut Vec<OutputText>,
+) -> Result<(), AllocError>
+    ensures { OnOk result (files.new.items ≡ files.old.items ++ heights_files operands.now grid.now) }
+{
+    if let Some(grid) = grid {
+        files.push(heights_file(alloc, operands, grid)?)?;
+    }
+    Ok(())
+}
+
+// Adds the file of the report, where there are regions.
+fn add_report(
+    alloc: Global,
+    operands: &OperandWords<'_>,
+    regions: Option<&[Region]>,
+    tallies: &Option<Vec<RegionTally>>,
+    files: &mut Vec<OutputText>,
+) -> Result<(), AllocError>
+    requires lengths { IfSome regions (λ r. IfSome tallies.now (λ t. length t.items ≡ length r.now)) }
+    requires names { IfSome regions (λ r. All (λ area. IsRegionName area.name) r.now) }
+    ensures { OnOk result (files.new.items ≡ files.old.items ++ report_files operands.now (option_map (λ r. r.now) regions.entry) (option_map (λ t. t.items) tallies.now)) }
+{
+    if let (Some(regions), Some(tallies)) = (regions, tallies) {
+        files.push(report_file(alloc, operands, regions, tallies)?)?;
+    }
+    Ok(())
+}
+
+// The files that are to be written, in order.
+fn make_files(
+    alloc: Global,
+    operands: &OperandWords<'_>,
+    calib: &Calib,
+    survey: &Surveyed,
+) -> Result<Vec<OutputText>, AllocError>
+    requires bound { AtMost 4080 survey.now.disp.entries }
+    requires tallies { (seen survey.now).tallies ≡ tallies_of survey.now.grid calib.now.regions }
+    ensures { IfOk result (λ files. files.items ≡ outputs operands.now calib.now (seen survey.now)) }
+{
+    let mut files = Vec::with_capacity(alloc, 3)?;
+    files.push(disparity_file(alloc, operands, &survey.disp)?)?;
+    add_heights(alloc, operands, &survey.grid, &mut files)?;
+    add_report(
+        alloc,
+        operands,
+        calib.regions(),
+        &survey.tallies,
+        &mut files,
+    )?;
+    Ok(files)
+}
+
 fn make_texts(
     alloc: Global,
     operands: &OperandWords<'_>,
+    calib: &Calib,
     survey: &Surveyed,
 ) -> Result<Work, AllocError>
-    requires { AtMost 4080 survey.now.disp.entries }
-    ensures files { IfOk result (λ work. work.files.items ≡ outputs operands.now survey.now) }
+    requires bound { AtMost 4080 survey.now.disp.entries }
+    requires tallies { (seen survey.now).tallies ≡ tallies_of survey.now.grid calib.now.regions }
+    ensures files { IfOk result (λ work. work.files.items ≡ outputs operands.now calib.now (seen survey.now)) }
     ensures summary { IfOk result (λ work. string_bytes work.summary ≡ summary_text survey.now.disp) }
     ensures named { IfOk result (λ work. All (IsNamed operands.now) work.files.items) }
     ensures some { IfOk result (λ work. 0 < length work.files.items) }
 {
-    let text = disparity(alloc, &survey.disp)?;
-    let name = output_name(alloc, operands.out(), ".pgm")?;
+    let files = make_files(alloc, operands, calib, survey)?;
     let summary = summary(alloc, &survey.disp)?;
-    let files = vec![in alloc;
-        OutputText {
-            output: Output::Disparity,
-            name,
-            text
-        },
-    ]?;
     Ok(Work { files, summary })
 }
 
@@ -168,13 +285,13 @@ fn survey_texts(
     requires strips { (1 ≤ strips) × (strips ≤ 64) }
     requires workers { (1 ≤ workers) × (workers ≤ 16) }
     ensures verdict { MatchResult result
-        (λ work. with_survey (surveyed left.now right.now calib.now) (λ s. files (outputs operands.now s) (summary_text s.disp)) ≡ files work.files.items (string_bytes work.summary))
-        (λ stop. ShownBy (with_survey (surveyed left.now right.now calib.now) (λ s. files (outputs operands.now s) (summary_text s.disp))) (judge_outcome stop)) }
+        (λ work. with_survey (surveyed left.now right.now calib.now) (λ s. files (outputs operands.now calib.now s) (summary_text s.disp)) ≡ files work.files.items (string_bytes work.summary))
+        (λ stop. ShownBy (with_survey (surveyed left.now right.now calib.now) (λ s. files (outputs operands.now calib.now s) (summary_text s.disp))) (judge_outcome stop)) }
     ensures named { IfOk result (λ work. All (IsNamed operands.now) work.files.items) }
     ensures some { IfOk result (λ work. 0 < length work.files.items) }
 {
     match judge_survey(alloc, left, right, calib, strips, workers) {
-        Ok(surveyed) => match make_texts(alloc, operands, &surveyed) {
+        Ok(surveyed) => match make_texts(alloc, operands, calib, &surveyed) {
             Ok(work) => Ok(work),
             Err(_) => Err(JudgeStop::NoMemory),
         },

@@ -2,8 +2,9 @@
 ghost use Rattle.std.specs.Prelude.{◌≡◌, ◌≤◌, ◌++◌, ◌∷◌, [], ℕ, List, IsTrue, map, codes, decimal};
 ghost use Rattle.std.specs.List.{concat};
 ghost use Rattle.sgm_io.specs.Sink.{SinkFaults, WritesWhole};
+ghost use Rattle.sgm_rectify.specs.declared.warp.WarpFault.TheVariants.{MeshSize};
 ghost use Rattle.sgm_app.specs.declared.outcome.Refusal.TheVariants.{SizesDiffer};
-ghost use Rattle.sgm_app.specs.Lines.{input_word, side_word, output_word, line_of, parts_of, usage_parts, refusal_parts, pgm_parts, path_parts, calib_parts, TakesLine};
+ghost use Rattle.sgm_app.specs.Lines.{input_word, side_word, output_word, line_of, parts_of, usage_parts, refusal_parts, pgm_parts, path_parts, calib_parts, warp_parts, TakesLine};
 
 use crate::{Input, Outcome, Output, Refusal, UsageFault};
 use itoa::Buffer;
@@ -11,6 +12,7 @@ use sgm_base::{Side, Size};
 use sgm_calib::{CalibFault, Key};
 use sgm_io::{Sink, SinkError, write_whole};
 use sgm_pgm::PgmFault;
+use sgm_rectify::WarpFault;
 
 fn input_word(input: Input) -> &'static str
     ensures { result.now ≡ input_word input }
@@ -204,6 +206,58 @@ fn write_pgm<E: Sink>(side: Side, fault: PgmFault, err: &mut E) -> Result<(), Si
     }
 }
 
+fn write_mesh_size<E: Sink>(
+    side: Side,
+    have: (u32, u32),
+    need: (u32, u32),
+    err: &mut E,
+) -> Result<(), SinkError>
+    ensures written { IsTrue E.tells → WritesWhole (concat (warp_parts side (MeshSize have.0 have.1 need.0 need.1))) result (E.written err.old) (E.written err.new) }
+    ensures faults { SinkFaults result (E.faults err.old) (E.faults err.new) }
+{
+    let mut cols = Buffer::new();
+    let mut rows = Buffer::new();
+    let mut need_cols = Buffer::new();
+    let mut need_rows = Buffer::new();
+    write_parts(
+        err,
+        &[
+            "sgm: ",
+            side_word(side),
+            " warp: mesh is ",
+            cols.format(have.0),
+            "x",
+            rows.format(have.1),
+            ", ",
+            need_cols.format(need.0),
+            "x",
+            need_rows.format(need.1),
+            " needed\n",
+        ],
+    )
+}
+
+fn write_warp<E: Sink>(side: Side, fault: WarpFault, err: &mut E) -> Result<(), SinkError>
+    ensures written { IsTrue E.tells → WritesWhole (concat (warp_parts side fault)) result (E.written err.old) (E.written err.new) }
+    ensures faults { SinkFaults result (E.faults err.old) (E.faults err.new) }
+{
+    match fault {
+        WarpFault::Denominator { corner } => write_side_number(
+            side,
+            " warp: denominator not positive at corner ",
+            corner as usize,
+            "\n",
+            err,
+        ),
+        WarpFault::MeshSize {
+            cols,
+            rows,
+            need_cols,
+            need_rows,
+        } => write_mesh_size(side, (cols, rows), (need_cols, need_rows), err),
+    }
+}
+
 fn write_key<E: Sink>(key: Key, what: &'static str, err: &mut E) -> Result<(), SinkError>
     ensures written { IsTrue E.tells → WritesWhole (concat (path_parts key what.now)) result (E.written err.old) (E.written err.new) }
     ensures faults { SinkFaults result (E.faults err.old) (E.faults err.new) }
@@ -236,7 +290,6 @@ fn write_calib<E: Sink>(fault: CalibFault, err: &mut E) -> Result<(), SinkError>
         CalibFault::Unknown(key) => write_key(key, " has an unknown name\n", err),
         CalibFault::Type_(key) => write_key(key, " has the wrong type\n", err),
         CalibFault::Range(key) => write_key(key, " is out of range\n", err),
-        CalibFault::NotBuilt(key) => write_key(key, " is not built\n", err),
     }
 }
 
@@ -251,6 +304,7 @@ fn write_refusal<E: Sink>(refusal: Refusal, err: &mut E) -> Result<(), SinkError
         Refusal::Pgm(side, fault) => write_pgm(side, fault, err),
         Refusal::Calib(fault) => write_calib(fault, err),
         Refusal::SizesDiffer { left, right } => write_sizes_differ(left, right, err),
+        Refusal::Warp(side, fault) => write_warp(side, fault, err),
         Refusal::VolumeTooLarge { cells } => write_number(
             err,
             "sgm: volume of ",

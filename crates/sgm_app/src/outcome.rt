@@ -5,6 +5,7 @@ use crate::UsageFault;
 use sgm_base::{Side, Size};
 use sgm_calib::CalibFault;
 use sgm_pgm::PgmFault;
+use sgm_rectify::WarpFault;
 
 /// A file that is read, in the order in which they are fetched.
 #[derive(Clone, Copy, Debug, PartialEq, Eq)]
@@ -33,6 +34,8 @@ pub enum Refusal {
     SizesDiffer { left: Size, right: Size },
     /// Width * height * count is above the limit.
     VolumeTooLarge { cells: u64 },
+    /// The image of this side can't be rectified by its warp.
+    Warp(Side, WarpFault),
 }
 
 /// How a run ended.

@@ -78,6 +78,7 @@ pub fn demo_text(alloc: Global, disparities: &DispMap) -> Result<String, AllocEr
     requires { AtMost 4080 disparities.now.entries }
     ensures { IfOk result (λ text. string_bytes text ≡ demo_text disparities.now) }
 {
+    // That the map has at most 4096 x 4096 entries is seen by its size alone.
     let _size = disparities.size();
     let total = sample_sum(disparities.entries());
     let mut text = summary(alloc, disparities)?;

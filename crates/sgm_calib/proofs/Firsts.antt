@@ -1,8 +1,8 @@
 -- The first fault of a list of checks.
 use Rattle.std.proofs.Common.{◌≡◌, List, [], ◌∷◌, ◌++◌, IsTrue, is_none, Option, Some, None, refl, ap}
 use Rattle.std.specs.List.{list_all}
-use Rattle.sgm_calib.specs.Judge.{first_of, IsFirst}
-use Rattle.sgm_calib.specs.declared.calib.CalibFault.{CalibFault}
+use Rattle.sgm_calib.specs.Checks.{first_of, IsFirst}
+use Rattle.sgm_calib.specs.declared.keys.CalibFault.{CalibFault}
 
 pub IsFirst-from_first_of : (checks : List (Option CalibFault)) (fault : CalibFault) → first_of checks ≡ Some fault → IsFirst checks fault
 IsFirst-from_first_of [] fault found = absurd (cc)

@@ -7,7 +7,8 @@ use Rattle.serde_json.specs.Data.{Data}
 use Rattle.serde_json.specs.Find.{as_object}
 use Rattle.serde_json.specs.View.{members_view}
 use Rattle.serde_json.specs.declared.value.Value.{Value}
-use Rattle.sgm_calib.specs.Judge.{is_name, has_only, members_fault, object_fault, unknown_fault}
+use Rattle.sgm_calib.specs.declared.keys.Key.{Key}
+use Rattle.sgm_calib.specs.Checks.{is_name, has_only, members_fault, object_fault, unknown_fault}
 
 -- whether a name is among references to names
 abbrev pub is_among : List (Bor (List ℕ)) → List ℕ → Bool
@@ -28,11 +29,11 @@ list_all-keys names (m ∷ ms) =
     ∙ ap (λ b. is_name (names_at names) (string_bytes m.0) && b) (list_all-keys names ms)
 
 -- the check of an object by the keys of its map
-pub object_fault-keys : (number : ℕ) (names : List (Bor (List ℕ))) (d : Data) (ms : List (String Global × Value)) (known : Bool)
+pub object_fault-keys : (key : Key) (names : List (Bor (List ℕ))) (d : Data) (ms : List (String Global × Value)) (known : Bool)
     → Some (members_view ms) ≡ as_object d
     → known ≡ list_all (λ name. is_among names (string_bytes name)) (map (λ m. m.0) ms)
-    → object_fault number (names_at names) d ≡ unknown_fault number known
+    → object_fault key (names_at names) d ≡ unknown_fault key known
 unfolding object_fault
-object_fault-keys number names d ms known is_object tested =
-    ap (members_fault number (names_at names)) (sym is_object)
-    ∙ ap (unknown_fault number) (sym (tested ∙ list_all-keys names ms))
+object_fault-keys k names d ms known is_object tested =
+    ap (members_fault k (names_at names)) (sym is_object)
+    ∙ ap (unknown_fault k) (sym (tested ∙ list_all-keys names ms))

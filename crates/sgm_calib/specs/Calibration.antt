@@ -1,7 +1,15 @@
--- What contracts see of a calibration.
-use Rattle.std.specs.Prelude.{ℕ, pos}
+-- What contracts see of a calibration, and what every calibration keeps.
+use Rattle.std.specs.Prelude.{ℕ, ◌≤◌, pos, List, All, Option, None, IfSome, is_some, IsTrue, length}
 use Rattle.sgm_base.specs.Disparities.{Disparities}
 use Rattle.sgm_census.specs.Windows.{WindowSides}
+use Rattle.sgm_rectify.specs.declared.warp.Warp.{Warp}
+use Rattle.sgm_rectify.specs.declared.warp.Warp.TheVariants.{Identity}
+use Rattle.sgm_rectify.specs.Warps.{IsWarp}
+use Rattle.sgm_height.specs.declared.camera.Camera.{Camera}
+use Rattle.sgm_height.specs.Camera.{IsCamera}
+use Rattle.sgm_grid.specs.declared.grid_spec.GridSpec.{GridSpec}
+use Rattle.sgm_grid.specs.Cells.{IsGridSpec}
+use Rattle.sgm_report.specs.Areas.{Area, IsArea}
 
 -- the penalties of a change of the index by one, and by more
 pub record Penalties : Type 0 where
@@ -12,11 +20,35 @@ pub record Calibration : Type 0 where
   pub span : Disparities
   pub window : WindowSides
   pub penalties : Penalties
+  pub left : Warp
+  pub right : Warp
+  pub camera : Option Camera
+  pub grid : Option GridSpec
+  pub regions : Option (List Area)
+
+abbrev pub settings : Disparities → WindowSides → ℕ → ℕ → Warp → Warp → Option Camera → Option GridSpec → Option (List Area) → Calibration
+settings span window near far left right camera grid regions = record {
+  span = span;
+  window = window;
+  penalties = record { near = near; far = far };
+  left = left;
+  right = right;
+  camera = camera;
+  grid = grid;
+  regions = regions;
+}
 
 -- the settings for the word `-`
 abbrev pub plain : Calibration
-plain = record {
-  span = record { first = pos 0; count = 64 };
-  window = record { width = 9; height = 7 };
-  penalties = record { near = 10; far = 120 };
-}
+plain = settings (record { first = pos 0; count = 64 }) (record { width = 9; height = 7 }) 10 120 Identity Identity None None None
+
+-- the ranges of warps, camera and grid; a camera where there is a grid; a grid where there are regions, and each of them in it
+pub record IsCalibration (calib : Calibration) : Type 0 where
+  pub left_kept : IsWarp calib.left
+  pub right_kept : IsWarp calib.right
+  pub camera_kept : IfSome calib.camera IsCamera
+  pub grid_kept : IfSome calib.grid IsGridSpec
+  pub grid_has_camera : IfSome calib.grid (λ _. IsTrue (is_some calib.camera))
+  pub regions_have_grid : IfSome calib.regions (λ _. IsTrue (is_some calib.grid))
+  pub regions_inside : IfSome calib.grid (λ spec. IfSome calib.regions (λ areas. All (IsArea spec) areas))
+  pub regions_few : IfSome calib.regions (λ areas. length areas ≤ 1000)

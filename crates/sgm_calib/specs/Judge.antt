@@ -1,113 +1,48 @@
--- What the key table says of a value: the calibration, or the first fault. The order is that of the numbers, depth
--- first: for a key that it is missing, its type, its range; for an object its type, an unknown name, its keys. `version`
--- alone comes before the unknown names of the value itself.
-use Rattle.std.specs.Prelude.{◌≡◌, ℕ, ℤ, pos, unsigned_abs, Bool, true, false, ◌&&◌, if◌then◌else◌, List, [], ◌∷◌, ◌++◌, IsTrue, is_none, map, codes, Option, Some, None, unwrap_or, Result, Ok, Err}
-use Rattle.std.specs.List.{list_any, list_all}
+-- What the key table says of a value: the calibration, or the first fault. The order is that of the numbers, depth first;
+-- `version` alone comes before the unknown names of the value itself.
+use Rattle.std.specs.Prelude.{ℕ, ℤ, pos, unsigned_abs, Bool, if◌then◌else◌, List, [], ◌∷◌, map, codes, Option, Some, None, option_map, Result, Ok, Err}
 use Rattle.std.specs.Option.{option_or}
 use Rattle.std.specs.Result.{result_err}
-use Rattle.std.specs.Str.{bytes_eq}
-use Rattle.serde_json.specs.Data.{Data, null, Members, no_members, member}
+use Rattle.serde_json.specs.Data.{Data}
 use Rattle.serde_json.specs.Find.{get, as_object}
 use Rattle.sgm_base.specs.Disparities.{Disparities}
 use Rattle.sgm_census.specs.Windows.{WindowSides}
-use Rattle.sgm_calib.specs.declared.calib.Key.{Key}
-use Rattle.sgm_calib.specs.declared.calib.CalibFault.{CalibFault}
-use Rattle.sgm_calib.specs.declared.calib.CalibFault.TheVariants.{Version, Missing, Unknown, Type_, Range, NotBuilt}
+use Rattle.sgm_height.specs.declared.camera.Camera.{Camera}
+use Rattle.sgm_grid.specs.declared.grid_spec.GridSpec.{GridSpec}
+use Rattle.sgm_calib.specs.declared.keys.CalibFault.{CalibFault}
+use Rattle.sgm_calib.specs.declared.keys.CalibFault.TheVariants.{Version, Missing}
 use Rattle.sgm_calib.specs.Calibration.{Calibration, Penalties}
-use Rattle.sgm_calib.specs.Table.{whole, whole_at, Row, Section, between, Entry, section, unbuilt, entries, top_names, names_of}
-
--- the key of a number that stands in no region
-abbrev pub key : ℕ → Key
-key number = record { number = number; index = 0 }
-
--- the first fault of some checks
-abbrev pub first_of : List (Option CalibFault) → Option CalibFault
-first_of [] = None
-first_of (fault ∷ later) = option_or fault (first_of later)
-
--- every check before this fault passes
-abbrev pub IsFirst : List (Option CalibFault) → CalibFault → Type 0
-IsFirst checks fault =
-    (before : List (Option CalibFault)) × (after : List (Option CalibFault)) × (checks ≡ before ++ Some fault ∷ after) × IsTrue (list_all is_none before)
-
--- ---- one key
-
-abbrev pub or_wrong_type : ℕ → Option ℤ → Result ℤ CalibFault
-or_wrong_type number None = Err (Type_ (key number))
-or_wrong_type number (Some z) = Ok z
-
-abbrev pub or_missing : ℕ → Option Data → Result ℤ CalibFault
-or_missing number None = Err (Missing (key number))
-or_missing number (Some d) = or_wrong_type number (whole d)
-
--- the whole number under a name of an object, or what is wrong: it is missing, or its type
-unfoldable pub number_in : Data → ℕ → List ℕ → Result ℤ CalibFault
-number_in holder number name = or_missing number (get name holder)
-
--- the fault where a number is out of range
-abbrev pub or_out_of_range : CalibFault → (ℤ → Bool) → Result ℤ CalibFault → Result ℤ CalibFault
-or_out_of_range fault range (Err earlier) = Err earlier
-or_out_of_range fault range (Ok z) = if range z then Ok z else Err fault
-
--- the number of a row in its object, or what is wrong: it is missing, its type, its range
-abbrev pub row_in : Data → Row → Result ℤ CalibFault
-row_in holder row = or_out_of_range (Range (key row.number)) (row.range holder) (number_in holder row.number row.name)
+use Rattle.sgm_calib.specs.Table.{key, whole_at, field, Section, between, Entry, section, warps, regions, entries, top_names, names_of}
+use Rattle.sgm_calib.specs.Checks.{first_of, number_in, or_out_of_range, object_fault, type_fault, rows_fault, value_at}
+use Rattle.sgm_calib.specs.WarpKeys.{warps_fault, warp_in}
+use Rattle.sgm_calib.specs.RegionKeys.{regions_fault, regions_in}
 
 -- what is wrong with the version: it is missing, its type, or it is another than 1
 unfoldable pub version_fault : Data → Option CalibFault
-version_fault top = result_err (or_out_of_range Version (between (pos 1) (pos 1)) (number_in top 2 (codes "version")))
+version_fault top = result_err (or_out_of_range Version (between (pos 1) (pos 1)) (number_in top (field (key 2) (codes "version"))))
 
--- ---- objects
+-- what is wrong with the object that a section is: the object itself, its keys by number
+unfoldable pub held_fault : Section → Data → Option CalibFault
+held_fault s d = option_or (object_fault s.field.key (names_of s.rows) d) (rows_fault s.rows d)
 
-abbrev pub is_name : List (List ℕ) → List ℕ → Bool
-is_name names name = list_any (λ known. bytes_eq known name) names
+abbrev pub section_fault_of : Section → Bool → Option Data → Option CalibFault
+section_fault_of s required None = if required then Some (Missing s.field.key) else None
+section_fault_of s required (Some d) = held_fault s d
 
--- whether an object has no name but these
-abbrev pub has_only : List (List ℕ) → Members → Bool
-has_only names no_members = true
-has_only names (member name d ms) = is_name names name && has_only names ms
-
-abbrev pub unknown_fault : ℕ → Bool → Option CalibFault
-unknown_fault number true = None
-unknown_fault number false = Some (Unknown (key number))
-
-abbrev pub members_fault : ℕ → List (List ℕ) → Option Members → Option CalibFault
-members_fault number names None = Some (Type_ (key number))
-members_fault number names (Some ms) = unknown_fault number (has_only names ms)
-
--- what is wrong with an object itself: its type, or a name that isn't among these
-unfoldable pub object_fault : ℕ → List (List ℕ) → Data → Option CalibFault
-object_fault number names d = members_fault number names (as_object d)
-
--- what is wrong with a section: it is missing, its object itself, its keys by number
-abbrev pub section_fault_of : Section → Option Data → Option CalibFault
-section_fault_of s None = Some (Missing (key s.number))
-section_fault_of s (Some d) = option_or (object_fault s.number (names_of s) d) (first_of (map (λ row. result_err (row_in d row)) s.rows))
-
+-- what is wrong with a section: it is missing and must be there, or what is wrong with its object
 unfoldable pub section_fault : Data → Section → Option CalibFault
-section_fault top s = section_fault_of s (get s.name top)
-
--- a key that isn't built yet is a fault where it stands
-abbrev pub unbuilt_fault_of : ℕ → Option Data → Option CalibFault
-unbuilt_fault_of number None = None
-unbuilt_fault_of number (Some d) = Some (NotBuilt (key number))
-
-unfoldable pub unbuilt_fault : Data → ℕ → List ℕ → Option CalibFault
-unbuilt_fault top number name = unbuilt_fault_of number (get name top)
+section_fault top s = section_fault_of s (s.required top) (get s.field.name top)
 
 abbrev pub entry_fault : Data → Entry → Option CalibFault
 entry_fault top (section s) = section_fault top s
-entry_fault top (unbuilt number name) = unbuilt_fault top number name
+entry_fault top warps = warps_fault top
+entry_fault top regions = regions_fault top
 
 -- ---- the value
 
-abbrev pub type_fault : ℕ → Option Members → Option CalibFault
-type_fault number None = Some (Type_ (key number))
-type_fault number (Some ms) = None
-
 -- what is wrong with the value itself: its type, its version, an unknown name
 unfoldable pub top_fault : Data → Option CalibFault
-top_fault top = first_of (type_fault 1 (as_object top) ∷ version_fault top ∷ object_fault 1 top_names top ∷ [])
+top_fault top = first_of (type_fault (key 1) (as_object top) ∷ version_fault top ∷ object_fault (key 1) top_names top ∷ [])
 
 -- what is wrong with what stands in it
 unfoldable pub entries_fault : Data → Option CalibFault
@@ -118,10 +53,6 @@ abbrev pub fault_in : Data → Option CalibFault
 fault_in top = option_or (top_fault top) (entries_fault top)
 
 -- ---- the calibration that a value without a fault is
-
--- the value under a name
-abbrev pub value_at : List ℕ → Data → Data
-value_at name d = unwrap_or (get name d) null
 
 -- the whole number under the second name of the object under the first
 abbrev pub number_at : List ℕ → List ℕ → Data → ℤ
@@ -145,8 +76,47 @@ penalties_in top = record {
   far = unsigned_abs (number_at (codes "penalties") (codes "p2") top);
 }
 
+-- the camera that an object is
+unfoldable pub camera_of : Data → Camera
+camera_of d = record {
+  focal = whole_at (codes "focal") d;
+  baseline = whole_at (codes "baseline") d;
+  cx = whole_at (codes "cx") d;
+  cy = whole_at (codes "cy") d;
+  doffs = whole_at (codes "doffs") d;
+  mount = whole_at (codes "mount") d;
+  near = whole_at (codes "near") d;
+  far = whole_at (codes "far") d;
+}
+
+-- the grid that an object is
+unfoldable pub grid_of : Data → GridSpec
+grid_of d = record {
+  west = whole_at (codes "west") d;
+  south = whole_at (codes "south") d;
+  cell = whole_at (codes "cell") d;
+  cols = unsigned_abs (whole_at (codes "cols") d);
+  rows = unsigned_abs (whole_at (codes "rows") d);
+}
+
+-- the camera and the grid of a value, where it has them
+unfoldable pub camera_in : Data → Option Camera
+camera_in top = option_map camera_of (get (codes "camera") top)
+
+unfoldable pub grid_in : Data → Option GridSpec
+grid_in top = option_map grid_of (get (codes "grid") top)
+
 abbrev pub calibration_in : Data → Calibration
-calibration_in top = record { span = span_in top; window = window_in top; penalties = penalties_in top }
+calibration_in top = record {
+  span = span_in top;
+  window = window_in top;
+  penalties = penalties_in top;
+  left = warp_in (codes "left") top;
+  right = warp_in (codes "right") top;
+  camera = camera_in top;
+  grid = grid_in top;
+  regions = regions_in top;
+}
 
 abbrev pub unless : Option CalibFault → Calibration → Result Calibration CalibFault
 unless None calibration = Ok calibration

@@ -1,6 +1,9 @@
 pub mod Calibration
+pub mod Checks
 pub mod Judge
 pub mod Numbers
 pub mod Paths
 pub mod Read
+pub mod RegionKeys
 pub mod Table
+pub mod WarpKeys

@@ -1,6 +1,6 @@
 -- How a key is printed.
 use Rattle.std.specs.Prelude.{ℕ, Bool, ◌&&◌, nat_le, if◌then◌else◌, List, [], ◌∷◌, ◌++◌, codes, decimal, slice_index_or}
-use Rattle.sgm_calib.specs.declared.calib.Key.{Key}
+use Rattle.sgm_calib.specs.declared.keys.Key.{Key}
 
 -- the keys' paths by their numbers, the first of them at 1; for a key of a region what follows the region's place
 unfoldable pub parts : List (List ℕ)

@@ -4,10 +4,10 @@ use Rattle.serde_json.specs.Data.{Data}
 use Rattle.serde_json.specs.Read.{read}
 use Rattle.sgm_calib.specs.Calibration.{Calibration}
 use Rattle.sgm_calib.specs.Judge.{judged}
-use Rattle.sgm_calib.specs.declared.calib.CalibFault.{CalibFault}
-use Rattle.sgm_calib.specs.declared.calib.CalibFault.TheVariants.{Json}
-use Rattle.sgm_calib.specs.declared.calib.CalibError.{CalibError}
-use Rattle.sgm_calib.specs.declared.calib.CalibError.TheVariants.{Fault, NoMemory}
+use Rattle.sgm_calib.specs.declared.keys.CalibFault.{CalibFault}
+use Rattle.sgm_calib.specs.declared.keys.CalibFault.TheVariants.{Json}
+use Rattle.sgm_calib.specs.declared.keys.CalibError.{CalibError}
+use Rattle.sgm_calib.specs.declared.keys.CalibError.TheVariants.{Fault, NoMemory}
 
 -- the value that the reading of `serde_json` gives
 pub record IsValue (bytes : List ℕ) (d : Data) : Type 0 where

@@ -1,174 +1,46 @@
-ghost use Rattle.std.specs.Prelude.{◌≡◌, [], map, slice_index_or};
-ghost use Rattle.sgm_calib.specs.Calibration.{plain};
-ghost use Rattle.sgm_calib.specs.Paths.{part_of, has_index, front_of, back_of};
+ghost use Rattle.std.specs.Prelude.{◌≡◌, option_map};
+ghost use Rattle.sgm_rectify.specs.Warps.{IsWarp};
 ghost use Rattle.sgm_energy.specs.Pens.{p1_of, p2_of};
+ghost use Rattle.sgm_calib.specs.Calibration.{plain, IsCalibration};
 
 use sgm_base::Span;
 use sgm_census::Window;
 use sgm_energy::Pen;
+use sgm_grid::GridSpec;
+use sgm_height::Camera;
+use sgm_rectify::Warp;
+use sgm_report::Region;
 use std::marker::Model;
 
-/// The greatest length of a calibration file, in bytes.
-pub const MAX_CALIB_BYTES: usize = 16_777_216;
-
-/// A key of the calibration file: its number in the key table, and for a key of a region the region's
-/// place in the list, else 0.
-#[derive(Clone, Copy, Debug, PartialEq, Eq)]
-pub struct Key {
-    pub number: u8,
-    pub index: u32,
-}
-
-/// The keys' paths by their numbers, the first of them at 1. For a key of a region it is what follows the
-/// region's place.
-const PARTS: [&str; 50] = [
-    "",
-    "top",
-    "version",
-    "disparities",
-    "disparities.first",
-    "disparities.count",
-    "census",
-    "census.width",
-    "census.height",
-    "penalties",
-    "penalties.p1",
-    "penalties.p2",
-    "warp",
-    "warp.left",
-    "warp.left.kind",
-    "warp.left.matrix",
-    "warp.left.step",
-    "warp.left.cols",
-    "warp.left.rows",
-    "warp.left.nodes",
-    "warp.right",
-    "warp.right.kind",
-    "warp.right.matrix",
-    "warp.right.step",
-    "warp.right.cols",
-    "warp.right.rows",
-    "warp.right.nodes",
-    "camera",
-    "camera.focal",
-    "camera.baseline",
-    "camera.cx",
-    "camera.cy",
-    "camera.doffs",
-    "camera.mount",
-    "camera.near",
-    "camera.far",
-    "grid",
-    "grid.west",
-    "grid.south",
-    "grid.cell",
-    "grid.cols",
-    "grid.rows",
-    "regions",
-    "]",
-    "].name",
-    "].col",
-    "].row",
-    "].cols",
-    "].rows",
-    "].base",
-];
-
-fn text_at(texts: &[&'static str], index: usize) -> &'static str
-    ensures { result.now ≡ slice_index_or (map (λ text. text.now) texts.now) index [] }
-{
-    if index < texts.len() {
-        texts[index]
-    } else {
-        ""
-    }
-}
-
-#[tactic(auto, unfolding(crate::specs::Paths::part_of, crate::specs::Paths::parts))]
-fn part(number: u8) -> &'static str
-    ensures { result.now ≡ part_of number }
-{
-    text_at(&PARTS, number as usize)
-}
-
-impl Key {
-    /// Whether the key belongs to a region. It is then printed as its front, its index in decimal and its
-    /// back, and else as its front alone.
-    pub fn has_index(&self) -> bool
-        ensures { result ≡ has_index self.now.number }
-    {
-        43 <= self.number && self.number <= 49
-    }
-
-    /// The key's path, as `disparities.first`, or what stands before the index.
-    pub fn front(&self) -> &'static str
-        ensures { result.now ≡ front_of self.now.number }
-    {
-        if self.has_index() {
-            "regions["
-        } else {
-            part(self.number)
-        }
-    }
-
-    /// What follows the index, or nothing.
-    pub fn back(&self) -> &'static str
-        ensures { result.now ≡ back_of self.now.number }
-    {
-        if self.has_index() {
-            part(self.number)
-        } else {
-            ""
-        }
-    }
-}
-
-/// What is wrong with a calibration file.
-#[derive(Clone, Copy, Debug, PartialEq, Eq)]
-pub enum CalibFault {
-    /// It isn't JSON.
-    Json,
-    /// The version is none that is known.
-    Version,
-    /// A key that must be there isn't.
-    Missing(Key),
-    /// This object has a name that the key table doesn't give it.
-    Unknown(Key),
-    /// The key's value has the wrong type.
-    Type_(Key),
-    /// The key's value is out of range.
-    Range(Key),
-    /// The key stands there, and its reading isn't built yet.
-    NotBuilt(Key),
-}
-
-/// Why there is no calibration.
-#[derive(Clone, Copy, Debug, PartialEq, Eq)]
-pub enum CalibError {
-    Fault(CalibFault),
-    NoMemory,
-}
-
-/// The settings of a survey.
+/// The settings of a survey. Warps, camera and grid keep their ranges. There is a camera where there is a
+/// grid, and a grid where there are regions, each of which lies in it.
 #[derive(Drop)]
 pub struct Calib {
     pub(crate) span: Span,
     pub(crate) window: Window,
     pub(crate) pen: Pen,
+    pub(crate) left: Warp,
+    pub(crate) right: Warp,
+    pub(crate) camera: Option<Camera>,
+    pub(crate) grid: Option<GridSpec>,
+    pub(crate) regions: Option<Vec<Region>>,
 }
 
 impl Model for Calib {
-    ghost use Rattle.sgm_calib.specs.Calibration.{Calibration};
+    ghost use Rattle.std.specs.Prelude.{option_map};
+    ghost use Rattle.sgm_calib.specs.Calibration.{Calibration, IsCalibration, settings};
     ghost use Rattle.sgm_energy.specs.Pens.{p1_of, p2_of};
 
     ghost Value = { Calibration };
 
-    ghost view = { λ c. record { span = c.span; window = c.window; penalties = record { near = p1_of c.pen; far = p2_of c.pen } } };
+    ghost view = { λ c. settings c.span c.window (p1_of c.pen) (p2_of c.pen) c.left c.right c.camera c.grid (option_map (λ v. v.items) c.regions) };
+
+    ghost invariant = { λ c. IsCalibration (settings c.span c.window (p1_of c.pen) (p2_of c.pen) c.left c.right c.camera c.grid (option_map (λ v. v.items) c.regions)) };
 }
 
 impl Calib {
-    /// The settings where no file is named: 64 disparities from 0 on, a window of 9 x 7 pixels, and the
-    /// penalties 10 and 120.
+    /// The settings where no file is named: 64 disparities from 0 on, a window of 9 x 7 pixels, the
+    /// penalties 10 and 120, no warp, and neither camera nor grid nor regions. Takes no memory.
     pub fn plain() -> Calib
         ensures { result ≡ plain }
     {
@@ -185,6 +57,11 @@ impl Calib {
                 height: 7,
             },
             pen,
+            left: Warp::Identity,
+            right: Warp::Identity,
+            camera: None,
+            grid: None,
+            regions: None,
         }
     }
 
@@ -208,5 +85,48 @@ impl Calib {
         ensures far { p2_of result ≡ self.now.penalties.far }
     {
         self.pen
+    }
+
+    /// The warp of the left image.
+    pub fn left(&self) -> &Warp
+        ensures value { result.now ≡ self.now.left }
+        ensures kept { IsWarp result.now }
+    {
+        &self.left
+    }
+
+    /// The warp of the right image.
+    pub fn right(&self) -> &Warp
+        ensures value { result.now ≡ self.now.right }
+        ensures kept { IsWarp result.now }
+    {
+        &self.right
+    }
+
+    /// The cameras, where heights can be told.
+    pub fn camera(&self) -> Option<Camera>
+        ensures value { result ≡ self.now.camera }
+        ensures kept { IsCalibration self.now }
+    {
+        self.camera
+    }
+
+    /// The grid of heights, where one is asked for.
+    pub fn grid(&self) -> Option<GridSpec>
+        ensures value { result ≡ self.now.grid }
+        ensures kept { IsCalibration self.now }
+    {
+        self.grid
+    }
+
+    /// The regions of the grid, where volumes are asked for.
+    pub fn regions(&self) -> Option<&[Region]>
+        ensures value { option_map (λ regions. regions.now) result ≡ self.now.regions }
+        ensures kept { IsCalibration self.now }
+    {
+        match &self.regions {
+            None => None,
+            Some(regions) => Some(regions.as_slice()),
+        }
     }
 }

@@ -1,14 +1,14 @@
 //! What follows from the definitions alone. Each function is a law, and its body is empty.
 
-ghost use Rattle.std.specs.Prelude.{◌≡◌, ◌↔◌, ℕ, List, [], ◌∷◌, Option, Some, Result, IsTrue, codes};
+ghost use Rattle.std.specs.Prelude.{◌≡◌, ◌↔◌, ℕ, List, [], ◌∷◌, Option, Some, Ok, Result, IsTrue, codes};
 ghost use Rattle.std.specs.List.{list_all};
-ghost use Rattle.sgm_calib.specs.Calibration.{Calibration};
-ghost use Rattle.sgm_calib.specs.Table.{entries};
-ghost use Rattle.sgm_calib.specs.Judge.{key, first_of, IsFirst};
-ghost use Rattle.sgm_calib.specs.Numbers.{numbers, has_paths};
+ghost use Rattle.sgm_calib.specs.Calibration.{Calibration, plain};
+ghost use Rattle.sgm_calib.specs.Table.{key, entries};
+ghost use Rattle.sgm_calib.specs.Checks.{first_of, IsFirst};
+ghost use Rattle.sgm_calib.specs.Numbers.{numbers, has_paths, HasRegionPaths};
 ghost use Rattle.sgm_calib.specs.Paths.{path_of};
 ghost use Rattle.sgm_calib.specs.Read.{Reads};
-ghost use Rattle.sgm_calib.specs.declared.calib.CalibFault.{CalibFault};
+ghost use Rattle.sgm_calib.specs.declared.keys.CalibFault.{CalibFault};
 
 /// Each list of bytes is one calibration or has one first fault, and not two.
 pub fn answers()
@@ -23,8 +23,14 @@ pub fn first_faults()
 
 /// The checks go by the numbers of the keys, and each key's path is its name after the path of its object.
 pub fn numbers_and_paths()
-    ensures ascending { numbers ≡ 1 ∷ 2 ∷ 3 ∷ 4 ∷ 5 ∷ 6 ∷ 7 ∷ 8 ∷ 9 ∷ 10 ∷ 11 ∷ 12 ∷ 27 ∷ 36 ∷ 42 ∷ [] }
+    ensures ascending { numbers ≡ 1 ∷ 2 ∷ 3 ∷ 4 ∷ 5 ∷ 6 ∷ 7 ∷ 8 ∷ 9 ∷ 10 ∷ 11 ∷ 12 ∷ 13 ∷ 14 ∷ 15 ∷ 16 ∷ 17 ∷ 18 ∷ 19 ∷ 20 ∷ 21 ∷ 22 ∷ 23 ∷ 24 ∷ 25 ∷ 26 ∷ 27 ∷ 28 ∷ 29 ∷ 30 ∷ 31 ∷ 32 ∷ 33 ∷ 34 ∷ 35 ∷ 36 ∷ 37 ∷ 38 ∷ 39 ∷ 40 ∷ 41 ∷ 42 ∷ 43 ∷ 44 ∷ 45 ∷ 46 ∷ 47 ∷ 48 ∷ 49 ∷ [] }
     ensures top { path_of (key 1) ≡ codes "top" }
     ensures version { path_of (key 2) ≡ codes "version" }
     ensures others { IsTrue (list_all has_paths entries) }
+    ensures regions { (index : ℕ) → HasRegionPaths index }
+{}
+
+/// A text that says the plain settings.
+pub fn plain_text()
+    ensures { Reads (codes "{\"version\":1,\"disparities\":{\"first\":0,\"count\":64},\"census\":{\"width\":9,\"height\":7},\"penalties\":{\"p1\":10,\"p2\":120}}") (Ok plain) }
 {}

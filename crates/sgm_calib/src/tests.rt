@@ -291,19 +291,19 @@ fn faults_of_later_objects(rt: HostRuntime) -> Result<(), Fail> {
         ),
         (
             ",\"census\":{\"width\":3,\"height\":3},\"penalties\":{\"p1\":1,\"p2\":1},\"regions\":0,\"warp\":0}",
-            CalibFault::NotBuilt(key(12)),
+            CalibFault::Type_(key(12)),
         ),
         (
             ",\"census\":{\"width\":3,\"height\":3},\"penalties\":{\"p1\":1,\"p2\":1},\"grid\":0,\"camera\":0}",
-            CalibFault::NotBuilt(key(27)),
+            CalibFault::Type_(key(27)),
         ),
         (
             ",\"census\":{\"width\":3,\"height\":3},\"penalties\":{\"p1\":1,\"p2\":1},\"regions\":[],\"grid\":{}}",
-            CalibFault::NotBuilt(key(36)),
+            CalibFault::Missing(key(27)),
         ),
         (
             ",\"census\":{\"width\":3,\"height\":3},\"penalties\":{\"p1\":1,\"p2\":1},\"regions\":null}",
-            CalibFault::NotBuilt(key(42)),
+            CalibFault::Missing(key(36)),
         ),
     ] {
         let mut text = String::from_str(

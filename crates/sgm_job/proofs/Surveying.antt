@@ -4,10 +4,8 @@ use Rattle.std.specs.Prelude.{IfSome, ℤ}
 use Rattle.std.specs.List.{filter, find, range_with_len}
 use Rattle.std.proofs.lemmas.Bool.{cases_Bool, cases_eq, eq-eqb, ne_eqb, lt-ltb, le-ltb}
 use Rattle.std.proofs.lemmas.List.Elements.{All-map}
-use Rattle.sgm_base.specs.declared.limits.TheConstants.{MAX_VOLUME}
 use Rattle.sgm_base.specs.Picture.{Picture}
 use Rattle.sgm_base.specs.Disparities.{Disparities}
-use Rattle.sgm_base.specs.Sides.{Sides}
 use Rattle.sgm_base.specs.Values.{Values}
 use Rattle.sgm_calib.specs.Calibration.{Calibration}
 use Rattle.sgm_census.specs.Codes.{row_by_row, value_at}
@@ -16,75 +14,20 @@ use Rattle.sgm_census.specs.Windows.{WindowSides}
 use Rattle.sgm_energy.specs.Energies.{path_sum}
 use Rattle.sgm_energy.specs.Rays.{Pixel, pixel_at, Problem}
 use Rattle.sgm_select.specs.Selection.{agree, base, checked, disparity, least_index, matched}
-use Rattle.sgm_job.specs.declared.job.SurveyFault.{SurveyFault}
-use Rattle.sgm_job.specs.declared.job.SurveyFault.TheVariants.{SizesDiffer, VolumeTooLarge}
-use Rattle.sgm_job.specs.declared.job.Surveyed.{Surveyed}
 use Rattle.sgm_job.specs.Bounds.{AtMost}
-use Rattle.sgm_job.specs.Refusals.{IsFault}
-use Rattle.sgm_job.specs.Survey.{cells_of, disparities, disparities_of, matching, plane_of, sides_of, surveyed}
-
--- ---- the answers
-pub surveyed_found : (left right : Picture) (calib : Calibration) → sides_of left ≡ sides_of right → cells_of left calib ≤ MAX_VOLUME → surveyed left right calib ≡ Ok (record { disp = disparities left right calib })
-unfolding surveyed
-surveyed_found left right calib e room =
-    let wide : eqb left.width right.width ≡ true = eq-eqb _ _ (ap (λ (s : Sides). s.width) e) in
-    let high : eqb left.height right.height ≡ true = eq-eqb _ _ (ap (λ (s : Sides). s.height) e) in
-    let fits : ltb MAX_VOLUME (cells_of left calib) ≡ false = le-ltb _ _ room in
-    rw (wide, high, fits) refl
-
-surveyed_large : (left right : Picture) (calib : Calibration) → sides_of left ≡ sides_of right → MAX_VOLUME < cells_of left calib → surveyed left right calib ≡ Err (VolumeTooLarge (cells_of left calib))
-unfolding surveyed
-surveyed_large left right calib e room =
-    let wide : eqb left.width right.width ≡ true = eq-eqb _ _ (ap (λ (s : Sides). s.width) e) in
-    let high : eqb left.height right.height ≡ true = eq-eqb _ _ (ap (λ (s : Sides). s.height) e) in
-    let large : ltb MAX_VOLUME (cells_of left calib) ≡ true = lt-ltb _ _ room in
-    rw (wide, high, large) refl
-
-surveyed_differ : (left right : Picture) (calib : Calibration) → (sides_of left ≡ sides_of right → ⊥) → surveyed left right calib ≡ Err (SizesDiffer (sides_of left) (sides_of right))
-unfolding surveyed
-surveyed_differ left right calib ne = elim (cases_eq left.width right.width) [
-  | inr other ↦ (let wide : eqb left.width right.width ≡ false = ne_eqb _ _ other in rw wide refl)
-  | inl same ↦ (let wide : eqb left.width right.width ≡ true = eq-eqb _ _ same in
-      let high : eqb left.height right.height ≡ false = ne_eqb _ _ (λ e. ne (ap (λ w. let s : Sides = record { width = w; height = left.height } in s) same ∙ ap (λ h. let s : Sides = record { width = right.width; height = h } in s) e)) in
-      rw (wide, high) refl)
-]
-
--- a fault of the pair is what the survey answers
-pub surveyed_fault : (left right : Picture) (calib : Calibration) (fault : SurveyFault) → IsFault (sides_of left) (sides_of right) calib.span.count fault → surveyed left right calib ≡ Err fault
-surveyed_fault left right calib (SizesDiffer a b) (ne, ea, eb) =
-    surveyed_differ left right calib ne ∙ ap (λ s. Err (SizesDiffer s (sides_of right))) (sym ea) ∙ ap (λ s. Err (SizesDiffer a s)) (sym eb)
-surveyed_fault left right calib (VolumeTooLarge cells) (e, room, ec) =
-    surveyed_large left right calib e (omega (arith, room, ec)) ∙ ap (λ n. Err (VolumeTooLarge n)) (sym ec)
-
--- the sides that a size shows are those of its image
-pub sides_are : (sides : Sides) (image : Picture) → sides.width ≡ image.width → sides.height ≡ image.height → sides ≡ sides_of image
-sides_are sides image ew eh =
-    ap (λ w. let s : Sides = record { width = w; height = sides.height } in s) ew ∙ ap (λ h. let s : Sides = record { width = image.width; height = h } in s) eh
-
-pub cells_are : (sides : Sides) (count : ℕ) (image : Picture) (calib : Calibration) → sides ≡ sides_of image → count ≡ calib.span.count → sides.width * sides.height * count ≡ cells_of image calib
-cells_are sides count image calib es ec = ap (λ (s : Sides). s.width * s.height * count) es ∙ ap (λ n. image.width * image.height * n) ec
-
-pub fault_answered : (left right : Picture) (calib : Calibration) (a b : Sides) (count : ℕ) (fault : SurveyFault) → a ≡ sides_of left → b ≡ sides_of right → count ≡ calib.span.count
-    → IsFault a b count fault → surveyed left right calib ≡ Err fault
-fault_answered left right calib a b count fault ea eb ec h =
-    surveyed_fault left right calib fault (subst (λ n. IsFault (sides_of left) (sides_of right) n fault) ec (subst (λ s. IsFault (sides_of left) s count fault) eb (subst (λ s. IsFault s b count fault) ea h)))
+use Rattle.sgm_job.specs.Survey.{disparities, disparities_of, left_plane, matching, right_plane}
 
 -- the map of the planes is that of the images
-pub map_is : (left right : Picture) (calib : Calibration) (a b : Values) (span : Disparities) (window : WindowSides) (near far : ℕ) → a ≡ plane_of left → b ≡ plane_of right → span ≡ calib.span → window ≡ calib.window
+pub map_is : (left right : Picture) (calib : Calibration) (a b : Values) (span : Disparities) (window : WindowSides) (near far : ℕ) → a ≡ left_plane left calib → b ≡ right_plane right calib → span ≡ calib.span → window ≡ calib.window
     → near ≡ calib.penalties.near → far ≡ calib.penalties.far
     → disparities_of (matching a b span window (record { near = near; far = far })) a b span.first ≡ disparities left right calib
 map_is left right calib a b span window near far ea eb es ew en ef =
     ap (λ p. disparities_of (matching p b span window (record { near = near; far = far })) p b span.first) ea
-    ∙ ap (λ p. disparities_of (matching (plane_of left) p span window (record { near = near; far = far })) (plane_of left) p span.first) eb
-    ∙ ap (λ s. disparities_of (matching (plane_of left) (plane_of right) s window (record { near = near; far = far })) (plane_of left) (plane_of right) s.first) es
-    ∙ ap (λ w. disparities_of (matching (plane_of left) (plane_of right) calib.span w (record { near = near; far = far })) (plane_of left) (plane_of right) calib.span.first) ew
-    ∙ ap (λ n. disparities_of (matching (plane_of left) (plane_of right) calib.span calib.window (record { near = n; far = far })) (plane_of left) (plane_of right) calib.span.first) en
-    ∙ ap (λ n. disparities_of (matching (plane_of left) (plane_of right) calib.span calib.window (record { near = calib.penalties.near; far = n })) (plane_of left) (plane_of right) calib.span.first) ef
-
-pub map_answered : (left right : Picture) (calib : Calibration) (disp : Values) → sides_of left ≡ sides_of right → cells_of left calib ≤ MAX_VOLUME → disp ≡ disparities left right calib
-    → surveyed left right calib ≡ Ok (record { disp = disp })
-map_answered left right calib disp e room ed =
-    surveyed_found left right calib e room ∙ ap (λ d. let s : Surveyed = record { disp = d } in Ok s) (sym ed)
+    ∙ ap (λ p. disparities_of (matching (left_plane left calib) p span window (record { near = near; far = far })) (left_plane left calib) p span.first) eb
+    ∙ ap (λ s. disparities_of (matching (left_plane left calib) (right_plane right calib) s window (record { near = near; far = far })) (left_plane left calib) (right_plane right calib) s.first) es
+    ∙ ap (λ w. disparities_of (matching (left_plane left calib) (right_plane right calib) calib.span w (record { near = near; far = far })) (left_plane left calib) (right_plane right calib) calib.span.first) ew
+    ∙ ap (λ n. disparities_of (matching (left_plane left calib) (right_plane right calib) calib.span calib.window (record { near = n; far = far })) (left_plane left calib) (right_plane right calib) calib.span.first) en
+    ∙ ap (λ n. disparities_of (matching (left_plane left calib) (right_plane right calib) calib.span calib.window (record { near = calib.penalties.near; far = n })) (left_plane left calib) (right_plane right calib) calib.span.first) ef
 
 -- ---- no disparity is above 16 times the greatest index
 find_inside : (p counts : ℕ → Bool) (a n b : ℕ) → find p (filter counts (range_with_len a n)) ≡ Some b → b < a + n

@@ -1,5 +1,5 @@
 pub mod Bounds
-pub mod Refusals
+pub mod Heights
 pub mod Survey
 pub mod Surveys
 pub mod Volumes

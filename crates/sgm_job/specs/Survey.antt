@@ -1,6 +1,9 @@
--- The survey of a pair of images: which disparity each pixel of the left one gets, or why the pair is refused.
-use Rattle.std.specs.Prelude.{ℕ, ◌*◌, Bool, ◌==◌, nat_lt, ◌&&◌, not, if◌then◌else◌, map, Some, Result, Ok, Err, ℤ}
+-- The survey of a pair of images: the disparities, the grid of heights and the tallies, or why the pair is refused.
+use Rattle.std.specs.Prelude.{ℕ, ◌*◌, Bool, ◌==◌, nat_lt, ◌&&◌, not, if◌then◌else◌, List, map, Option, Some, None, option_map, Result, Ok, Err, ℤ}
+use Rattle.std.specs.Option.{option_or}
 use Rattle.sgm_base.specs.declared.limits.TheConstants.{MAX_VOLUME}
+use Rattle.sgm_base.specs.declared.side.Side.{Side}
+use Rattle.sgm_base.specs.declared.side.Side.TheVariants.{Left, Right}
 use Rattle.sgm_base.specs.Sides.{Sides}
 use Rattle.sgm_base.specs.Picture.{Picture}
 use Rattle.sgm_base.specs.Values.{Values, values_of}
@@ -10,14 +13,19 @@ use Rattle.sgm_census.specs.Codes.{codes_of, row_by_row}
 use Rattle.sgm_census.specs.Costs.{census_cost}
 use Rattle.sgm_energy.specs.Rays.{pixel_at, Problem, fixed_problem}
 use Rattle.sgm_select.specs.Selection.{disparity}
+use Rattle.sgm_rectify.specs.declared.warp.Warp.{Warp}
+use Rattle.sgm_rectify.specs.Faults.{warp_fault}
+use Rattle.sgm_rectify.specs.Rectified.{rectified_values, sides_of}
+use Rattle.sgm_grid.specs.Cells.{Cells}
+use Rattle.sgm_report.specs.Areas.{Area}
+use Rattle.sgm_report.specs.Tallies.{tally_of}
+use Rattle.sgm_report.specs.declared.volumes.RegionTally.{RegionTally}
 use Rattle.sgm_calib.specs.Calibration.{Calibration, Penalties}
+use Rattle.sgm_job.specs.Heights.{grid_of}
 use Rattle.sgm_job.specs.declared.job.SurveyFault.{SurveyFault}
-use Rattle.sgm_job.specs.declared.job.SurveyFault.TheVariants.{SizesDiffer, VolumeTooLarge}
-use Rattle.sgm_job.specs.declared.job.Surveyed.{Surveyed}
+use Rattle.sgm_job.specs.declared.job.SurveyFault.TheVariants as fault
 
--- the plane of an image: each sample, nowhere void
-abbrev pub plane_of : Picture → Values
-plane_of image = values_of image.width image.height (map Some image.samples)
+-- ---- the disparities
 
 -- the problem of matching two planes: the cost of an index at a pixel is that of the census codes
 abbrev pub matching : Values → Values → Disparities → WindowSides → Penalties → Problem
@@ -31,29 +39,68 @@ abbrev pub disparities_of : Problem → Values → Values → ℤ → Values
 disparities_of g left right first =
     values_of g.width g.height (row_by_row g.width g.height (λ x y. disparity g left right first (pixel_at x y)))
 
+-- the planes that are matched: the rectified images
+abbrev pub left_plane : Picture → Calibration → Values
+left_plane left calib = rectified_values left calib.left
+
+abbrev pub right_plane : Picture → Calibration → Values
+right_plane right calib = rectified_values right calib.right
+
 -- the problem of matching two images
 abbrev pub problem_of : Picture → Picture → Calibration → Problem
-problem_of left right calib = matching (plane_of left) (plane_of right) calib.span calib.window calib.penalties
+problem_of left right calib = matching (left_plane left calib) (right_plane right calib) calib.span calib.window calib.penalties
 
 -- the disparities of the left image
 abbrev pub disparities : Picture → Picture → Calibration → Values
-disparities left right calib = disparities_of (problem_of left right calib) (plane_of left) (plane_of right) calib.span.first
+disparities left right calib =
+    disparities_of (problem_of left right calib) (left_plane left calib) (right_plane right calib) calib.span.first
 
--- the sides of an image
-abbrev pub sides_of : Picture → Sides
-sides_of image = record { width = image.width; height = image.height }
+-- ---- what a survey answers
+
+-- the disparities, the grid where one is asked for, and the tallies where regions are
+pub record Survey : Type 0 where
+  pub disp : Values
+  pub grid : Option Cells
+  pub tallies : Option (List RegionTally)
+
+-- the tallies of the regions, where there is a grid and regions are asked for
+abbrev pub tallies_of : Option Cells → Option (List Area) → Option (List RegionTally)
+tallies_of (Some grid) (Some areas) = Some (map (tally_of grid) areas)
+tallies_of _ _ = None
+
+-- the survey of two images
+abbrev pub survey_of : Picture → Picture → Calibration → Survey
+survey_of left right calib =
+    let disp = disparities left right calib in
+    let grid = grid_of calib.camera calib.grid calib.span.first disp in
+    record { disp = disp; grid = grid; tallies = tallies_of grid calib.regions }
+
+-- ---- why a pair is refused
 
 -- whether two images have the same sides
-abbrev pub same_sides : Picture → Picture → Bool
+abbrev pub same_sides : Sides → Sides → Bool
 same_sides left right = (left.width == right.width) && (left.height == right.height)
 
 -- the number of cells of a volume: one for each pixel and index
-abbrev pub cells_of : Picture → Calibration → ℕ
-cells_of left calib = left.width * left.height * calib.span.count
+abbrev pub cells_of : Sides → ℕ → ℕ
+cells_of sides count = sides.width * sides.height * count
 
--- a fault where the sides differ, or else where the volume is too large; and otherwise the disparities
-unfoldable pub surveyed : Picture → Picture → Calibration → Result Surveyed SurveyFault
-surveyed left right calib =
-    if not (same_sides left right) then Err (SizesDiffer (sides_of left) (sides_of right))
-    else if nat_lt MAX_VOLUME (cells_of left calib) then Err (VolumeTooLarge (cells_of left calib))
-    else Ok (record { disp = disparities left right calib })
+-- why an image of these sides can't be rectified
+abbrev pub side_fault : Side → Warp → Sides → Option SurveyFault
+side_fault side warp sides = option_map (λ found. fault.Warp side found) (warp_fault warp sides)
+
+-- The fault of a pair: the sides differ; or else the volume is too large; or else the left image can't be rectified, or
+-- else the right one.
+unfoldable pub pair_fault : Sides → Sides → Calibration → Option SurveyFault
+pair_fault left right calib =
+    if not (same_sides left right) then Some (fault.SizesDiffer left right)
+    else if nat_lt MAX_VOLUME (cells_of left calib.span.count) then Some (fault.VolumeTooLarge (cells_of left calib.span.count))
+    else option_or (side_fault Left calib.left left) (side_fault Right calib.right right)
+
+abbrev pub unless : Option SurveyFault → Survey → Result Survey SurveyFault
+unless None survey = Ok survey
+unless (Some found) survey = Err found
+
+-- the survey of two images, or the fault of the pair
+unfoldable pub surveyed : Picture → Picture → Calibration → Result Survey SurveyFault
+surveyed left right calib = unless (pair_fault (sides_of left) (sides_of right) calib) (survey_of left right calib)

@@ -1,11 +1,16 @@
 -- What a survey answers: what is wanted, or want of memory.
-use Rattle.std.specs.Prelude.{◌≡◌, ⊤, Result, Ok, Err}
+use Rattle.std.specs.Prelude.{◌≡◌, ⊤, option_map, Result, Ok, Err}
+use Rattle.sgm_job.specs.Survey.{Survey}
 use Rattle.sgm_job.specs.declared.job.SurveyFault.{SurveyFault}
 use Rattle.sgm_job.specs.declared.job.SurveyError.{SurveyError}
 use Rattle.sgm_job.specs.declared.job.SurveyError.TheVariants.{Fault, NoMemory}
 use Rattle.sgm_job.specs.declared.job.Surveyed.{Surveyed}
 
-abbrev pub Surveys : Result Surveyed SurveyFault → Result Surveyed SurveyError → Type 0
-Surveys wanted (Ok survey) = wanted ≡ Ok survey
+-- what is seen of a survey
+abbrev pub seen : Surveyed → Survey
+seen survey = record { disp = survey.disp; grid = survey.grid; tallies = option_map (λ v. v.items) survey.tallies }
+
+abbrev pub Surveys : Result Survey SurveyFault → Result Surveyed SurveyError → Type 0
+Surveys wanted (Ok survey) = wanted ≡ Ok (seen survey)
 Surveys wanted (Err (Fault fault)) = wanted ≡ Err fault
 Surveys wanted (Err NoMemory) = ⊤

@@ -7,6 +7,7 @@ ghost use Rattle.sgm_energy.specs.Rays.{Problem, pixel_at};
 ghost use Rattle.sgm_energy.specs.Rows.{HoldsRow};
 ghost use Rattle.sgm_energy.specs.Energies.{path_sum};
 ghost use Rattle.sgm_select.specs.Selection.{disparity};
+ghost use Rattle.sgm_job.specs.Bounds.{AtMost};
 ghost use Rattle.sgm_job.specs.Survey.{matching, disparities_of};
 ghost use Rattle.sgm_job.specs.Volumes.{HoldsVolume, SuitsPlane, SuitsVolume};
 
@@ -64,10 +65,10 @@ fn select_row(
     requires left_length { length left.now ≡ length into.old }
     requires right_length { length right.now ≡ length into.old }
     requires sums_length { length sums.now ≡ length into.old * span.count }
-    ensures { (g : Problem) (y : ℕ) (planes others : Values) → g.count ≡ span.count → g.width ≡ length into.old → y < g.height
-        → HoldsRow g y (path_sum g) sums.now → SuitsPlane g planes → SuitsPlane g others
-        → left.now ≡ row_of planes y → right.now ≡ row_of others y
-        → EachIndex into.new (λ x. slice_index_or into.new x None ≡ disparity g planes others span.first (pixel_at x y)) }
+    ensures { (g : Problem) (y : ℕ) (left_plane right_plane : Values) → g.count ≡ span.count → g.width ≡ length into.old → y < g.height
+        → HoldsRow g y (path_sum g) sums.now → SuitsPlane g left_plane → SuitsPlane g right_plane
+        → left.now ≡ row_of left_plane y → right.now ≡ row_of right_plane y
+        → EachIndex into.new (λ x. slice_index_or into.new x None ≡ disparity g left_plane right_plane span.first (pixel_at x y)) }
 {
     base_row(sums, span.count as usize, bases);
     match_row(sums, span, matches);
@@ -160,7 +161,8 @@ pub(crate) fn disparity_map(
     requires same_width { left.now.width ≡ right.now.width }
     requires same_height { left.now.height ≡ right.now.height }
     requires room { left.now.width * left.now.height * span.count ≤ MAX_VOLUME }
-    ensures { IfOk result (λ m. m ≡ disparities_of (matching left.now right.now span window (record { near = p1_of pen; far = p2_of pen })) left.now right.now span.first) }
+    ensures bound { IfOk result (λ m. AtMost 4080 m.entries) }
+    ensures exact { IfOk result (λ m. m ≡ disparities_of (matching left.now right.now span window (record { near = p1_of pen; far = p2_of pen })) left.now right.now span.first) }
 {
     let count = span.count as usize;
     let row = left.size().width as usize * count;

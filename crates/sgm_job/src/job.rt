@@ -1,13 +1,17 @@
-ghost use Rattle.std.specs.Prelude.{◌≡◌, ◌*◌, ◌≤◌, IfOk, OnOk, IfErr, map, Some};
-ghost use Rattle.sgm_base.specs.declared.limits.TheConstants.{MAX_VOLUME as greatest};
+ghost use Rattle.std.specs.Prelude.{◌≡◌, ◌≤◌, IfOk, OnOk, IfErr, Some, None};
+ghost use Rattle.sgm_rectify.specs.Warps.{IsWarp};
 ghost use Rattle.sgm_job.specs.Bounds.{AtMost};
-ghost use Rattle.sgm_job.specs.Refusals.{IsFault};
-ghost use Rattle.sgm_job.specs.Survey.{plane_of, surveyed};
+ghost use Rattle.sgm_job.specs.Survey.{pair_fault, side_fault, surveyed};
 ghost use Rattle.sgm_job.specs.Surveys.{Surveys};
 
 use crate::disparities::disparity_map;
-use sgm_base::{DispMap, Image, MAX_VOLUME, Plane, Size};
+use crate::heights::heights;
+use crate::volumes::tallies;
+use sgm_base::{DispMap, Image, MAX_VOLUME, Side, Size};
 use sgm_calib::Calib;
+use sgm_grid::Grid;
+use sgm_rectify::{Warp, WarpFault, rectify};
+use sgm_report::RegionTally;
 use std::alloc::{AllocError, Global};
 
 /// Why a pair of images is refused.
@@ -17,6 +21,8 @@ pub enum SurveyFault {
     SizesDiffer { left: Size, right: Size },
     /// width * height * count is above 268,435,456.
     VolumeTooLarge { cells: u64 },
+    /// The image of this side can't be rectified by its warp.
+    Warp { side: Side, fault: WarpFault },
 }
 
 /// Why there is no survey.
@@ -51,46 +57,46 @@ impl From<AllocError> for SurveyError {
 pub struct Surveyed {
     /// The disparity of each pixel of the left image, in sixteenths.
     pub disp: DispMap,
+    /// The greatest height of each cell, where the calibration has a grid.
+    pub grid: Option<Grid>,
+    /// The tally of each region, where the calibration has regions.
+    pub tallies: Option<Vec<RegionTally>>,
 }
 
-/// The samples, none of them void.
-fn entries(alloc: Global, samples: &[u16]) -> Result<Vec<Option<u16>>, AllocError>
-    ensures { IfOk result (λ v. v.items ≡ map Some samples.now) }
+/// Why the image of a side can't be rectified, if that is so.
+fn side_fault(side: Side, warp: &Warp, size: Size) -> Option<SurveyFault>
+    requires { IsWarp warp.now }
+    ensures { result ≡ side_fault side warp.now size }
 {
-    samples.iter().map(|s| Some(*s)).collect(alloc)
-}
-
-/// The plane of an image: each sample, nowhere void.
-fn plane(alloc: Global, image: &Image) -> Result<Plane, AllocError>
-    ensures { IfOk result (λ p. p ≡ plane_of image.now) }
-{
-    let entries = entries(alloc, image.samples())?;
-    let Some(plane) = Plane::make(image.size(), entries) else {
-        unreachable!()
-    };
-    Ok(plane)
+    match warp.check(size) {
+        Ok(()) => None,
+        Err(fault) => Some(SurveyFault::Warp { side, fault }),
+    }
 }
 
 /// The fault of a pair, if it has one.
-fn check(left: Size, right: Size, count: u32) -> Result<(), SurveyFault>
-    ensures same { OnOk result (left ≡ right) }
-    ensures room { OnOk result (left.width * left.height * count ≤ greatest) }
-    ensures fault { IfErr result (IsFault left right count) }
+#[tactic(auto, unfolding(crate::specs::Survey::pair_fault))]
+fn pair_fault(left: Size, right: Size, calib: &Calib) -> Option<SurveyFault>
+    ensures { result ≡ pair_fault left right calib.now }
 {
     if left != right {
-        return Err(SurveyFault::SizesDiffer { left, right });
+        return Some(SurveyFault::SizesDiffer { left, right });
     }
-    let cells = left.pixels() as u64 * u64::from(count);
+    let cells = left.pixels() as u64 * u64::from(calib.span().count);
     if cells > MAX_VOLUME {
-        return Err(SurveyFault::VolumeTooLarge { cells });
+        return Some(SurveyFault::VolumeTooLarge { cells });
     }
-    Ok(())
+    match side_fault(Side::Left, calib.left(), left) {
+        None => side_fault(Side::Right, calib.right(), right),
+        fault => fault,
+    }
 }
 
-/// Matches two images: for each pixel of the left one the index of its disparity in sixteenths, or None
-/// where the match isn't the same from the right. The sides of the two must be the same, and
-/// width * height * count at most 268,435,456; both are seen to before memory is taken. `strips` is 1 to
-/// 64 and `workers` 1 to 16; neither changes anything yet.
+/// Surveys a pair of images: rectifies them, matches them, and gives for each pixel of the left one the index
+/// of its disparity in sixteenths, or None where the match isn't the same from the right or a pixel is void;
+/// the grid of the greatest heights where the calibration has one; and the tally of each region where it has
+/// regions. Faults are seen to before memory is taken, in the order of [`SurveyFault`]. `strips` is 1 to 64
+/// and `workers` 1 to 16; neither changes anything yet.
 pub fn survey(
     alloc: Global,
     left: &Image,
@@ -105,10 +111,18 @@ pub fn survey(
     ensures bound { IfOk result (λ survey. AtMost 4080 survey.disp.entries) }
 {
     let _ = (strips, workers);
+    if let Some(fault) = pair_fault(left.size(), right.size(), calib) {
+        return Err(SurveyError::Fault(fault));
+    }
     let span = calib.span();
-    check(left.size(), right.size(), span.count)?;
-    let left = plane(alloc, left)?;
-    let right = plane(alloc, right)?;
+    let left = rectify(alloc, left, calib.left())?;
+    let right = rectify(alloc, right, calib.right())?;
     let disp = disparity_map(alloc, &left, &right, span, calib.window(), calib.pen())?;
-    Ok(Surveyed { disp })
+    let grid = heights(alloc, calib.camera(), calib.grid(), span, &disp)?;
+    let tallies = tallies(alloc, grid.as_ref(), calib.regions())?;
+    Ok(Surveyed {
+        disp,
+        grid,
+        tallies,
+    })
 }

@@ -1,5 +1,5 @@
 use Rattle.std.proofs.Common.{ap, ◌∙◌}
-use Rattle.sgm_calib.specs.Judge.{first_of}
+use Rattle.sgm_calib.specs.Checks.{first_of}
 use Rattle.sgm_calib.proofs.Firsts.{IsFirst-from_first_of, first_of-past}
 use Rattle.sgm_calib.proofs.laws.first_faults.Goals as goal
 

@@ -1,12 +1,18 @@
-use Rattle.std.proofs.Common.{◌≡◌, ℕ, ◌+◌, ◌*◌, ◌%◌, ◌<◌, ◌∙◌, refl, sym, ap, subst, arith, length}
+use Rattle.std.proofs.Common.{◌≡◌, ℕ, ◌+◌, ◌*◌, ◌%◌, ◌<◌, ◌≤◌, ◌∙◌, ℤ, Result, Ok, Err, refl, sym, ap, subst, arith, length}
 use Rattle.std.proofs.lemmas.Nat.{mod-mul-add}
 use Rattle.sgm_base.specs.Disparities.{Disparities}
 use Rattle.sgm_base.specs.Sides.{Sides}
 use Rattle.sgm_calib.specs.Calibration.{Penalties}
 use Rattle.sgm_energy.specs.Energies.{path_sum}
 use Rattle.sgm_energy.specs.Pens.{p1_of, p2_of}
-use Rattle.sgm_job.specs.Survey.{matching}
+use Rattle.std.specs.Prelude.{IfOk}
+use Rattle.std.specs.declared.alloc.AllocError.{AllocError}
+use Rattle.sgm_energy.specs.Rays.{Problem}
+use Rattle.sgm_base.specs.Values.{Values}
+use Rattle.sgm_job.specs.Bounds.{AtMost}
+use Rattle.sgm_job.specs.Survey.{matching, disparities_of}
 use Rattle.sgm_job.specs.Volumes.{HoldsVolume, SuitsVolume}
+use Rattle.sgm_job.proofs.Surveying.{rows_low}
 use Rattle.sgm_job.proofs.disparities.disparity_map.Goals as goal
 
 multiple : (a b : ℕ) → 0 < b → (a * b) % b ≡ 0
@@ -31,8 +37,8 @@ pub select-requires-clause-sums_length : goal.select-requires-clause-sums_length
 select-requires-clause-sums_length c =
     ap length c.deref-2.ensures.value ∙ c.in_ok-sums.ensures.len ∙ ap length c.deref.ensures.value ∙ (c.in_ok-costs.ensures.costs none).whole
 
-pub returns : goal.returns
-returns c =
+pub returns-clause-exact : goal.returns-clause-exact
+returns-clause-exact c =
     let p : Penalties = record { near = p1_of c.args.pen; far = p2_of c.args.pen } in
     let g = matching c.args.left.now c.args.right.now c.args.span c.args.window p in
     let row = c.row.inside.width * c.span.inside.count in
@@ -49,3 +55,15 @@ returns c =
     } in
     c.select.ensures g refl (record { same_width = refl; same_height = refl })
     (subst (λ v. HoldsVolume g (path_sum g) v) (sym c.deref-2.ensures.value) (c.in_ok-sums.ensures.sums g suits))
+
+bounded : (r : Result Values AllocError) (g : Problem) (left right : Values) (first : ℤ) → 0 < g.count → g.count ≤ 256
+    → IfOk r (λ m. m ≡ disparities_of g left right first) → IfOk r (λ m. AtMost 4080 m.entries)
+bounded (Ok m) g left right first some few e = subst (λ (m : Values). AtMost 4080 m.entries) (sym e) (rows_low g left right first some few)
+bounded (Err error) g left right first some few e = tt
+
+pub returns-clause-bound : goal.returns-clause-bound
+returns-clause-bound c =
+    let p : Penalties = record { near = p1_of c.args.pen; far = p2_of c.args.pen } in
+    let count : c.span.inside.count ≡ c.args.span.count = ap (λ (s : Disparities). s.count) c.span.view_is in
+    bounded c.select.result (matching c.args.left.now c.args.right.now c.args.span c.args.window p) c.args.left.now c.args.right.now c.args.span.first
+    (omega (arith, count, c.span.invariant)) (omega (arith, count, c.span.invariant)) (returns-clause-exact c)

@@ -1,35 +1,75 @@
-use Rattle.std.proofs.Common.{◌≡◌, ap, ◌∙◌, sym, subst, arith}
-use Rattle.std.proofs.lemmas.Result.{err_from_is_err_and}
+use Rattle.std.proofs.Common.{◌≡◌, Option, List, ap, ◌∙◌, sym, subst, arith, None}
+use Rattle.std.specs.Prelude.{IfSome, All, option_map}
 use Rattle.sgm_base.specs.Disparities.{Disparities}
-use Rattle.sgm_base.specs.Values.{Values}
 use Rattle.sgm_energy.specs.Pens.{p1_of, p2_of}
-use Rattle.sgm_job.specs.Bounds.{AtMost}
-use Rattle.sgm_job.specs.Survey.{matching}
-use Rattle.sgm_job.proofs.Surveying.{sides_are, cells_are, fault_answered, map_is, map_answered, rows_low}
+use Rattle.sgm_rectify.specs.Rectified.{rectified_values}
+use Rattle.sgm_grid.specs.Cells.{Cells}
+use Rattle.sgm_report.specs.Areas.{Area, IsArea}
+use Rattle.sgm_job.specs.Survey.{left_plane, right_plane, tallies_of}
+use Rattle.sgm_job.proofs.Surveying.{map_is}
+use Rattle.sgm_job.proofs.Passing.{passes, sides_are, fault_answered, survey_answered, survey_is, grid_same, left_suits, right_suits, plane_width, plane_height, plane_room, same_width, same_height, regions_inside, at_references}
 use Rattle.sgm_job.proofs.job.survey.Goals as goal
 
-pub returns-in_err-check-clause-exact : goal.returns-in_err-check-clause-exact
-returns-in_err-check-clause-exact c =
-    let p = err_from_is_err_and c.from_residual.result c.from_residual.ensures.1 in
+pub returns-in-Some-clause-exact : goal.returns-in-Some-clause-exact
+returns-in-Some-clause-exact c =
     let left = sides_are c.size.result c.args.left.now c.size.ensures.width c.size.ensures.height in
     let right = sides_are c.size-2.result c.args.right.now c.size-2.ensures.width c.size-2.ensures.height in
-    rw (p.1, p.2) (fault_answered c.args.left.now c.args.right.now c.args.calib.now c.size.result c.size-2.result c.span.inside.count c.in_err-check.field-0.0 left right
-    (ap (λ (s : Disparities). s.count) (c.span.view_is ∙ c.span-span.ensures)) c.in_err-check.ensures.fault)
+    fault_answered c.args.left.now c.args.right.now c.args.calib.now c.size.result c.size-2.result c.in-Some.fault left right c.in-Some.ensures
+
+pub rectify-requires : goal.rectify-requires
+rectify-requires c =
+    let left = sides_are c.size.result c.args.left.now c.size.ensures.width c.size.ensures.height in
+    left_suits c.args.left.now c.args.calib.now c.size.result c.size-2.result c.left.result.now left c.left.ensures.value c.left.ensures.kept
+    (passes c.size.result c.size-2.result c.args.calib.now (sym c.in_default.ensures))
+
+pub rectify-requires-2 : goal.rectify-requires-2
+rectify-requires-2 c =
+    let right = sides_are c.size-2.result c.args.right.now c.size-2.ensures.width c.size-2.ensures.height in
+    right_suits c.args.right.now c.args.calib.now c.size.result c.size-2.result c.right.result.now right c.right.ensures.value c.right.ensures.kept
+    (passes c.size.result c.size-2.result c.args.calib.now (sym c.in_default.ensures))
+
+pub disparity_map-requires-clause-same_width : goal.disparity_map-requires-clause-same_width
+disparity_map-requires-clause-same_width c =
+    let left = sides_are c.size.result c.args.left.now c.size.ensures.width c.size.ensures.height in
+    let right = sides_are c.size-2.result c.args.right.now c.size-2.ensures.width c.size-2.ensures.height in
+    plane_width c.args.left.now c.left.result.now c.in_ok-left.left c.in_ok-left.ensures
+    ∙ same_width c.args.left.now c.args.right.now c.size.result c.size-2.result c.args.calib.now left right (passes c.size.result c.size-2.result c.args.calib.now (sym c.in_default.ensures))
+    ∙ sym (plane_width c.args.right.now c.right.result.now c.in_ok-right.right c.in_ok-right.ensures)
+
+pub disparity_map-requires-clause-same_height : goal.disparity_map-requires-clause-same_height
+disparity_map-requires-clause-same_height c =
+    let left = sides_are c.size.result c.args.left.now c.size.ensures.width c.size.ensures.height in
+    let right = sides_are c.size-2.result c.args.right.now c.size-2.ensures.width c.size-2.ensures.height in
+    plane_height c.args.left.now c.left.result.now c.in_ok-left.left c.in_ok-left.ensures
+    ∙ same_height c.args.left.now c.args.right.now c.size.result c.size-2.result c.args.calib.now left right (passes c.size.result c.size-2.result c.args.calib.now (sym c.in_default.ensures))
+    ∙ sym (plane_height c.args.right.now c.right.result.now c.in_ok-right.right c.in_ok-right.ensures)
+
+pub disparity_map-requires-clause-room : goal.disparity_map-requires-clause-room
+disparity_map-requires-clause-room c =
+    let left = sides_are c.size.result c.args.left.now c.size.ensures.width c.size.ensures.height in
+    plane_room c.args.left.now c.args.calib.now c.size.result c.size-2.result c.left.result.now c.in_ok-left.left c.span-span.result.count left c.in_ok-left.ensures
+    (ap (λ (s : Disparities). s.count) c.span-span.ensures) (passes c.size.result c.size-2.result c.args.calib.now (sym c.in_default.ensures))
+
+pub tallies-requires : goal.tallies-requires
+tallies-requires c =
+    let inside =
+    regions_inside c.args.calib.now c.camera.result c.grid.result c.span-span.result.first c.in_ok-disp.disp c.in_ok-grid.grid c.camera.ensures.kept c.grid.ensures.value c.in_ok-grid.ensures in
+    at_references c.as_ref.result c.regions.result
+    (subst (λ (g : Option Cells). IfSome g (λ g. IfSome (option_map (λ r. r.now) c.regions.result) (λ xs. All (IsArea g.spec) xs))) (sym c.as_ref.ensures.value)
+    (subst (λ (a : Option (List Area)). IfSome c.in_ok-grid.grid (λ g. IfSome a (λ xs. All (IsArea g.spec) xs))) (sym c.regions.ensures.value) inside))
 
 pub returns-clause-exact : goal.returns-clause-exact
 returns-clause-exact c =
     let left = sides_are c.size.result c.args.left.now c.size.ensures.width c.size.ensures.height in
     let right = sides_are c.size-2.result c.args.right.now c.size-2.ensures.width c.size-2.ensures.height in
-    let count = ap (λ (s : Disparities). s.count) (c.span.view_is ∙ c.span-span.ensures) in
-    map_answered c.args.left.now c.args.right.now c.args.calib.now c.in_ok-disp.disp (sym left ∙ c.in_ok-check.ensures.same ∙ right)
-    (omega (arith, c.in_ok-check.ensures.room, cells_are c.size.result c.span.inside.count c.args.left.now c.args.calib.now left count))
-    (c.in_ok-disp.ensures
+    let first = ap (λ (s : Disparities). s.first) c.span-span.ensures in
+    survey_answered c.args.left.now c.args.right.now c.args.calib.now c.size.result c.size-2.result _ left right c.in_default.ensures
+    (survey_is c.args.left.now c.args.right.now c.args.calib.now c.in_ok-disp.disp c.in_ok-grid.grid _
+    (c.in_ok-disp.ensures.exact
     ∙ map_is c.args.left.now c.args.right.now c.args.calib.now c.in_ok-left.left c.in_ok-right.right c.span-span.result c.window.result (p1_of c.pen.result) (p2_of c.pen.result)
-    c.in_ok-left.ensures c.in_ok-right.ensures c.span-span.ensures c.window.ensures c.pen.ensures.near c.pen.ensures.far)
-
-pub returns-clause-bound : goal.returns-clause-bound
-returns-clause-bound c =
-    let count : c.span.inside.count ≡ c.span-span.result.count = ap (λ (s : Disparities). s.count) c.span.view_is in
-    subst (λ (m : Values). AtMost 4080 m.entries) (sym c.in_ok-disp.ensures)
-    (rows_low (matching c.in_ok-left.left c.in_ok-right.right c.span-span.result c.window.result (record { near = p1_of c.pen.result; far = p2_of c.pen.result })) c.in_ok-left.left c.in_ok-right.right c.span-span.result.first
-    (omega (arith, count, c.span.invariant)) (omega (arith, count, c.span.invariant)))
+    (c.in_ok-left.ensures ∙ ap (rectified_values c.args.left.now) c.left.ensures.value) (c.in_ok-right.ensures ∙ ap (rectified_values c.args.right.now) c.right.ensures.value)
+    c.span-span.ensures c.window.ensures c.pen.ensures.near c.pen.ensures.far)
+    (c.in_ok-grid.ensures ∙ grid_same c.camera.result c.args.calib.now.camera c.grid.result c.args.calib.now.grid c.span-span.result.first c.args.calib.now.span.first c.in_ok-disp.disp c.camera.ensures.value c.grid.ensures.value first)
+    (c.in_ok-tallies.ensures
+    ∙ ap (λ (g : Option Cells). tallies_of g (option_map (λ r. r.now) c.regions.result)) c.as_ref.ensures.value
+    ∙ ap (λ (a : Option (List Area)). tallies_of c.in_ok-grid.grid a) c.regions.ensures.value))

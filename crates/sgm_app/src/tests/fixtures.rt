@@ -1,0 +1,90 @@
+//! The worked example, and more files to run over. What the runs are to write is worked by hand.
+
+use std::alloc::{AllocError, Global};
+
+/// The left image: three times the row 90 10 50 20 40.
+pub const LEFT: &[u8] =
+    b"P5\n5 3\n255\n\x5a\x0a\x32\x14\x28\x5a\x0a\x32\x14\x28\x5a\x0a\x32\x14\x28";
+
+/// The right image: three times the row 10 50 20 40 30.
+pub const RIGHT: &[u8] =
+    b"P5\n5 3\n255\n\x0a\x32\x14\x28\x1e\x0a\x32\x14\x28\x1e\x0a\x32\x14\x28\x1e";
+
+/// What the calibration begins with. Its keys follow in the order of these constants.
+pub const SETTINGS: &str =
+    "{\"version\":1,\"disparities\":{\"first\":0,\"count\":2},\n \"census\":{\"width\":3,\"height\":3},\"penalties\":{\"p1\":1,\"p2\":3}";
+
+pub const CAMERA: &str =
+    ",\n \"camera\":{\"focal\":25600,\"baseline\":1000,\"cx\":0,\"cy\":0,\"doffs\":0,\n           \"mount\":150000,\"near\":1,\"far\":1000000}";
+
+pub const GRID: &str =
+    ",\n \"grid\":{\"west\":2000,\"south\":-2000,\"cell\":1000,\"cols\":4,\"rows\":3}";
+
+pub const REGIONS: &str =
+    ",\n \"regions\":[{\"name\":\"all\",\"col\":0,\"row\":0,\"cols\":4,\"rows\":3,\"base\":40000},\n            {\"name\":\"east\",\"col\":3,\"row\":0,\"cols\":1,\"rows\":1,\"base\":60000}]";
+
+pub const END: &str = "}\n";
+
+/// The calibration of the worked example.
+pub const EXAMPLE: [&str; 5] = [SETTINGS, CAMERA, GRID, REGIONS, END];
+
+/// The disparity image: three times the samples 16 16 32 32 32.
+pub const DISPARITIES: &[u8] =
+    b"P5\n5 3\n65535\n\x00\x10\x00\x10\x00\x20\x00\x20\x00\x20\x00\x10\x00\x10\x00\x20\x00\x20\x00\x20\x00\x10\x00\x10\x00\x20\x00\x20\x00\x20";
+
+pub const HEIGHTS: &[u8] =
+    b"ncols 4\nnrows 3\nxllcorner 2000\nyllcorner -2000\ncellsize 1000\nNODATA_value -2147483648\n50000 50000 50000 -2147483648\n50000 50000 50000 -2147483648\n50000 50000 50000 -2147483648\n";
+
+pub const REPORT: &[u8] =
+    b"region,cells,empty,fill,cut,lowest,highest\nall,9,3,90000000000,0,50000,50000\neast,0,1,0,0,,\n";
+
+pub const SUMMARY: &[u8] = b"valid 15 of 15\n";
+
+/// The words of a line, one space between two.
+pub fn words_of(alloc: Global, line: &str) -> Result<Vec<String>, AllocError> {
+    let mut words = Vec::new(alloc);
+    for word in line.split(' ') {
+        words.push(String::from_str(alloc, word)?)?;
+    }
+    Ok(words)
+}
+
+pub fn file(alloc: Global, name: &str, bytes: &[u8]) -> Result<(String, Vec<u8>), AllocError> {
+    Ok((String::from_str(alloc, name)?, bytes.to_vec(alloc)?))
+}
+
+/// The pair of the worked example, and a calibration of these parts.
+pub fn files_with(alloc: Global, calib: &[&str]) -> Result<Vec<(String, Vec<u8>)>, AllocError> {
+    let mut text = String::new(alloc);
+    for part in calib {
+        text.push_str(part)?;
+    }
+    let mut files = Vec::new(alloc);
+    files.push(file(alloc, "l.pgm", LEFT)?)?;
+    files.push(file(alloc, "r.pgm", RIGHT)?)?;
+    files.push(file(alloc, "c.json", text.as_bytes())?)?;
+    Ok(files)
+}
+
+/// The files of the worked example, and more that are small or wrong.
+pub fn many_files(alloc: Global) -> Result<Vec<(String, Vec<u8>)>, AllocError> {
+    let mut files = files_with(alloc, &EXAMPLE)?;
+    for (name, bytes) in [
+        ("two.pgm", b"P5\n2 1\n255\n\x00\xff".as_slice()),
+        (
+            "small.pgm",
+            b"P5\n4 3\n255\n\x5a\x0a\x32\x14\x5a\x0a\x32\x14\x5a\x0a\x32\x14".as_slice(),
+        ),
+        ("bad.pgm", b"P2\n1 1\n255\n7".as_slice()),
+        ("bad.json", b"{\"version\":3}".as_slice()),
+        (
+            "short.json",
+            b"{\"version\":1,\"disparities\":{\"first\":0}}".as_slice(),
+        ),
+        ("more.json", b"{\"version\":1,\"more\":0}".as_slice()),
+        ("list.json", b"[]".as_slice()),
+    ] {
+        files.push(file(alloc, name, bytes)?)?;
+    }
+    Ok(files)
+}

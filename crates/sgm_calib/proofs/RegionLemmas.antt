@@ -1,0 +1,29 @@
+-- The regions of the elements of a list, one element on.
+use Rattle.std.proofs.Common.{◌≡◌, ℕ, suc, ◌+◌, ◌<◌, ℤ, List, [], ◌∷◌, ◌++◌, map, length, drop, get_or, None, ap, sym, ◌∙◌, append_assoc, add-one}
+use Rattle.std.specs.Option.{option_or}
+use Rattle.std.proofs.lemmas.List.{drop_more}
+use Rattle.serde_json.specs.Data.{Data}
+use Rattle.sgm_calib.specs.Checks.{first_of}
+use Rattle.sgm_calib.specs.RegionKeys.{region_fault, region_faults}
+
+-- what is left of a list from an element on is that element and what is left after it
+at_element : {X : Type 0} (xs : List X) (i : ℕ) (x : X) → i < length xs → x ≡ get_or xs i x → drop i xs ≡ x ∷ drop (i + 1) xs
+at_element xs i x within is_element = drop_more xs i x within ∙ ap (λ y. y ∷ drop (i + 1) xs) (sym is_element)
+
+-- an element without a fault leaves the first fault to the later ones
+pub passed-more : {X : Type 0} (data_of : X → Data) (cols rows : ℤ) (xs : List X) (i : ℕ) (x : X)
+    → i < length xs → x ≡ get_or xs i x → region_fault cols rows i (data_of x) ≡ None
+    → first_of (region_faults cols rows i (map data_of (drop i xs)))
+    ≡ first_of (region_faults cols rows (i + 1) (map data_of (drop (i + 1) xs)))
+passed-more data_of cols rows xs i x within is_element right =
+    ap (λ rest. first_of (region_faults cols rows i (map data_of rest))) (at_element xs i x within is_element)
+    ∙ ap (λ fault. option_or fault (first_of (region_faults cols rows (suc i) (map data_of (drop (i + 1) xs))))) right
+    ∙ ap (λ n. first_of (region_faults cols rows n (map data_of (drop (i + 1) xs)))) (sym (add-one i))
+
+-- the value of an element goes behind those of the earlier ones
+pub value-more : {X Y Z : Type 0} (data_of : X → Y) (value_of : Y → Z) (got : List Z) (xs : List X) (i : ℕ) (x : X)
+    → i < length xs → x ≡ get_or xs i x
+    → (got ++ value_of (data_of x) ∷ []) ++ map value_of (map data_of (drop (i + 1) xs)) ≡ got ++ map value_of (map data_of (drop i xs))
+value-more data_of value_of got xs i x within is_element =
+    append_assoc got (value_of (data_of x) ∷ []) (map value_of (map data_of (drop (i + 1) xs)))
+    ∙ ap (λ rest. got ++ map value_of (map data_of rest)) (sym (at_element xs i x within is_element))

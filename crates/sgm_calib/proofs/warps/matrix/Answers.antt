@@ -1,0 +1,22 @@
+use Rattle.std.proofs.Common.{◌∙◌, arith}
+use Rattle.std.proofs.lemmas.List.Elements.{All-same, All-map}
+use Rattle.serde_json.specs.View.{view}
+use Rattle.sgm_rectify.specs.Warps.{IsEntry}
+use Rattle.sgm_calib.specs.WarpKeys.{matrix_in}
+use Rattle.sgm_calib.proofs.ListLemmas.{amount}
+use Rattle.sgm_calib.proofs.WarpLemmas.{amounts, same_amounts}
+use Rattle.sgm_calib.proofs.warps.matrix.Goals as goal
+
+pub returns-clause-value : goal.returns-clause-value
+unfolding matrix_in
+returns-clause-value c =
+    same_amounts c.loop-index.entries c.in_ok-items.items.now 9 c.loop-index.invariant.0 c.in_ok-items.ensures.count
+    (λ k h. c.loop-index.invariant.1 k (omega (arith, h, c.loop-index-test.false)))
+    ∙ c.in_ok-items.ensures.value
+
+pub returns-clause-range : goal.returns-clause-range
+returns-clause-range c =
+    All-same IsEntry c.loop-index.entries (amounts c.in_ok-items.items.now)
+    (same_amounts c.loop-index.entries c.in_ok-items.items.now 9 c.loop-index.invariant.0 c.in_ok-items.ensures.count
+    (λ k h. c.loop-index.invariant.1 k (omega (arith, h, c.loop-index-test.false))))
+    (All-map IsEntry (λ v. amount (view v)) c.in_ok-items.items.now c.in_ok-items.ensures.range)

@@ -1,0 +1,163 @@
+-- What a pair without a fault keeps.
+use Rattle.std.proofs.Common.{◌≡◌, ℕ, ◌*◌, ◌≤◌, ℤ, List, Bor, Bool, true, false, not, ◌&&◌, if◌then◌else◌, ◌==◌, nat_lt, Option, Some, None, Result, Ok, Err, refl, sym, ap, ◌∙◌, subst, arith}
+use Rattle.std.specs.Prelude.{All, IfSome, option_map}
+use Rattle.std.specs.Option.{option_or}
+use Rattle.std.proofs.lemmas.Bool.{eqb-true, ltb-false}
+use Rattle.sgm_base.specs.declared.limits.TheConstants.{MAX_VOLUME}
+use Rattle.sgm_base.specs.Picture.{Picture}
+use Rattle.sgm_base.specs.Sides.{Sides}
+use Rattle.sgm_rectify.specs.declared.warp.WarpFault.{WarpFault}
+use Rattle.sgm_rectify.specs.Faults.{Suits, warp_fault}
+use Rattle.sgm_rectify.specs.declared.warp.Warp.{Warp}
+use Rattle.sgm_rectify.specs.Warps.{IsWarp}
+use Rattle.sgm_rectify.specs.Rectified.{rectified_values, sides_of}
+use Rattle.sgm_calib.specs.Calibration.{Calibration, IsCalibration}
+use Rattle.sgm_job.specs.declared.job.SurveyFault.{SurveyFault}
+use Rattle.sgm_job.specs.declared.job.SurveyFault.TheVariants as fault
+use Rattle.sgm_base.specs.declared.side.Side.TheVariants.{Left, Right}
+use Rattle.sgm_base.specs.Values.{Values}
+use Rattle.sgm_height.specs.declared.camera.Camera.{Camera}
+use Rattle.sgm_grid.specs.declared.grid_spec.GridSpec.{GridSpec}
+use Rattle.sgm_grid.specs.Cells.{Cells}
+use Rattle.sgm_report.specs.Areas.{Area, IsArea}
+use Rattle.sgm_report.specs.declared.volumes.RegionTally.{RegionTally}
+use Rattle.sgm_job.specs.Heights.{grid_of, highest, points_of}
+use Rattle.sgm_job.specs.Survey.{disparities, tallies_of, cells_of, pair_fault, same_sides, side_fault, Survey, survey_of, surveyed, unless}
+
+-- the sides are the same, the volume isn't too large, and both warps suit them
+pub record Passes (left right : Sides) (calib : Calibration) : Type 0 where
+  pub same : left ≡ right
+  pub room : cells_of left calib.span.count ≤ MAX_VOLUME
+  pub left_suits : warp_fault calib.left left ≡ None
+  pub right_suits : warp_fault calib.right right ≡ None
+
+all_none : (same large : Bool) (a b : SurveyFault) (l r : Option SurveyFault) → (if not same then Some a else if large then Some b else option_or l r) ≡ None
+    → (same ≡ true) × (large ≡ false) × (l ≡ None) × (r ≡ None)
+all_none false large a b l r e = absurd (cc)
+all_none true true a b l r e = absurd (cc)
+all_none true false a b (Some f) r e = absurd (cc)
+all_none true false a b None r e = (refl, refl, refl, e)
+
+map_none : (f : WarpFault → SurveyFault) (o : Option WarpFault) → option_map f o ≡ None → o ≡ None
+map_none f None e = refl
+map_none f (Some x) e = absurd (cc)
+
+both : (a b : Bool) → (a && b) ≡ true → (a ≡ true) × (b ≡ true)
+both true true e = (refl, refl)
+both true false e = absurd (cc)
+both false b e = absurd (cc)
+
+same_from : (left right : Sides) → same_sides left right ≡ true → left ≡ right
+same_from left right e =
+    let parts = both (left.width == right.width) (left.height == right.height) e in
+    ap (λ w. let s : Sides = record { width = w; height = left.height } in s) (eqb-true _ _ parts.0)
+    ∙ ap (λ h. let s : Sides = record { width = right.width; height = h } in s) (eqb-true _ _ parts.1)
+
+pub passes : (left right : Sides) (calib : Calibration) → pair_fault left right calib ≡ None → Passes left right calib
+unfolding pair_fault
+passes left right calib e =
+    let none =
+    all_none (same_sides left right) (nat_lt MAX_VOLUME (cells_of left calib.span.count)) (fault.SizesDiffer left right) (fault.VolumeTooLarge (cells_of left calib.span.count))
+    (side_fault Left calib.left left) (side_fault Right calib.right right) e in
+    record {
+      same = same_from left right none.0;
+      room = ltb-false _ _ none.1;
+      left_suits = map_none _ _ none.2;
+      right_suits = map_none _ _ none.3;
+    }
+
+-- the sides that a size shows are those of its image
+pub sides_are : (sides : Sides) (image : Picture) → sides.width ≡ image.width → sides.height ≡ image.height → sides ≡ sides_of image
+sides_are sides image ew eh =
+    ap (λ w. let s : Sides = record { width = w; height = sides.height } in s) ew ∙ ap (λ h. let s : Sides = record { width = image.width; height = h } in s) eh
+
+pub fault_answered : (left right : Picture) (calib : Calibration) (a b : Sides) (found : SurveyFault) → a ≡ sides_of left → b ≡ sides_of right
+    → Some found ≡ pair_fault a b calib → surveyed left right calib ≡ Err found
+unfolding surveyed
+fault_answered left right calib a b found ea eb e =
+    ap (λ o. unless o (survey_of left right calib)) (ap (λ s. pair_fault s (sides_of right) calib) (sym ea) ∙ ap (λ s. pair_fault a s calib) (sym eb) ∙ sym e)
+
+pub survey_answered : (left right : Picture) (calib : Calibration) (a b : Sides) (survey : Survey) → a ≡ sides_of left → b ≡ sides_of right
+    → None ≡ pair_fault a b calib → survey ≡ survey_of left right calib → surveyed left right calib ≡ Ok survey
+unfolding surveyed
+survey_answered left right calib a b survey ea eb e is =
+    ap (λ o. unless o (survey_of left right calib)) (ap (λ s. pair_fault s (sides_of right) calib) (sym ea) ∙ ap (λ s. pair_fault a s calib) (sym eb) ∙ sym e)
+    ∙ ap (λ (s : Survey). Ok s) (sym is)
+
+-- ---- the parts of a survey
+
+pub left_suits : (left : Picture) (calib : Calibration) (a b : Sides) (warp : Warp) → a ≡ sides_of left → warp ≡ calib.left → IsWarp warp → Passes a b calib → Suits warp (sides_of left)
+left_suits left calib a b warp ea ew kept pass = record {
+  kept = kept;
+  faultless = ap (λ w. warp_fault w (sides_of left)) ew ∙ ap (warp_fault calib.left) (sym ea) ∙ pass.left_suits;
+}
+
+pub right_suits : (right : Picture) (calib : Calibration) (a b : Sides) (warp : Warp) → b ≡ sides_of right → warp ≡ calib.right → IsWarp warp → Passes a b calib → Suits warp (sides_of right)
+right_suits right calib a b warp eb ew kept pass = record {
+  kept = kept;
+  faultless = ap (λ w. warp_fault w (sides_of right)) ew ∙ ap (warp_fault calib.right) (sym eb) ∙ pass.right_suits;
+}
+
+-- a rectified image has the sides of the image
+pub plane_width : (image : Picture) (warp : Warp) (plane : Values) → plane ≡ rectified_values image warp → plane.width ≡ image.width
+unfolding rectified_values
+plane_width image warp plane e = ap (λ (p : Values). p.width) e
+
+pub plane_height : (image : Picture) (warp : Warp) (plane : Values) → plane ≡ rectified_values image warp → plane.height ≡ image.height
+unfolding rectified_values
+plane_height image warp plane e = ap (λ (p : Values). p.height) e
+
+pub same_width : (left right : Picture) (a b : Sides) (calib : Calibration) → a ≡ sides_of left → b ≡ sides_of right → Passes a b calib → left.width ≡ right.width
+same_width left right a b calib ea eb pass = ap (λ (s : Sides). s.width) (sym ea ∙ pass.same ∙ eb)
+
+pub same_height : (left right : Picture) (a b : Sides) (calib : Calibration) → a ≡ sides_of left → b ≡ sides_of right → Passes a b calib → left.height ≡ right.height
+same_height left right a b calib ea eb pass = ap (λ (s : Sides). s.height) (sym ea ∙ pass.same ∙ eb)
+
+-- the planes' volume isn't too large
+pub plane_room : (left : Picture) (calib : Calibration) (a b : Sides) (warp : Warp) (plane : Values) (count : ℕ) → a ≡ sides_of left → plane ≡ rectified_values left warp → count ≡ calib.span.count
+    → Passes a b calib → plane.width * plane.height * count ≤ MAX_VOLUME
+plane_room left calib a b warp plane count ea ep ec pass =
+    subst (λ n. n ≤ MAX_VOLUME)
+    (sym (
+    ap (λ w. w * plane.height * count) (plane_width left warp plane ep ∙ ap (λ (s : Sides). s.width) (sym ea))
+    ∙ ap (λ h. a.width * h * count) (plane_height left warp plane ep ∙ ap (λ (s : Sides). s.height) (sym ea))
+    ∙ ap (λ n. a.width * a.height * n) ec))
+    pass.room
+
+grid_ranges : (camera : Option Camera) (spec : Option GridSpec) (first : ℤ) (map : Values) (grid : Cells) → Some grid ≡ grid_of camera spec first map → Some grid.spec ≡ spec
+unfolding highest
+grid_ranges None spec first map grid e = absurd (cc)
+grid_ranges (Some camera) None first map grid e = absurd (cc)
+grid_ranges (Some camera) (Some spec) first map grid e =
+    let same : grid ≡ highest spec (points_of camera first map) = cc in ap (λ (g : Cells). Some g.spec) same
+
+regions_in : (grid : Option Cells) (spec : Option GridSpec) (areas : Option (List Area)) → ((g : Cells) → grid ≡ Some g → spec ≡ Some g.spec)
+    → IfSome spec (λ s. IfSome areas (λ xs. All (IsArea s) xs)) → IfSome grid (λ g. IfSome areas (λ xs. All (IsArea g.spec) xs))
+regions_in None spec areas same kept = tt
+regions_in (Some g) spec areas same kept = subst (λ (o : Option GridSpec). IfSome o (λ s. IfSome areas (λ xs. All (IsArea s) xs))) (same g refl) kept
+
+-- the regions of a calibration lie in the grid of its survey
+pub regions_inside : (calib : Calibration) (camera : Option Camera) (spec : Option GridSpec) (first : ℤ) (map : Values) (grid : Option Cells) → IsCalibration calib → spec ≡ calib.grid → grid ≡ grid_of camera spec first map
+    → IfSome grid (λ g. IfSome calib.regions (λ xs. All (IsArea g.spec) xs))
+regions_inside calib camera spec first map grid kept es eg =
+    regions_in grid calib.grid calib.regions (λ g e. sym es ∙ sym (grid_ranges camera spec first map g (sym e ∙ eg))) kept.regions_inside
+
+-- from references to what they point at
+pub at_references : (grid : Option (Bor Cells)) (regions : Option (Bor (List Area)))
+    → IfSome (option_map (λ g. g.now) grid) (λ g. IfSome (option_map (λ r. r.now) regions) (λ xs. All (IsArea g.spec) xs))
+    → IfSome grid (λ g. IfSome regions (λ r. All (IsArea g.now.spec) r.now))
+at_references None regions h = tt
+at_references (Some g) None h = tt
+at_references (Some g) (Some r) h = h
+
+pub survey_is : (left right : Picture) (calib : Calibration) (disp : Values) (grid : Option Cells) (tallies : Option (List RegionTally)) → disp ≡ disparities left right calib
+    → grid ≡ grid_of calib.camera calib.grid calib.span.first disp → tallies ≡ tallies_of grid calib.regions
+    → (let survey : Survey = record { disp = disp; grid = grid; tallies = tallies } in survey) ≡ survey_of left right calib
+survey_is left right calib disp grid tallies ed eg et =
+    ap (λ t. let survey : Survey = record { disp = disp; grid = grid; tallies = t } in survey) et
+    ∙ ap (λ g. let survey : Survey = record { disp = disp; grid = g; tallies = tallies_of g calib.regions } in survey) eg
+    ∙ ap (λ d. let survey : Survey = record { disp = d; grid = grid_of calib.camera calib.grid calib.span.first d; tallies = tallies_of (grid_of calib.camera calib.grid calib.span.first d) calib.regions } in survey) ed
+
+pub grid_same : (camera other : Option Camera) (spec wanted : Option GridSpec) (first start : ℤ) (map : Values) → camera ≡ other → spec ≡ wanted → first ≡ start → grid_of camera spec first map ≡ grid_of other wanted start map
+grid_same camera other spec wanted first start map ec es ef =
+    ap (λ c. grid_of c spec first map) ec ∙ ap (λ s. grid_of other s first map) es ∙ ap (λ f. grid_of other wanted f map) ef

@@ -1,0 +1,9 @@
+use Rattle.std.proofs.Common.{◌≡◌, None, get_or}
+use Rattle.std.specs.Prelude.{fold, option_and_then}
+use Rattle.std.specs.List.{filter_map, range_with_len}
+use Rattle.sgm_grid.specs.Points.{added}
+use Rattle.sgm_job.specs.Heights.{point_at}
+use Rattle.sgm_job.proofs.heights.add_row.Given as goal
+
+abbrev pub invariant-loop-x : goal.invariant-loop-x
+invariant-loop-x l = l.grid ≡ fold added l.fn.grid (filter_map (λ x. option_and_then (point_at l.camera l.fn.span.first x l.y) (get_or l.row x None)) (range_with_len 0 l.x))

@@ -1,0 +1,85 @@
+//! Images, planes, maps and calibrations for the tests.
+
+use sgm_base::{Image, Plane, Size};
+use sgm_calib::{Calib, read};
+use std::alloc::Global;
+use std::test::Fail;
+
+/// A row of the left image of the worked example.
+pub const LEFT: [u16; 5] = [90, 10, 50, 20, 40];
+
+/// A row of its right image.
+pub const RIGHT: [u16; 5] = [10, 50, 20, 40, 30];
+
+/// What its calibration begins with.
+pub const EXAMPLE: &str =
+    "{\"version\":1,\"disparities\":{\"first\":0,\"count\":2},\"census\":{\"width\":3,\"height\":3},\"penalties\":{\"p1\":1,\"p2\":3}";
+
+/// What a calibration begins with that has the plain settings.
+pub const PLAIN: &str =
+    "{\"version\":1,\"disparities\":{\"first\":0,\"count\":64},\"census\":{\"width\":9,\"height\":7},\"penalties\":{\"p1\":10,\"p2\":120}";
+
+/// The camera of the worked example.
+pub const CAMERA: &str =
+    ",\"camera\":{\"focal\":25600,\"baseline\":1000,\"cx\":0,\"cy\":0,\"doffs\":0,\"mount\":150000,\"near\":1,\"far\":1000000}";
+
+/// Its grid.
+pub const GRID: &str =
+    ",\"grid\":{\"west\":2000,\"south\":-2000,\"cell\":1000,\"cols\":4,\"rows\":3}";
+
+pub fn image(alloc: Global, sides: (u32, u32), samples: &[u16]) -> Result<Image, Fail> {
+    let size = Size::make(sides.0, sides.1).ok_or("size")?;
+    Ok(Image::make(size, 255, samples.to_vec(alloc)?).ok_or("samples")?)
+}
+
+/// An image in which each sample is the same.
+pub fn even_image(alloc: Global, sides: (u32, u32)) -> Result<Image, Fail> {
+    let size = Size::make(sides.0, sides.1).ok_or("size")?;
+    let samples = vec![in alloc; 5; size.pixels()]?;
+    Ok(Image::make(size, 255, samples).ok_or("samples")?)
+}
+
+/// An image of three rows, each of these samples.
+pub fn image_of_rows(alloc: Global, row: &[u16; 5]) -> Result<Image, Fail> {
+    let rows = [*row, *row, *row].concat(alloc)?;
+    image(alloc, (5, 3), rows.as_slice())
+}
+
+/// A plane of three rows, each of these entries.
+pub fn plane_of_rows(alloc: Global, row: &[Option<u16>; 5]) -> Result<Plane, Fail> {
+    let size = Size::make(5, 3).ok_or("size")?;
+    let entries = [*row, *row, *row].concat(alloc)?;
+    Ok(Plane::make(size, entries).ok_or("entries")?)
+}
+
+/// The entries of a disparity map: 0 and 1 are indices, and a dot is none.
+pub fn map_of(alloc: Global, rows: &[&str]) -> Result<Vec<Option<u16>>, Fail> {
+    let mut entries = Vec::new(alloc);
+    for row in rows {
+        for mark in row.bytes() {
+            entries.push(match mark {
+                b'0' => Some(0),
+                b'1' => Some(16),
+                _ => None,
+            })?;
+        }
+    }
+    Ok(entries)
+}
+
+/// The calibration whose text has these parts, up to its last brace.
+pub fn calib(alloc: Global, parts: &[&str]) -> Result<Calib, Fail> {
+    let mut text = String::new(alloc);
+    for part in parts {
+        text.push_str(part)?;
+    }
+    text.push_str("}")?;
+    Ok(read(alloc, text.as_bytes()).ok().ok_or("calibration")?)
+}
+
+/// What a calibration begins with that has these disparities, and the rest as the worked example.
+pub fn span(alloc: Global, first: i32, count: u32) -> Result<String, Fail> {
+    Ok(format!(in alloc;
+        "{{\"version\":1,\"disparities\":{{\"first\":{first},\"count\":{count}}},\"census\":{{\"width\":3,\"height\":3}},\"penalties\":{{\"p1\":1,\"p2\":3}}"
+    )?)
+}

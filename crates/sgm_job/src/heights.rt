@@ -1,0 +1,92 @@
+//! From the disparities to the grid of heights.
+
+ghost use Rattle.std.specs.Prelude.{◌≡◌, ◌≤◌, ◌<◌, ◌^◌, ℕ, pos, negsuc, ◌≤ℤ◌, ◌+ℤ◌, ◌*ℤ◌, IfOk, IfSome, fold, length, Option, option_and_then, slice_index_or, None};
+ghost use Rattle.std.specs.List.{filter_map, range_with_len};
+ghost use Rattle.sgm_height.specs.Camera.{IsCamera, Within};
+ghost use Rattle.sgm_grid.specs.Cells.{IsGridSpec};
+ghost use Rattle.sgm_grid.specs.Points.{added};
+ghost use Rattle.sgm_job.specs.Bounds.{AtMost};
+ghost use Rattle.sgm_job.specs.Heights.{point_at, points_of, grid_of};
+
+use sgm_base::{DispMap, Point, Span};
+use sgm_grid::{Grid, GridSpec};
+use sgm_height::{Camera, point};
+use std::alloc::{AllocError, Global};
+
+/// The disparity in sixteenths of a pixel that a value of the map stands for.
+fn sixteenths(first: i32, value: u16) -> i32
+    requires first_low { negsuc 1023 ≤ℤ first }
+    requires first_high { first ≤ℤ pos 1024 }
+    requires value { value ≤ 4080 }
+    ensures exact { result ≡ (pos 16 *ℤ first) +ℤ pos value }
+    ensures near { Within 32768 result }
+{
+    16 * first + i32::from(value)
+}
+
+/// The point that a pixel shows, where it has a disparity and a point.
+fn pixel_point(camera: &Camera, first: i32, x: u32, y: u32, value: Option<u16>) -> Option<Point>
+    requires camera { IsCamera camera.now }
+    requires first_low { negsuc 1023 ≤ℤ first }
+    requires first_high { first ≤ℤ pos 1024 }
+    requires x { x < 4096 }
+    requires y { y < 4096 }
+    requires value { IfSome value (λ v. v ≤ 4080) }
+    ensures exact { result ≡ option_and_then (point_at camera.now first x y) value }
+    ensures height { IfSome result (λ p. Within 2000000000 p.h) }
+    ensures east { IfSome result (λ p. Within (2 ^ 60) p.x) }
+    ensures north { IfSome result (λ p. Within (2 ^ 60) p.y) }
+{
+    match value {
+        None => None,
+        Some(value) => point(camera, x, y, sixteenths(first, value)),
+    }
+}
+
+/// Adds the points of a row of disparities, each in sixteenths from the first disparity of the span on.
+fn add_row(camera: &Camera, span: Span, y: u32, row: &[Option<u16>], grid: &mut Grid)
+    requires camera { IsCamera camera.now }
+    requires y { y < 4096 }
+    requires width { length row.now ≤ 4096 }
+    requires values { AtMost 4080 row.now }
+    ensures { grid.new ≡ fold added grid.old (filter_map (λ x. option_and_then (point_at camera.now span.first x y) (slice_index_or row.now x None)) (range_with_len 0 (length row.now))) }
+{
+    for x in 0..row.len() {
+        if let Some(found) = pixel_point(camera, span.first, x as u32, y, row[x]) {
+            grid.add(found);
+        }
+    }
+}
+
+/// Adds the points of a map of disparities.
+#[tactic(auto, unfolding(crate::specs::Heights::points_of))]
+fn add_points(camera: &Camera, span: Span, map: &DispMap, grid: &mut Grid)
+    requires camera { IsCamera camera.now }
+    requires values { AtMost 4080 map.now.entries }
+    ensures { grid.new ≡ fold added grid.old (points_of camera.now span.first map.now) }
+{
+    for y in 0..map.size().height {
+        add_row(camera, span, y, map.row(y), grid);
+    }
+}
+
+/// The grid of a map of disparities, where there is a camera and a grid is asked for.
+pub(crate) fn heights(
+    alloc: Global,
+    camera: Option<Camera>,
+    spec: Option<GridSpec>,
+    span: Span,
+    map: &DispMap,
+) -> Result<Option<Grid>, AllocError>
+    requires camera { IfSome camera IsCamera }
+    requires spec { IfSome spec IsGridSpec }
+    requires values { AtMost 4080 map.now.entries }
+    ensures { IfOk result (λ grid. grid ≡ grid_of camera spec span.first map.now) }
+{
+    let (Some(camera), Some(spec)) = (camera, spec) else {
+        return Ok(None);
+    };
+    let mut grid = Grid::make(alloc, spec)?;
+    add_points(&camera, span, map, &mut grid);
+    Ok(Some(grid))
+}

@@ -1,0 +1,25 @@
+use Rattle.std.proofs.Common.{◌≡◌, ℕ, ◌+◌, ◌++◌, [], ◌∷◌, length, take, rules, ap, ◌∙◌}
+use Rattle.std.proofs.lemmas.List.{length_push}
+use Rattle.std.proofs.lemmas.Slice.Zip.{zip_turn}
+use Rattle.sgm_report.specs.Table.{fields_line, region_fields, table_text}
+use Rattle.sgm_report.specs.Writers.{text_of}
+use Rattle.sgm_report.proofs.Rows.{table_more, text_more}
+use Rattle.sgm_report.proofs.table.write_rows.Goals as goal
+
+pub loop-region-preserved : goal.loop-region-preserved
+loop-region-preserved c =
+    let areas = c.args.regions.now in
+    let tallies = c.args.tallies.now in
+    let area = c.in-Some.region.now in
+    let tally = c.in-Some.tally.now in
+    let k = length c.loop-region.yielded in
+    let turn = zip_turn areas tallies c.loop-region.yielded c.into_iter-region-iterator.result c.loop-region.region-iterator c.next.new.self c.next.result
+    (search rules) (search rules) c.loop-region.yielded_by (c.in-Some.region, c.in-Some.tally) c.in-Some.is c.next.ensures.steps in
+    let count : length (c.loop-region.yielded ++ (c.in-Some.region, c.in-Some.tally) ∷ []) ≡ k + 1 = length_push c.loop-region.yielded (c.in-Some.region, c.in-Some.tally) in
+    let text = table_more areas tallies k area tally turn.0 turn.1 (turn.2 area) (turn.3 tally) in
+    record {
+      writer = c.in_ok-write_region.ensures.writer;
+      text = text_more (text_of c.args.writer.now) (text_of c.loop-region.writer) (text_of c.write_region.new.writer) (fields_line (region_fields area tally)) _
+          (table_text (take k areas) (take k tallies)) c.loop-region.invariant.text c.in_ok-write_region.ensures.text
+          (ap (λ (n : ℕ). table_text (take n areas) (take n tallies)) count ∙ text);
+    }

@@ -1,0 +1,5 @@
+pub mod Areas
+pub mod Tallies
+pub mod Sums
+pub mod Table
+pub mod Writers

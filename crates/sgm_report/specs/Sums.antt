@@ -1,0 +1,36 @@
+-- What the code holds of some cells while it goes over a region.
+use Rattle.std.specs.Prelude.{ℕ, ◌+◌, ◌*◌, ◌≤◌, ℤ, List, Option, Some, None, count_by, sum_by, is_some, is_none}
+use Rattle.std.specs.Int.{int_min}
+use Rattle.sgm_grid.specs.Points.{greatest}
+use Rattle.sgm_report.specs.Tallies.{above, below, heights_in, least}
+use Rattle.sgm_report.specs.declared.volumes.Sums.{Sums}
+
+-- the sums of some cells over that base
+abbrev pub sums_over : ℤ → List (Option ℤ) → Sums
+sums_over base cells = record {
+  cells = count_by is_some cells;
+  empty = count_by is_none cells;
+  above = sum_by (above base) (heights_in cells);
+  below = sum_by (below base) (heights_in cells);
+  lowest = least (heights_in cells);
+  highest = greatest (heights_in cells);
+}
+
+-- the lesser of what was held and a height, or the height where nothing was
+abbrev pub lower : Option ℤ → ℤ → ℤ
+lower None height = height
+lower (Some held) height = int_min held height
+
+-- the most cells of a grid
+abbrev pub most_cells : ℕ
+most_cells = 16777216
+
+-- how far a height and a base are apart at most
+abbrev pub most_apart : ℕ
+most_apart = 4000000000
+
+-- sums that stay in their bounds with that many cells more
+pub record HasRoom (sums : Sums) (count : ℕ) : Type 0 where
+  pub counts : sums.cells + sums.empty + count ≤ most_cells
+  pub heights_above : sums.above + count * most_apart ≤ most_cells * most_apart
+  pub heights_below : sums.below + count * most_apart ≤ most_cells * most_apart

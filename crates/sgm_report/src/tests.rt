@@ -1,0 +1,277 @@
+ghost use Rattle.std.specs.Prelude.{◌≡◌, IsTrue, All};
+ghost use Rattle.sgm_report.specs.Areas.{IsBase, IsRegionName, LiesIn};
+
+use super::*;
+use sgm_base::Point;
+use sgm_grid::{Grid, GridSpec, MAX_HEIGHT};
+use std::alloc::Global;
+use std::process::Abort;
+use std::test::Fail;
+
+/// One row of three cells with a side of 1000, from 0 on.
+const ROW: GridSpec = GridSpec {
+    west: 0,
+    south: 0,
+    cell: 1_000,
+    cols: 3,
+    rows: 1,
+};
+
+/// Two columns and three rows of cells with a side of 1, from 0 on.
+const ROWS: GridSpec = GridSpec {
+    west: 0,
+    south: 0,
+    cell: 1,
+    cols: 2,
+    rows: 3,
+};
+
+/// Two of the largest cells.
+const LARGEST: GridSpec = GridSpec {
+    west: 0,
+    south: 0,
+    cell: 1_000_000_000,
+    cols: 2,
+    rows: 1,
+};
+
+/// The bytes before the first region.
+const HEAD: &[u8] = b"region,cells,empty,fill,cut,lowest,highest\n";
+
+fn at(x: i64, y: i64, h: i64) -> Point
+    ensures { result ≡ record { x = x; y = y; h = h } }
+{
+    Point { x, y, h }
+}
+
+/// The cells 5, 7 and an empty one.
+fn five_seven_none(alloc: Global) -> Result<Grid, Fail> {
+    let mut grid = Grid::make(alloc, ROW)?;
+    grid.add(at(0, 0, 5));
+    grid.add(at(1_000, 0, 7));
+    Ok(grid)
+}
+
+/// A region of that name, from (col, row), with so many columns and rows.
+fn region(alloc: Global, corner: (u32, u32), sides: (u32, u32), base: i64) -> Result<Region, Fail> {
+    Ok(Region {
+        name: String::from_str(alloc, "r")?,
+        col: corner.0,
+        row: corner.1,
+        cols: sides.0,
+        rows: sides.1,
+        base,
+    })
+}
+
+fn lies_in(spec: GridSpec, region: &Region) -> bool
+    ensures { IsTrue result → LiesIn spec region.now }
+{
+    region.cols >= 1
+        && region.rows >= 1
+        && region.col as u64 + region.cols as u64 <= spec.cols as u64
+        && region.row as u64 + region.rows as u64 <= spec.rows as u64
+}
+
+fn is_base(base: i64) -> bool
+    ensures { IsTrue result → IsBase base }
+{
+    -MAX_HEIGHT <= base && base <= MAX_HEIGHT
+}
+
+/// The tally of a region that lies in the grid.
+fn tally_in(rt: &impl Abort, grid: &Grid, region: &Region) -> RegionTally {
+    assert!(rt; lies_in(grid.spec(), region));
+    assert!(rt; is_base(region.base));
+    tally(grid, region)
+}
+
+fn have_names(regions: &[Region]) -> bool
+    ensures { IsTrue result → All (λ area. IsRegionName area.name) regions.now }
+{
+    regions
+        .iter()
+        .all(|region| is_region_name(region.name.as_str()))
+}
+
+/// Adds the table of regions that may have their names.
+fn add_report(
+    rt: &impl Abort,
+    regions: &[Region],
+    tallies: &[RegionTally],
+    into: &mut Vec<u8>,
+) -> Result<(), Fail> {
+    assert!(rt; have_names(regions));
+    assert!(rt; tallies.len() == regions.len());
+    write_report(regions, tallies, into)?;
+    Ok(())
+}
+
+fn counted(cells: u64, empty: u64, fill: u128, cut: u128, ends: Option<(i32, i32)>) -> RegionTally {
+    RegionTally {
+        cells,
+        empty,
+        fill,
+        cut,
+        lowest: ends.map(|ends| ends.0),
+        highest: ends.map(|ends| ends.1),
+    }
+}
+
+/// The whole row with its base between, below, at and above its heights; one cell; an empty one.
+#[test]
+fn bases_and_parts(rt: HostRuntime) -> Result<(), Fail> {
+    let grid = five_seven_none(rt.alloc())?;
+    let table = [
+        (0, 3, 6, counted(2, 1, 1_000_000, 1_000_000, Some((5, 7)))),
+        (0, 3, 4, counted(2, 1, 4_000_000, 0, Some((5, 7)))),
+        (0, 3, 5, counted(2, 1, 2_000_000, 0, Some((5, 7)))),
+        (0, 3, 8, counted(2, 1, 0, 4_000_000, Some((5, 7)))),
+        (0, 3, -10, counted(2, 1, 32_000_000, 0, Some((5, 7)))),
+        (1, 1, 6, counted(1, 0, 1_000_000, 0, Some((7, 7)))),
+        (0, 1, 6, counted(1, 0, 0, 1_000_000, Some((5, 5)))),
+        (2, 1, 6, counted(0, 1, 0, 0, None)),
+        (1, 2, 6, counted(1, 1, 1_000_000, 0, Some((7, 7)))),
+    ];
+    for (col, cols, base, want) in table {
+        let part = region(rt.alloc(), (col, 0), (cols, 1), base)?;
+        assert_eq!(rt;
+            tally_in(&rt, &grid, &part),
+            want,
+            "{cols} from {col} on over {base}"
+        );
+    }
+    Ok(())
+}
+
+/// Heights at both ends of their range, over bases at the other end.
+#[test]
+fn largest_cells(rt: HostRuntime) -> Result<(), Fail> {
+    let mut grid = Grid::make(rt.alloc(), LARGEST)?;
+    grid.add(at(0, 0, 2_000_000_000));
+    grid.add(at(1_000_000_000, 0, -2_000_000_000));
+    let whole: u128 = 4_000_000_000_000_000_000_000_000_000;
+    let ends = Some((2_000_000_000, 2_000_000_000));
+    let high = region(rt.alloc(), (0, 0), (1, 1), -2_000_000_000)?;
+    assert_eq!(rt; tally_in(&rt, &grid, &high), counted(1, 0, whole, 0, ends));
+    let ends = Some((-2_000_000_000, -2_000_000_000));
+    let low = region(rt.alloc(), (1, 0), (1, 1), 2_000_000_000)?;
+    assert_eq!(rt; tally_in(&rt, &grid, &low), counted(1, 0, 0, whole, ends));
+    let ends = Some((-2_000_000_000, 2_000_000_000));
+    let both = region(rt.alloc(), (0, 0), (2, 1), 0)?;
+    assert_eq!(rt;
+        tally_in(&rt, &grid, &both),
+        counted(2, 0, whole / 2, whole / 2, ends)
+    );
+    Ok(())
+}
+
+/// From the north the rows are 10 20, 30 and an empty cell, 50 60.
+#[test]
+fn rows_count_from_the_north(rt: HostRuntime) -> Result<(), Fail> {
+    let mut grid = Grid::make(rt.alloc(), ROWS)?;
+    for (x, y, h) in [(0, 2, 10), (1, 2, 20), (0, 1, 30), (0, 0, 50), (1, 0, 60)] {
+        grid.add(at(x, y, h));
+    }
+    let north = region(rt.alloc(), (0, 0), (2, 1), 0)?;
+    assert_eq!(rt;
+        tally_in(&rt, &grid, &north),
+        counted(2, 0, 30, 0, Some((10, 20)))
+    );
+    let south_east = region(rt.alloc(), (1, 1), (1, 2), 0)?;
+    assert_eq!(rt;
+        tally_in(&rt, &grid, &south_east),
+        counted(1, 1, 60, 0, Some((60, 60)))
+    );
+    let west = region(rt.alloc(), (0, 0), (1, 3), 30)?;
+    assert_eq!(rt;
+        tally_in(&rt, &grid, &west),
+        counted(3, 0, 20, 20, Some((10, 50)))
+    );
+    Ok(())
+}
+
+#[test]
+fn names(rt: HostRuntime) -> Result<(), Fail> {
+    let sixty = "abcdefghijklmnopqrstuvwxyzABCDEFGHIJKLMNOPQRSTUVWXYZ01234567";
+    let table = [
+        ("", false),
+        ("a", true),
+        (" ", true),
+        ("_", true),
+        ("-", true),
+        (".", true),
+        ("North-East pit no. 89_b", true),
+        (",", false),
+        ("\"", false),
+        ("a\nb", false),
+        ("a/b", false),
+        ("a:b", false),
+        ("a@b", false),
+        ("a[b", false),
+        ("a`b", false),
+        ("a{b", false),
+        ("\u{e9}", false),
+    ];
+    for (name, want) in table {
+        assert_eq!(rt; is_region_name(name), want, "{name}");
+    }
+    let mut name = String::from_str(rt.alloc(), sixty)?;
+    name.push_str("abcd")?;
+    assert_eq!(rt; name.len(), 64);
+    assert_eq!(rt; is_region_name(name.as_str()), true);
+    name.push_str("e")?;
+    assert_eq!(rt; is_region_name(name.as_str()), false);
+    Ok(())
+}
+
+/// The table of the worked example, after what `into` held.
+#[test]
+fn text_of_the_example(rt: HostRuntime) -> Result<(), Fail> {
+    let mut all = region(rt.alloc(), (0, 0), (4, 3), 40_000)?;
+    all.name = String::from_str(rt.alloc(), "all")?;
+    let mut east = region(rt.alloc(), (3, 0), (1, 1), 60_000)?;
+    east.name = String::from_str(rt.alloc(), "east")?;
+    let tallies = [
+        counted(9, 3, 90_000_000_000, 0, Some((50_000, 50_000))),
+        counted(0, 1, 0, 0, None),
+    ];
+    let mut text = b"before\n".to_vec(rt.alloc())?;
+    add_report(&rt, &[all, east], &tallies, &mut text)?;
+    assert_eq!(rt;
+        text.as_slice(),
+        b"before\nregion,cells,empty,fill,cut,lowest,highest\nall,9,3,90000000000,0,50000,50000\neast,0,1,0,0,,\n".as_slice()
+    );
+    Ok(())
+}
+
+#[test]
+fn text_of_no_regions(rt: HostRuntime) -> Result<(), Fail> {
+    let mut text = Vec::new(rt.alloc());
+    add_report(&rt, &[], &[], &mut text)?;
+    assert_eq!(rt; text.as_slice(), HEAD);
+    Ok(())
+}
+
+/// A thousand lines of fifteen bytes, and the greatest numbers.
+#[test]
+fn text_of_many_regions(rt: HostRuntime) -> Result<(), Fail> {
+    let mut regions = Vec::new(rt.alloc());
+    let mut tallies = Vec::new(rt.alloc());
+    let mut want = HEAD.to_vec(rt.alloc())?;
+    for _ in 0..999 {
+        regions.push(region(rt.alloc(), (0, 0), (1, 1), 0)?)?;
+        tallies.push(counted(1, 2, 3, 4, Some((-5, 6))))?;
+        want.extend_from_slice(b"r,1,2,3,4,-5,6\n")?;
+    }
+    regions.push(region(rt.alloc(), (0, 0), (1, 1), 0)?)?;
+    let ends = Some((i32::MIN, i32::MAX));
+    tallies.push(counted(u64::MAX, u64::MAX, u128::MAX, u128::MAX, ends))?;
+    want.extend_from_slice(
+        b"r,18446744073709551615,18446744073709551615,340282366920938463463374607431768211455,340282366920938463463374607431768211455,-2147483648,2147483647\n",
+    )?;
+    let mut text = Vec::new(rt.alloc());
+    add_report(&rt, &regions, &tallies, &mut text)?;
+    assert_eq!(rt; text.as_slice(), want.as_slice());
+    Ok(())
+}

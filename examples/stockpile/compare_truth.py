@@ -1,0 +1,100 @@
+#!/usr/bin/env python3
+"""Compares a survey of the stockpile with the truth: `compare_truth.py OUT` reads OUT.asc and OUT.csv.
+
+The truth is the cone of make_stockpile.py: its volume is pi * radius * radius * height / 3, and the height
+of a place is the height of the tip less its distance from the axis times the slope. Prints the true and
+the measured numbers with their errors, and fails where OUT.csv isn't the sum of the cells of OUT.asc.
+The program decides nothing here: these numbers are for people, and use floating point.
+"""
+
+import csv
+import json
+import math
+import os
+import sys
+
+import make_stockpile as truth
+
+HERE = os.path.dirname(os.path.abspath(__file__))
+METRE = 1_000_000
+
+
+def read_heights(name):
+    """The grid's head as numbers, and its rows of heights from the north, None where a cell is empty."""
+    with open(name) as file:
+        words = file.read().split()
+    head = dict(zip(words[0:12:2], map(int, words[1:12:2])))
+    cells = [None if word == words[11] else int(word) for word in words[12:]]
+    cols = head["ncols"]
+    return head, [cells[at : at + cols] for at in range(0, len(cells), cols)]
+
+
+def true_height(x, y):
+    away = math.hypot(x - truth.CONE_X, y - truth.CONE_Y)
+    return max(0, truth.CONE_HEIGHT * (1 - away / truth.CONE_RADIUS))
+
+
+def true_volume():
+    return math.pi * truth.CONE_RADIUS**2 * truth.CONE_HEIGHT / 3
+
+
+def cells_of(region, head, rows):
+    """The true height at each cell's middle, and the measured one, of the region's cells."""
+    size = head["cellsize"]
+    for row in range(region["row"], region["row"] + region["rows"]):
+        for col in range(region["col"], region["col"] + region["cols"]):
+            x = head["xllcorner"] + size * col + size / 2
+            y = head["yllcorner"] + size * (head["nrows"] - 1 - row) + size / 2
+            yield true_height(x, y), rows[row][col]
+
+
+def is_sum_of_cells(line, region, heights, size):
+    """Whether the report's line is what the region's heights come to."""
+    filled = [height for height in heights if height is not None]
+    above = sum(max(0, height - region["base"]) for height in filled) * size * size
+    below = sum(max(0, region["base"] - height) for height in filled) * size * size
+    ends = [min(filled), max(filled)] if filled else ["", ""]
+    made = [region["name"], len(filled), len(heights) - len(filled), above, below, *ends]
+    return list(line.values()) == [str(it) for it in made]
+
+
+def print_parts(pairs, size):
+    """Where the error of the volume comes from: cells that are too high or too low, and cells that are empty."""
+    errors = [height - true for true, height in pairs if height is not None]
+    missing = [true for true, height in pairs if height is None]
+    cube = METRE**3 / size**2
+    print(f"of the volume's error: {sum(errors) / cube:+.3f} m3 from {len(errors)} measured cells, ", end="")
+    print(f"{-sum(missing) / cube:+.3f} m3 from {len(missing)} empty ones")
+
+
+def percent(measured, true):
+    return f"{100 * (measured / true - 1):+.2f} %"
+
+
+def main():
+    if len(sys.argv) != 2:
+        sys.exit("compare_truth: OUT is needed, the last word of the match")
+    with open(os.path.join(HERE, "calibration.json")) as file:
+        regions = json.load(file)["regions"]
+    head, rows = read_heights(sys.argv[1] + ".asc")
+    with open(sys.argv[1] + ".csv", newline="") as file:
+        lines = list(csv.DictReader(file))
+    for region, line in zip(regions, lines, strict=True):
+        pairs = list(cells_of(region, head, rows))
+        if not is_sum_of_cells(line, region, [height for _, height in pairs], head["cellsize"]):
+            sys.exit(f"compare_truth: region {region['name']}: the report isn't the sum of the cells")
+
+    pile, ground = lines
+    volume = true_volume()
+    measured = int(pile["fill"]) - int(pile["cut"])
+    highest = int(pile["highest"])
+    height, low, high = truth.CONE_HEIGHT, int(ground["lowest"]), int(ground["highest"])
+    print(f"volume  true {volume / METRE**3:.3f} m3   measured {measured / METRE**3:.3f} m3   ", end="")
+    print(percent(measured, volume))
+    print(f"height  true {height / METRE:.3f} m     measured {highest / METRE:.3f} m     {percent(highest, height)}")
+    print(f"ground  true 0.000 m     measured {low / METRE:.3f} to {high / METRE:.3f} m")
+    print_parts(list(cells_of(regions[0], head, rows)), head["cellsize"])
+
+
+if __name__ == "__main__":
+    main()

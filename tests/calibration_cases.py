@@ -1,0 +1,253 @@
+#!/usr/bin/env python3
+"""Calibrations with one fault each and the line that the program owes for it, written out by hand.
+
+    calibration_cases.py FOLDER
+
+writes NAME.json and NAME.line for each. They go over the keys of the warps, the camera, the grid and the
+regions: each one missing, of a wrong type, just outside its range on either side, and beside a name that
+isn't known; and over the order of the faults where several stand together. `BOUNDS` are calibrations at
+the very ends of the ranges, which have no fault. The pictures are those of 5 x 3 pixels of ends.sh.
+"""
+
+import copy
+import itertools
+import json
+import os
+import sys
+
+MISSING = object()
+WRONG_TYPES = itertools.cycle([1.5, "1", None, True, [1], {"a": 1}, 1.0])
+
+PLAIN = {
+    "version": 1,
+    "disparities": {"first": 0, "count": 2},
+    "census": {"width": 3, "height": 3},
+    "penalties": {"p1": 1, "p2": 3},
+}
+WHOLE = {
+    **PLAIN,
+    "camera": {
+        "focal": 25600, "baseline": 1000, "cx": 0, "cy": 0, "doffs": 0, "mount": 150000, "near": 1, "far": 1000000,
+    },
+    "grid": {"west": 2000, "south": -2000, "cell": 1000, "cols": 4, "rows": 3},
+    "regions": [
+        {"name": "all", "col": 0, "row": 0, "cols": 4, "rows": 3, "base": 40000},
+        {"name": "east", "col": 3, "row": 0, "cols": 1, "rows": 1, "base": 60000},
+    ],
+}
+IDENTITY = {"kind": "identity"}
+PROJECTIVE = {"kind": "projective", "matrix": [1, 0, 0, 0, 1, 0, 0, 0, 1]}
+# A picture of 5 x 3 needs (5 - 1) div 2 + 2 columns and (3 - 1) div 2 + 2 rows of nodes.
+MESH = {
+    "kind": "mesh",
+    "step": 2,
+    "cols": 4,
+    "rows": 3,
+    "nodes": [part for y in (0, 512, 1024) for x in (0, 512, 1024, 1536) for part in (x, y)],
+}
+
+# The whole numbers, with the least and the greatest value that is accepted where all else is as in WHOLE.
+NUMBERS = [
+    ("camera.focal", 1, 16777216),
+    ("camera.baseline", 1, 2000000000),
+    ("camera.cx", -16777216, 16777216),
+    ("camera.cy", -16777216, 16777216),
+    ("camera.doffs", -16777216, 16777216),
+    ("camera.mount", 0, 2000000000),
+    ("camera.near", 1, 1000000),
+    ("camera.far", 1, 2000000000),
+    ("grid.west", -2000000000, 2000000000),
+    ("grid.south", -2000000000, 2000000000),
+    ("grid.cell", 1, 1000000000),
+    ("grid.cols", 4, 4096),
+    ("grid.rows", 3, 4096),
+    ("regions.0.base", -2000000000, 2000000000),
+    ("regions.0.col", 0, 0),
+    ("regions.0.row", 0, 0),
+    ("regions.0.cols", 1, 4),
+    ("regions.0.rows", 1, 3),
+    ("regions.1.col", 0, 3),
+    ("regions.1.row", 0, 2),
+    ("regions.1.cols", 1, 1),
+    ("regions.1.rows", 1, 3),
+    ("regions.1.base", -2000000000, 2000000000),
+]
+# Where the first value outside is another key's fault, or that of the one before, it stands here.
+OUTSIDE = {
+    ("camera.near", 1000001): "camera.far is out of range",
+    ("grid.cols", 3): "regions[0].cols is out of range",
+    ("grid.rows", 2): "regions[0].rows is out of range",
+    ("regions.0.col", 1): "regions[0].cols is out of range",
+    ("regions.0.row", 1): "regions[0].rows is out of range",
+}
+
+
+def changed(base, *changes):
+    """The calibration with each (path, value) put in, or taken out where the value is MISSING."""
+    made = copy.deepcopy(base)
+    for path, value in changes:
+        *way, last = [int(word) if word.isdigit() else word for word in path.split(".")]
+        part = made
+        for word in way:
+            part = part[word]
+        if value is MISSING:
+            del part[last]
+        else:
+            part[last] = value
+    return made
+
+
+def printed(path):
+    """The path as the program prints it: an element of a list by its index in brackets."""
+    return "".join(f"[{word}]" if word.isdigit() else "." + word for word in path.split("."))[1:]
+
+
+def warped(side, kind):
+    other = {"left": "right", "right": "left"}[side]
+    return {**PLAIN, "warp": {side: kind, other: IDENTITY}}
+
+
+def number_faults():
+    for path, low, high in NUMBERS:
+        yield path, changed(WHOLE, (path, MISSING)), printed(path) + " is missing"
+        yield path, changed(WHOLE, (path, next(WRONG_TYPES))), printed(path) + " has the wrong type"
+        for value in (low - 1, high + 1):
+            line = OUTSIDE.get((path, value), printed(path) + " is out of range")
+            yield path, changed(WHOLE, (path, value)), line
+
+
+def warp_faults():
+    yield "warp", changed(WHOLE, ("warp", [])), "warp has the wrong type"
+    yield "warp", changed(WHOLE, ("warp", {})), "warp.left is missing"
+    yield "warp", changed(WHOLE, ("warp", {"left": IDENTITY})), "warp.right is missing"
+    yield "warp", changed(WHOLE, ("warp", {"middle": 0})), "warp has an unknown name"
+    yield "warp", changed(WHOLE, ("warp", {"right": 0})), "warp.left is missing"
+    yield "warp", changed(WHOLE, ("warp", {"left": IDENTITY, "right": None})), "warp.right has the wrong type"
+    for side in ("left", "right"):
+        at, name = f"warp.{side}", f"warp-{side}"
+        yield name, warped(side, []), f"{at} has the wrong type"
+        yield name, warped(side, {}), f"{at}.kind is missing"
+        yield name, warped(side, {"kind": 1}), f"{at}.kind has the wrong type"
+        yield name, warped(side, {"kind": "Mesh"}), f"{at}.kind is out of range"
+        # The kind comes before names that aren't known; which names are known hangs on it.
+        yield name, warped(side, {"kind": "", "a": 0}), f"{at}.kind is out of range"
+        yield name, warped(side, {"a": 0}), f"{at}.kind is missing"
+        yield name, warped(side, {**IDENTITY, "matrix": PROJECTIVE["matrix"]}), f"{at} has an unknown name"
+        yield name, warped(side, {**PROJECTIVE, "step": 2}), f"{at} has an unknown name"
+        yield name, warped(side, {**MESH, "matrix": 0}), f"{at} has an unknown name"
+        for key in ("step", "cols", "rows", "nodes"):
+            yield name, warped(side, changed(MESH, (key, MISSING))), f"{at}.{key} is missing"
+            yield name, warped(side, changed(MESH, (key, "4"))), f"{at}.{key} has the wrong type"
+        for key, low, high in (("step", 2, 1024), ("cols", 2, 2049), ("rows", 2, 2049)):
+            for value in (low - 1, high + 1):
+                yield name, warped(side, changed(MESH, (key, value))), f"{at}.{key} is out of range"
+        yield name, warped(side, {"kind": "projective"}), f"{at}.matrix is missing"
+        yield name, warped(side, {**PROJECTIVE, "matrix": {}}), f"{at}.matrix has the wrong type"
+        for key, base, most in (("matrix", PROJECTIVE, 1099511627776), ("nodes", MESH, 16777216)):
+            numbers = base[key]
+            for wrong in (numbers[:-1], numbers + [0], [], [most + 1] + numbers[1:], numbers[:-1] + [-most - 1]):
+                yield name, warped(side, {**base, key: wrong}), f"{at}.{key} is out of range"
+            # A wrong element comes before a wrong count and before what is out of range.
+            for wrong in (numbers[:-1] + [0.5], [None], [most + 1, "0"], numbers + [[]]):
+                yield name, warped(side, {**base, key: wrong}), f"{at}.{key} has the wrong type"
+
+
+def section_faults():
+    for key, wrong in (("camera", 0), ("grid", []), ("regions", {})):
+        yield key, changed(WHOLE, (key, wrong)), f"{key} has the wrong type"
+    for key in ("camera", "grid"):
+        yield key, changed(WHOLE, (key + ".a", 0)), f"{key} has an unknown name"
+        # An unknown name comes before the object's own keys.
+        yield key, changed(WHOLE, (key, {"a": 0})), f"{key} has an unknown name"
+    yield "camera", changed(WHOLE, ("camera", MISSING)), "camera is missing"
+    yield "camera", changed(WHOLE, ("camera", MISSING), ("regions", MISSING)), "camera is missing"
+    yield "camera", changed(WHOLE, ("camera", {})), "camera.focal is missing"
+    yield "camera", changed(WHOLE, ("camera.near", 1000), ("camera.far", 999)), "camera.far is out of range"
+    yield "camera", changed(WHOLE, ("camera.near", 2000000001)), "camera.near is out of range"
+    yield "camera", changed(WHOLE, ("camera.near", 0), ("camera.far", -1)), "camera.near is out of range"
+    yield "grid", changed(WHOLE, ("grid", MISSING)), "grid is missing"
+    yield "grid", changed(PLAIN, ("regions", [])), "grid is missing"
+    yield "grid", changed(WHOLE, ("grid", {})), "grid.west is missing"
+    yield "grid", changed(WHOLE, ("grid.cols", 0)), "grid.cols is out of range"
+    yield "grid", changed(WHOLE, ("grid.rows", 0)), "grid.rows is out of range"
+
+
+def region_faults():
+    region = WHOLE["regions"][0]
+    yield "regions", changed(WHOLE, ("regions", [region] * 1001)), "regions is out of range"
+    yield "regions", changed(WHOLE, ("regions", [0] * 1001)), "regions is out of range"
+    yield "regions", changed(WHOLE, ("regions.0", [])), "regions[0] has the wrong type"
+    yield "regions", changed(WHOLE, ("regions.1", "all")), "regions[1] has the wrong type"
+    yield "regions", changed(WHOLE, ("regions.0.a", 0)), "regions[0] has an unknown name"
+    yield "regions", changed(WHOLE, ("regions.1", {"a": 0})), "regions[1] has an unknown name"
+    yield "regions", changed(WHOLE, ("regions.0", {})), "regions[0].name is missing"
+    yield "regions", changed(WHOLE, ("regions.1.name", MISSING)), "regions[1].name is missing"
+    yield "regions", changed(WHOLE, ("regions.1.name", 7)), "regions[1].name has the wrong type"
+    for wrong in ("", "a" * 65, "a,b", 'a"b', "a\nb", "a/b", "h\u00f6he", "a\u0000", "a\tb"):
+        yield "regions", changed(WHOLE, ("regions.1.name", wrong)), "regions[1].name is out of range"
+    # Regions are checked by index, each whole.
+    both = (("regions.0.base", 0.5), ("regions.1", 0))
+    yield "regions", changed(WHOLE, *both), "regions[0].base has the wrong type"
+    many = [region] * 999 + [{key: value for key, value in region.items() if key != "base"}]
+    yield "regions", changed(WHOLE, ("regions", many)), "regions[999].base is missing"
+
+
+def order_faults():
+    """Two faults each: that of the lower number is named, and all of a part before the next part."""
+    yield "order", changed(WHOLE, ("warp", 0), ("camera", 0)), "warp has the wrong type"
+    yield "order", changed(WHOLE, ("penalties", 0), ("warp", 0)), "penalties has the wrong type"
+    yield "order", changed(WHOLE, ("camera.far", 0), ("grid", 0)), "camera.far is out of range"
+    yield "order", changed(WHOLE, ("camera", MISSING), ("grid", 0)), "camera is missing"
+    yield "order", changed(WHOLE, ("grid.rows", 0), ("regions", 0)), "grid.rows is out of range"
+    yield "order", changed(WHOLE, ("grids", 0), ("camera", 0)), "top has an unknown name"
+    yield "order", changed(WHOLE, ("warp", {"left": MESH, "right": {}}), ("camera", 0)), "warp.right.kind is missing"
+    both = {"left": {**MESH, "nodes": [0]}, "right": {"kind": 0}}
+    yield "order", changed(WHOLE, ("warp", both)), "warp.left.nodes is out of range"
+
+
+def faults():
+    """Triples of a name, a calibration and its line."""
+    parts = (warp_faults, section_faults, number_faults, region_faults, order_faults)
+    numbered = {}
+    for name, made, line in itertools.chain.from_iterable(part() for part in parts):
+        name = name.replace(".", "-")
+        numbered[name] = numbered.get(name, 0) + 1
+        yield f"{name}-{numbered[name]}", made, f"sgm: calibration: {line}"
+
+
+def bounds():
+    """Pairs of a name and a calibration without a fault, at an end of a range."""
+    for path, low, high in NUMBERS:
+        for value in sorted({low, high}):
+            # The least grid here has 4 x 3 cells, which is WHOLE itself, and the greatest would be long.
+            if path not in ("grid.cols", "grid.rows"):
+                yield f"bound-{path.replace('.', '-')}-{value}", changed(WHOLE, (path, value))
+    yield "bound-near-and-far", changed(WHOLE, ("camera.near", 2000000000), ("camera.far", 2000000000))
+    yield "bound-grid-long", changed(WHOLE, ("grid.cols", 4096))
+    yield "bound-grid-one", changed(WHOLE, ("grid.cols", 1), ("grid.rows", 1), ("regions", MISSING))
+    names = ["a" * 64, "0", " ", "_-.", "Pile no. 7_b-C"]
+    regions = [{**WHOLE["regions"][1], "name": name} for name in names]
+    yield "bound-names", changed(WHOLE, ("regions", regions))
+    yield "bound-no-regions", changed(WHOLE, ("regions", []))
+    many = [{**WHOLE["regions"][1], "name": f"r{index}", "base": index * 100} for index in range(1000)]
+    yield "bound-many-regions", changed(WHOLE, ("regions", many))
+    most = 1099511627776
+    matrices = [[most, 0, 0, 0, most, 0, 0, 0, most], [-most, most, -most, most, -most, most, most, most, most]]
+    for number, matrix in enumerate(matrices):
+        yield f"bound-matrix-{number}", warped("right", {"kind": "projective", "matrix": matrix})
+    for number, node in enumerate((16777216, -16777216)):
+        yield f"bound-nodes-{number}", warped("left", {**MESH, "nodes": MESH["nodes"][:-1] + [node]})
+    large = {"kind": "mesh", "step": 1024, "cols": 2, "rows": 2, "nodes": [0, 0, 262144, 0, 0, 262144, 262144, 262144]}
+    yield "bound-step", warped("left", large)
+
+
+def main(folder):
+    os.makedirs(folder)
+    for name, made, line in faults():
+        for ending, text in (("json", json.dumps(made)), ("line", line)):
+            with open(os.path.join(folder, f"{name}.{ending}"), "w") as file:
+                file.write(text)
+
+
+if __name__ == "__main__":
+    main(sys.argv[1])

@@ -1,0 +1,346 @@
+#!/usr/bin/env python3
+"""Tries opencv_calibration.py: on cameras without a lens's faults, where every number follows by hand, and
+on a made-up pair with known numbers, whose pictures and points are taken through the definitions of the
+program (tests/reference*.py) and, where it is installed, through OpenCV."""
+
+import json
+import math
+import os
+import subprocess
+import sys
+import tempfile
+import unittest
+
+HERE = os.path.dirname(os.path.abspath(__file__))
+TOOL = os.path.join(HERE, "opencv_calibration.py")
+sys.path.insert(0, os.path.join(HERE, "..", "tests"))
+
+import opencv_calibration as tool
+import reference_inputs as inputs
+import reference_matching as matching
+
+try:
+    import cv2
+    import numpy
+except ImportError:
+    cv2 = None
+
+LIMITS = "--unit m --near 2000000 --far 4000000 --mount 4000000"
+# Two equal cameras without distortion, level and side by side, the right one 0.5 m to the right.
+PLAIN = {
+    "imageSize": [100, 60],
+    "M1": [[128, 0, 50], [0, 128, 30], [0, 0, 1]],
+    "D1": [0, 0, 0, 0],
+    "M2": [[128, 0, 47.5], [0, 128, 30], [0, 0, 1]],
+    "D2": [0, 0, 0, 0, 0],
+    "R": [[1, 0, 0], [0, 1, 0], [0, 0, 1]],
+    "T": [-0.5, 0, 0],
+}
+WIDTH, HEIGHT = 320, 240
+# Two unequal cameras with distortion, turned a little against each other; T in millimetres.
+MADE = {
+    "image_width": WIDTH,
+    "image_height": HEIGHT,
+    "cameraMatrix1": [[400.0, 0, 163.0], [0, 402.0, 117.0], [0, 0, 1]],
+    "distCoeffs1": [-0.21, 0.06, 0.0011, -0.0006, 0.012],
+    "cameraMatrix2": [[408.0, 0, 155.0], [0, 407.0, 124.0], [0, 0, 1]],
+    "distCoeffs2": [-0.18, 0.04, -0.0007, 0.0008, 0.0],
+    "R": tool.rotation_about([0.012, -0.035, 0.016]),
+    "T": [-398.0, 6.0, 5.0],
+}
+MADE_LIMITS = "--unit mm --near 2000000 --far 5000000 --mount 5000000"
+
+
+def run(given, options, name="given.json"):
+    """What the tool makes of a calibration: its status, standard error, and the bytes of its file, if any."""
+    with tempfile.TemporaryDirectory() as folder:
+        with open(os.path.join(folder, name), "w") as file:
+            file.write(given if isinstance(given, str) else json.dumps(given))
+        command = [sys.executable, TOOL, name, "--out", "made.json", *options.split()]
+        done = subprocess.run(command, cwd=folder, capture_output=True, text=True)
+        made, path = None, os.path.join(folder, "made.json")
+        if os.path.exists(path):
+            with open(path, "rb") as file:
+                made = file.read()
+    return done.returncode, done.stderr, made
+
+
+def made_from(given, options):
+    """The calibration as the program's definitions read it. They refuse what is out of range or missing."""
+    status, errors, data = run(given, options)
+    if status:
+        raise AssertionError(errors)
+    return inputs.read_calibration(data)
+
+
+class WithoutDistortion(unittest.TestCase):
+    def test_every_number(self):
+        # Centred pictures keep their principal points, 50 and 47.5, so doffs is 256 * (47.5 - 50). The
+        # point at 4 m has the disparity 128 * 0.5 / 4 + 2.5 = 18.5, the one at 2 m 34.5.
+        made = made_from(PLAIN, LIMITS + " --centred --step 30 --grid -1000000 -500000 50000 40 20")
+        self.assertEqual((made.first, made.count), (18, 18))
+        self.assertEqual((made.window, made.p1, made.p2), ((9, 7), 10, 120))
+        camera = {"focal": 32768, "baseline": 500000, "cx": 12800, "cy": 7680, "doffs": -640}
+        self.assertEqual(made.camera, {**camera, "mount": 4000000, "near": 2000000, "far": 4000000})
+        self.assertEqual(made.grid, {"west": -1000000, "south": -500000, "cell": 50000, "cols": 40, "rows": 20})
+        self.assertIsNone(made.regions)
+        # (100 - 1) div 30 + 2 = 5 columns and (60 - 1) div 30 + 2 = 3 rows; the last ones lie outside.
+        nodes = [part for y in (0, 30, 60) for x in (0, 30, 60, 90, 120) for part in (256 * x, 256 * y)]
+        for side in (made.left, made.right):
+            self.assertEqual(side, {"kind": "mesh", "step": 30, "cols": 5, "rows": 3, "nodes": nodes})
+
+    def test_one_principal_point(self):
+        # (50 + 47.5) / 2 for both: the left picture moves by 1.25 pixels to the left, the right one to the right.
+        made = made_from(PLAIN, LIMITS + " --step 30")
+        self.assertEqual((made.camera["cx"], made.camera["doffs"]), (12480, 0))
+        self.assertEqual((made.first, made.count), (16, 17))
+        self.assertEqual([made.left["nodes"][0], made.right["nodes"][0]], [320, -320])
+
+    def test_the_disparities_of_a_point(self):
+        # The point 0.25 m to the right at 2 m is seen in the columns 50 + 16 and 47.5 - 16 and in row 30; what
+        # lies 0.5 m lower, in row 30 + 32.
+        made = made_from(PLAIN, LIMITS + " --centred --step 30")
+        self.assertEqual(matching.point(made.camera, 66, 30, 16 * 34 + 8), (250000, 0, 2000000))
+        self.assertEqual(matching.point(made.camera, 66, 62, 16 * 34 + 8), (250000, -500000, 2000000))
+
+    def test_options(self):
+        made = made_from(PLAIN, LIMITS + " --census 5x3 --penalties 3 40 --first -7 --count 256")
+        self.assertEqual((made.first, made.count, made.window, made.p1, made.p2), (-7, 256, (5, 3), 3, 40))
+        # Without distortion the largest step is close enough.
+        self.assertEqual(made.left["step"], 64)
+
+    def test_given_rectification(self):
+        one = [[1, 0, 0], [0, 1, 0], [0, 0, 1]]
+        p1 = [[64, 0, 40, 0], [0, 64, 20, 0], [0, 0, 1, 0]]
+        p2 = [[64, 0, 44, -32], [0, 64, 20, 0], [0, 0, 1, 0]]
+        given = {**PLAIN, "R1": one, "R2": one, "P1": p1, "P2": p2}
+        del given["R"], given["T"]
+        made = made_from(given, LIMITS + " --step 50")
+        camera = {"focal": 16384, "baseline": 500000, "cx": 10240, "cy": 5120, "doffs": 1024}
+        self.assertEqual({key: made.camera[key] for key in camera}, camera)
+        # The rectified pixel (0, 0) shows (0 - 40) / 64 focal lengths, which is at 50 - 40 * 2 in the source.
+        self.assertEqual(made.left["nodes"][:4], [-30 * 256, -10 * 256, 70 * 256, -10 * 256])
+
+    def test_refused(self):
+        def without(*names):
+            return {key: value for key, value in PLAIN.items() if key not in names}
+
+        for given, options, line in [
+            (without("M2", "D1"), LIMITS, "D1 and K2 missing"),
+            (without("T"), LIMITS, "T missing"),
+            (without("imageSize"), LIMITS, "the size of the pictures is missing: --size WxH"),
+            (
+                {**PLAIN, "T": [0.5, 0, 0]},
+                LIMITS,
+                "the second camera stands to the left of the first one: exchange them",
+            ),
+            (
+                {**PLAIN, "T": [-0.1, 0.5, 0]},
+                LIMITS,
+                "the cameras stand one above the other: turn the pictures and calibrate anew",
+            ),
+            ({**PLAIN, "D1": [0, 0, 0]}, LIMITS, "D1 has 3 numbers"),
+            ({**PLAIN, "D1": 13 * [0] + [0.1]}, LIMITS, "a distortion with a tilted sensor isn't known here"),
+            ({**PLAIN, "T": ["a", 0, 0]}, LIMITS, "'a' isn't a number"),
+            ("[1]", LIMITS, "given.json: not a JSON object"),
+            (
+                PLAIN,
+                LIMITS.replace("near 2000000", "near 100000"),
+                # From 128 * 0.5 / 4 = 16 to 128 * 0.5 / 0.1 = 640.
+                "first 16 and count 625: the first disparity is -1024 to 1024, the count 1 to 256",
+            ),
+            (
+                PLAIN,
+                LIMITS.replace("far 4", "far 1"),
+                "near is 1 to far, far up to 2000000000, mount 0 to 2000000000",
+            ),
+        ]:
+            status, errors, made = run(given, options)
+            self.assertEqual((status, errors, made), (1, f"opencv_calibration: {line}\n", None))
+
+
+class Distortion(unittest.TestCase):
+    def test_by_hand(self):
+        # At (0.5, 0) the square of the distance from the axis is 0.25; at (0, 1) it is 1.
+        for lens, place, seen in [
+            ([0.4, 0, 0, 0], (0.5, 0), (0.55, 0)),
+            ([0, 0.16, 0, 0], (0.5, 0), (0.505, 0)),
+            ([0, 0, 0.1, 0], (0.5, 0), (0.5, 0.025)),
+            ([0, 0, 0, 0.2], (0.5, 0), (0.65, 0)),
+            ([0, 0, 0.1, 0], (0, 1), (0, 1.3)),
+            ([0, 0, 0, 0.2], (0, 1), (0.2, 1)),
+            ([0, 0, 0, 0, 0.5], (0, 1), (0, 1.5)),
+            ([0, 0, 0, 0, 0, 0.25, 0, 0], (0, 1), (0, 0.8)),
+            ([0, 0, 0, 0, 0, 0, 0, 0, 0.1, 0.2, 0.3, 0.4], (0, 1), (0.3, 1.7)),
+        ]:
+            self.assertLess(math.dist(tool.distorted(lens, *place), seen), 1e-12, lens)
+            back = tool.undistorted(lens[:4], *tool.distorted(lens[:4], 0.2, 0.1))
+            self.assertLess(math.dist(back, (0.2, 0.1)), 1e-9)
+
+
+class WithDistortion(unittest.TestCase):
+    """Both ways of choosing the principal points: one for both pictures, and one each."""
+
+    def setUp(self):
+        self.made = {way: made_from(MADE, MADE_LIMITS + way) for way in ("", " --centred")}
+
+    def test_meshes_suit(self):
+        for made in self.made.values():
+            for side in (made.left, made.right):
+                self.assertIsNone(matching.warp_fault(side, WIDTH, HEIGHT))
+        # The baseline is the length of T.
+        length = round(1000 * math.hypot(*MADE["T"]))
+        self.assertEqual([made.camera["baseline"] for made in self.made.values()], [length, length])
+        self.assertEqual(self.made[""].camera["doffs"], 0)
+        self.assertNotEqual(self.made[" --centred"].camera["doffs"], 0)
+
+    def test_points_come_back(self):
+        """A pixel and its disparity give a point; that point, seen through both lenses, lies where the two
+        meshes take that pixel and its partner from."""
+        for way, made in self.made.items():
+            parts = tool.read_calibration([self.file()], None)
+            r1, _, _, _ = tool.own_rectification(parts, bool(way))
+            for x in range(100, WIDTH, 29):
+                for y in range(0, HEIGHT, 27):
+                    for d in (made.first + 3, made.first + made.count - 4):
+                        across, up, height = matching.point(made.camera, x, y, 16 * d)
+                        rectified = [across / 1000, -up / 1000, (made.camera["mount"] - height) / 1000]
+                        first = tool.times(tool.transposed(r1), rectified)
+                        second = [a + b for a, b in zip(tool.times(parts["R"], first), parts["T"])]
+                        for point, k, lens, side, at in (
+                            (first, "K1", "D1", made.left, x),
+                            (second, "K2", "D2", made.right, x - d),
+                        ):
+                            if not 0 <= at < WIDTH:
+                                continue
+                            seen = tool.distorted(parts[lens], point[0] / point[2], point[1] / point[2])
+                            expected = [parts[k][i][i] * seen[i] + parts[k][i][2] for i in (0, 1)]
+                            place = [part / 256 for part in matching.place(side, at, y)]
+                            self.assertLess(math.dist(place, expected), 0.06, (way, x, y, d))
+
+    def file(self):
+        folder = tempfile.TemporaryDirectory()
+        self.addCleanup(folder.cleanup)
+        name = os.path.join(folder.name, "given.json")
+        with open(name, "w") as file:
+            json.dump(MADE, file)
+        return name
+
+
+@unittest.skipIf(cv2 is None, "OpenCV's package (cv2) isn't installed")
+class BesideOpenCV(unittest.TestCase):
+    def setUp(self):
+        array = {key: numpy.array(value, float) for key, value in MADE.items()}
+        self.lenses = [(array[f"cameraMatrix{n}"], array[f"distCoeffs{n}"]) for n in (1, 2)]
+        self.array = array
+
+    def rectified(self, flags, alpha=-1):
+        (k1, d1), (k2, d2) = self.lenses
+        size, turn, shift = (WIDTH, HEIGHT), self.array["R"], self.array["T"]
+        return cv2.stereoRectify(k1, d1, k2, d2, size, turn, shift, flags=flags, alpha=alpha)[:5]
+
+    def picture(self):
+        """Soft shapes: OpenCV takes places in 1/32 of a pixel, so a picture with hard edges would differ more."""
+        y, x = numpy.mgrid[0:HEIGHT, 0:WIDTH]
+        waves = 50 * numpy.sin(x / 7 + y / 19) + 40 * numpy.cos(y / 6 - x / 23) + 20 * numpy.sin(x * y / 900)
+        return numpy.clip(numpy.rint(127 + waves), 0, 255).astype(numpy.uint8)
+
+    def test_remap(self):
+        picture = self.picture()
+        image = inputs.Image(WIDTH, HEIGHT, 255, [int(it) for it in picture.ravel()])
+        cases = [("", cv2.CALIB_ZERO_DISPARITY, -1), (" --centred", 0, -1)]
+        cases += [(" --alpha 0", cv2.CALIB_ZERO_DISPARITY, 0), (" --alpha 1 --centred", 0, 1)]
+        for options, flags, alpha in cases:
+            made = made_from(MADE, MADE_LIMITS + options)
+            r1, r2, p1, p2, _ = self.rectified(flags, alpha)
+            for (k, d), r, p, side in zip(self.lenses, (r1, r2), (p1, p2), (made.left, made.right)):
+                maps = cv2.initUndistortRectifyMap(k, d, r, p, (WIDTH, HEIGHT), cv2.CV_32FC1)
+                theirs = cv2.remap(picture, *maps, cv2.INTER_LINEAR)
+                ours = matching.rectify(image, side)
+                both = [(a, int(b)) for row, line in zip(ours, theirs) for a, b in zip(row, line) if a is not None]
+                near = sum(abs(a - b) <= 1 for a, b in both)
+                self.assertGreater(near, 0.995 * len(both), options)
+                # Nothing is lost but what the map takes from outside, and a rim.
+                inside = (maps[0] >= 0.1) & (maps[0] <= WIDTH - 1.1) & (maps[1] >= 0.1) & (maps[1] <= HEIGHT - 1.1)
+                filled = numpy.array([[a is not None for a in row] for row in ours])
+                self.assertTrue(filled[inside].all(), options)
+                self.assertGreater(len(both), 0.6 * WIDTH * HEIGHT, options)
+
+    def test_camera(self):
+        """The camera's keys against P1, P2 and Q, from which OpenCV takes a point's place as Q (x, y, d, 1)."""
+        cases = [("", cv2.CALIB_ZERO_DISPARITY, -1), (" --centred", 0, -1), (" --centred --alpha 0.5", 0, 0.5)]
+        for options, flags, alpha in cases:
+            camera = made_from(MADE, MADE_LIMITS + options).camera
+            _, _, p1, p2, q = self.rectified(flags, alpha)
+            # Without alpha the tool's own choice of the middle may differ by a little from OpenCV's.
+            self.assertAlmostEqual(camera["focal"] / 256, p1[0, 0], delta=0.01)
+            self.assertAlmostEqual(camera["cx"] / 256, p1[0, 2], delta=0.05)
+            self.assertAlmostEqual(camera["cy"] / 256, p1[1, 2], delta=0.05)
+            self.assertAlmostEqual(camera["baseline"] / 1000, -p2[0, 3] / p2[0, 0], delta=0.01)
+            self.assertAlmostEqual(camera["doffs"] / 256, p2[0, 2] - p1[0, 2], delta=0.05)
+            self.assertAlmostEqual(camera["doffs"] / 256, q[3, 3] / q[3, 2], delta=0.05)
+            for x, y, d in ((200, 100, 60), (250, 30, 45), (120, 220, 70)):
+                across, down, away, scale = q @ (x, y, d, 1)
+                point = matching.point({**camera, "near": 1, "far": 2000000000}, x, y, 16 * d)
+                theirs = [across / scale, -down / scale, camera["mount"] / 1000 - away / scale]
+                for ours, their in zip(point, theirs):
+                    self.assertAlmostEqual(ours / 1000, their, delta=0.005 * away / scale)
+
+    def test_rotations_and_map(self):
+        r1, r2 = tool.rotations(MADE["R"], MADE["T"])
+        for flags in (0, cv2.CALIB_ZERO_DISPARITY):
+            theirs = self.rectified(flags)
+            self.assertLess(abs(numpy.array(r1) - theirs[0]).max(), 1e-9)
+            self.assertLess(abs(numpy.array(r2) - theirs[1]).max(), 1e-9)
+        # The map beyond the picture's right and lower sides too.
+        for (k, d), r, p in zip(self.lenses, theirs[:2], theirs[2:4]):
+            maps = cv2.initUndistortRectifyMap(k, d, r, p, (WIDTH + 16, HEIGHT + 16), cv2.CV_32FC1)
+            view = tool.View(k.tolist(), d.tolist(), r.tolist(), p.tolist())
+            for x in range(0, WIDTH + 16, 5):
+                for y in range(0, HEIGHT + 16, 5):
+                    self.assertLess(math.dist(view.place(x, y), (maps[0][y, x], maps[1][y, x])), 0.001)
+
+    def test_distortion(self):
+        """All twelve numbers of a lens, against OpenCV's own."""
+        lens = [-0.3, 0.1, 0.002, -0.001, 0.02, 0.05, -0.02, 0.01, 0.003, -0.001, 0.002, 0.0005]
+        one = numpy.eye(3)
+        for count in (4, 5, 8, 12):
+            for x, y in ((0.3, -0.2), (-0.5, 0.4), (0.0, 0.0), (0.6, 0.1)):
+                point = numpy.array([[[x, y, 1.0]]])
+                seen, _ = cv2.projectPoints(point, numpy.zeros(3), numpy.zeros(3), one, numpy.array(lens[:count]))
+                self.assertLess(math.dist(tool.distorted(lens[:count], x, y), seen.ravel()), 1e-12)
+
+    def test_files_of_opencv(self):
+        plain = run(MADE, MADE_LIMITS)[2]
+        names = {"cameraMatrix1": "M1", "distCoeffs1": "D1", "cameraMatrix2": "M2", "distCoeffs2": "D2"}
+        names |= {"R": "R", "T": "T"}
+        for ending in ("yml", "xml", "json"):
+            with tempfile.TemporaryDirectory() as folder:
+                for part, keys in (("intrinsics", list(names)[:4]), ("extrinsics", list(names)[4:])):
+                    storage = cv2.FileStorage(f"{folder}/{part}.{ending}", cv2.FILE_STORAGE_WRITE)
+                    for key in keys:
+                        storage.write(names[key], self.array[key])
+                    if part == "extrinsics":
+                        storage.write("image_width", WIDTH)
+                        storage.write("image_height", HEIGHT)
+                    storage.release()
+                files = [f"intrinsics.{ending}", f"extrinsics.{ending}"]
+                command = [sys.executable, TOOL, *files, "--out", "made.json", *MADE_LIMITS.split()]
+                done = subprocess.run(command, cwd=folder, capture_output=True, text=True)
+                self.assertEqual(done.stderr, "")
+                with open(f"{folder}/made.json", "rb") as file:
+                    self.assertEqual(file.read(), plain, ending)
+
+
+@unittest.skipIf(cv2 is not None, "OpenCV's package (cv2) is installed")
+class WithoutOpenCV(unittest.TestCase):
+    def test_said_clearly(self):
+        start = "opencv_calibration: "
+        line = start + "given.yml: OpenCV's package (cv2) is needed for YAML and XML; JSON is read without it\n"
+        self.assertEqual(run("", LIMITS, "given.yml"), (1, line, None))
+        line = start + "OpenCV's package (cv2) is needed for --alpha\n"
+        self.assertEqual(run(PLAIN, LIMITS + " --alpha 0"), (1, line, None))
+
+
+if __name__ == "__main__":
+    unittest.main()
