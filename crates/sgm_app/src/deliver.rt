@@ -1,9 +1,8 @@
 //! Writing the files, and then the summary.
-ghost use Rattle.std.specs.Prelude.{◌≡◌, IsTrue, IsSome, Some, Option, All, string_bytes};
+ghost use Rattle.std.specs.Prelude.{IsTrue, All, string_bytes};
 ghost use Rattle.sgm_app.specs.Words.{Operands};
 ghost use Rattle.sgm_app.specs.Judge.{IsNamed};
-ghost use Rattle.sgm_io.specs.Keep.{name_of};
-ghost use Rattle.sgm_app.specs.Ends.{StageCounts, ShownBy, OutStands, OutUntouched, WritingStands, CountsShow, faults};
+ghost use Rattle.sgm_app.specs.Ends.{StageCounts, ShownBy, OutStands, OutUntouched, CountsShow, faults};
 ghost use Rattle.sgm_app.specs.Deliver.{WritesFile, StopsAtFile, EndsWriting, FileCounts, WritesFiles, FilesWriting, FilesCounts, FilesPut, FinishesFiles};
 ghost use Rattle.sgm_app.specs.Verdict.{files};
 

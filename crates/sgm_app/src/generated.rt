@@ -1,5 +1,5 @@
 //! The pair of images that is generated from a number.
-ghost use Rattle.std.specs.Prelude.{◌≡◌, ◌≤◌, ◌<◌, ◌*◌, ◌^◌, ◌%◌, ◌/◌, All, IfOk, length, map};
+ghost use Rattle.std.specs.Prelude.{◌≡◌, ◌≤◌, ◌<◌, ◌*◌, ◌^◌, ◌%◌, ◌/◌, All, IfOk, map};
 ghost use Rattle.std.specs.List.{range_with_len};
 ghost use Rattle.sgm_base.specs.declared.side.Side.{Side};
 ghost use Rattle.sgm_app.specs.Pair.{grey, shift, pair_sample, pair_image};

@@ -16,7 +16,7 @@ ghost use Rattle.sgm_app.specs.Ends.{ShownBy};
 ghost use Rattle.sgm_app.specs.Stops.{judge_outcome};
 ghost use Rattle.sgm_app.specs.Judge.{side_bytes, JudgesImage, JudgesCalib, JudgesSurvey, CalibReads, IsNamed};
 ghost use Rattle.sgm_app.specs.Texts.{disparity_text, summary_text, demo_text};
-ghost use Rattle.sgm_app.specs.Verdict.{OutputFile, judged, files, heights_files, report_files, outputs, with_calib, with_survey, refusal_of};
+ghost use Rattle.sgm_app.specs.Verdict.{OutputFile, judged, files, heights_files, report_files, outputs, with_survey, refusal_of};
 
 use crate::gather::Inputs;
 use crate::stops::JudgeStop;

@@ -1,5 +1,5 @@
 //! The line of an outcome.
-ghost use Rattle.std.specs.Prelude.{◌≡◌, ◌≤◌, ◌++◌, ◌∷◌, [], ℕ, List, IsTrue, map, codes, decimal};
+ghost use Rattle.std.specs.Prelude.{◌≡◌, ◌≤◌, ◌∷◌, [], IsTrue, map, codes, decimal};
 ghost use Rattle.std.specs.List.{concat};
 ghost use Rattle.sgm_io.specs.Sink.{SinkFaults, WritesWhole};
 ghost use Rattle.sgm_rectify.specs.declared.warp.WarpFault.TheVariants.{MeshSize};

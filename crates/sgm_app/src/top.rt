@@ -5,7 +5,7 @@ ghost use Rattle.sgm_app.specs.Ends.{ShownBy, FilesStand, OutStands, OutUntouche
 ghost use Rattle.sgm_app.specs.Deliver.{FilesPut};
 ghost use Rattle.sgm_app.specs.Verdict.{matched, demoed, files, verdict};
 ghost use Rattle.sgm_app.specs.Readings.{Readings, AreReadings};
-ghost use Rattle.sgm_app.specs.Words.{Operands, operands, read_of, bytes_of};
+ghost use Rattle.sgm_app.specs.Words.{operands, read_of, bytes_of};
 ghost use Rattle.sgm_app.specs.Complete.{RunComplete, IsNoFileFault, NoneRose};
 ghost use Rattle.sgm_app.specs.Lines.{line_of, TakesLine};
 ghost use Rattle.sgm_app.specs.declared.words.UsageFault.{UsageFault};

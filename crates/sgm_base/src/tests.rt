@@ -1,4 +1,4 @@
-use crate::{DispMap, Image, Plane, Size, Span, round_div};
+use crate::{DispMap, Image, MAX_IMAGE_BYTES, MAX_VOLUME, Plane, Size, Span, round_div};
 use std::test::Fail;
 
 fn size(width: u32, height: u32) -> Result<Size, Fail> {
@@ -105,4 +105,11 @@ fn quotients_are_rounded_halves_upwards(rt: HostRuntime) -> Result<(), Fail> {
         assert_eq!(rt; round_div(a, b), quotient, "{a} / {b}");
     }
     Ok(())
+}
+
+/// A volume of 2^28 cells, and a file of 64 MiB.
+#[test]
+fn limits_of_memory(rt: HostRuntime) {
+    assert_eq!(rt; MAX_VOLUME, 268_435_456);
+    assert_eq!(rt; MAX_IMAGE_BYTES, 67_108_864);
 }

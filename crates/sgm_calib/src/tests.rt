@@ -1,4 +1,4 @@
-use super::{Calib, CalibError, CalibFault, Key, read};
+use super::{Calib, CalibError, CalibFault, Key, MAX_CALIB_BYTES, read};
 use std::alloc::{AllocError, Global};
 use std::test::Fail;
 
@@ -53,6 +53,12 @@ fn judged(alloc: Global, text: &[u8]) -> Result<Numbers, CalibError> {
 
 fn key(number: u8) -> Key {
     Key { number, index: 0 }
+}
+
+/// 16 MiB.
+#[test]
+fn limit_of_a_calibration(rt: HostRuntime) {
+    assert_eq!(rt; MAX_CALIB_BYTES, 16_777_216);
 }
 
 #[test]

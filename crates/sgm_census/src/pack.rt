@@ -2,7 +2,7 @@
 
 ghost use Rattle.std.specs.Prelude.{◌≡◌, ℕ, ◌+◌, ◌-◌, ◌*◌, ◌/◌, ◌%◌, ◌^◌, ◌<◌, ◌≤◌, length, slice_index, option_map, IfSome, slice_index_or, false};
 ghost use Rattle.sgm_base.specs.Values.{IsValues};
-ghost use Rattle.sgm_census.specs.Windows.{IsWindow, greatest_of};
+ghost use Rattle.sgm_census.specs.Windows.{greatest_of};
 ghost use Rattle.sgm_census.specs.Codes.{less_than, window_values, code_at};
 ghost use Rattle.sgm_census.specs.Packed.{pushed, bits_of, unpacked, place_of};
 

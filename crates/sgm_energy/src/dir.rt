@@ -1,4 +1,4 @@
-ghost use Rattle.std.specs.Prelude.{◌≡◌, ◌-◌, ◌<◌, ◌^◌, ◌↔◌, IsTrue, false};
+ghost use Rattle.std.specs.Prelude.{◌≡◌, ◌-◌, ◌<◌, false};
 ghost use Rattle.sgm_energy.specs.Dirs.{offset, is_level, front_of, dir_of_front, position_of};
 
 /// The direction in which a ray runs through the image. The numbers 0 to 7 follow this order.

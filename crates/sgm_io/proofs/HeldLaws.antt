@@ -1,11 +1,13 @@
 -- Laws of what a shelf holds.
-use Rattle.std.proofs.Common.{◌≡◌, ◌≢◌, ◌∙◌, ℕ, List, [], ◌++◌, Option, None, Some, Bool, refl, ap, true, false, cond, append_assoc, append-nil}
+use Rattle.std.proofs.Common.{◌≡◌, ◌≢◌, ◌∙◌, ◌+◌, ℕ, length, IsSome, sym, List, [], ◌++◌, Option, None, Some, Bool, refl, ap, true, false, cond, append_assoc, append-nil}
 use Rattle.std.specs.Prelude.{option_map}
 use Rattle.std.specs.Str.{bytes_eq}
 use Rattle.std.proofs.Math.Path.{fun_ext}
 use Rattle.std.proofs.lemmas.Slice.Eq.{bytes_eq-Decides}
 use Rattle.sgm_io.specs.Writing
-use Rattle.sgm_io.specs.Held.{Held, put, extend}
+use Rattle.std.specs.Option.{option_map_or}
+use Rattle.std.proofs.lemmas.List.{length-append}
+use Rattle.sgm_io.specs.Held.{Held, put, extend, length_at}
 
 map_twice : (o : Option (List ℕ)) (p q : List ℕ) → option_map (λ x. x ++ q) (option_map (λ x. x ++ p) o) ≡ option_map (λ x. x ++ (p ++ q)) o
 map_twice None p q = refl
@@ -65,3 +67,13 @@ extend-held name piece bytes held is = fun_ext (λ other.
       | true ↦ λ same. ap (λ (o : Option (List ℕ)). option_map (λ x. x ++ piece) o) (ap held (same refl) ∙ is)
       | false ↦ λ same. refl
     ] (λ yes. (bytes_eq-Decides other name).0 yes))
+
+length-extend_of : (name piece : List ℕ) (held : Held) (o : Option (List ℕ)) → held name ≡ o → IsSome o → length_at (extend name piece held) name ≡ length_at held name + length piece
+length-extend_of name piece held None is some = cc
+length-extend_of name piece held (Some bytes) is some =
+    ap (λ (o : Option (List ℕ)). option_map_or length o 0) (ap (λ (h : Held). h name) (extend-held name piece bytes held is) ∙ put-same name (bytes ++ piece) held)
+    ∙ length-append bytes piece ∙ ap (λ (o : Option (List ℕ)). option_map_or length o 0 + length piece) (sym is)
+
+-- it is longer by the piece
+pub length-extend : (name piece : List ℕ) (held : Held) → IsSome (held name) → length_at (extend name piece held) name ≡ length_at held name + length piece
+length-extend name piece held some = length-extend_of name piece held (held name) refl some

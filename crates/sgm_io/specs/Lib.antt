@@ -12,3 +12,4 @@ pub mod MemoryShelf
 pub mod Writing
 pub mod SureShelf
 pub mod MemorySink
+pub mod DiskShelf

@@ -1,5 +1,5 @@
-ghost use Rattle.std.specs.Prelude.{◌≡◌, ◌≤◌, ◌<◌, IfSome, IfNone, OnOk, length, take};
-ghost use Rattle.std.specs.Io.KnownBytes.{Appends, Keeps};
+ghost use Rattle.std.specs.Prelude.{◌≡◌, ◌≤◌, ◌<◌, ℕ, List, IfSome, IfNone, OnOk, length, take};
+ghost use Rattle.std.specs.Io.KnownBytes.{Appends, Consumes, Keeps};
 
 use crate::FetchError;
 use std::io::{Read, Write};
@@ -19,6 +19,10 @@ pub(crate) fn read_at_most<R: Read>(
         (IfSome (R.remaining stream.old) (λ bytes. into.new.items ≡ bytes)) }
     ensures long { result ≡ Err FetchError.TooLong →
         IfSome (R.remaining stream.old) (λ bytes. most < length bytes) }
+    // It fails only where it has read no more than `most` bytes.
+    ensures failed { result ≡ Err FetchError.Failed →
+        (bytes : List ℕ) × Consumes (R.remaining stream.old) (R.remaining stream.new) bytes
+        × (length bytes ≤ most) }
 {
     into.clear();
     let mut chunk = [0; CHUNK];

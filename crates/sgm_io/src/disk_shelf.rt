@@ -1,5 +1,7 @@
-ghost use Rattle.std.specs.Prelude.{◌≡◌, ◌≤◌, ◌<◌, false, None, IsSome, IfSome, OnOk, length};
-ghost use Rattle.std.specs.Prelude.{option_map, string_bytes};
+ghost use Rattle.std.specs.Prelude.{◌≡◌, ◌≤◌, ◌<◌, false, None, IsSome, IfSome, IfNone, IfOk, OnOk, OnErr};
+ghost use Rattle.std.specs.Prelude.{length, take};
+ghost use Rattle.std.specs.Io.KnownBytes.{Appends, Keeps};
+ghost use Rattle.sgm_io.specs.DiskShelf.{told_by, writing_on};
 
 use crate::device::{read_at_most, write_some};
 use crate::{FetchError, KeepError, Shelf};
@@ -61,12 +63,14 @@ fn read_file<R: Files>(
 
 impl<'a, R: Files> Shelf for DiskShelf<'a, R> {
     ghost use Rattle.sgm_io.specs.Held.{no_files};
+    ghost use Rattle.sgm_io.specs.Keep.{name_of, KeepReads, KeepWrites};
+    ghost use Rattle.sgm_io.specs.Piece.{TakesSome};
 
     ghost tells = { false };
 
     ghost held = { λ shelf. no_files };
 
-    ghost writing = { λ shelf. option_map (λ file. string_bytes file.name) shelf.current };
+    ghost writing = { λ shelf. writing_on shelf.current };
 
     ghost read_faults = { λ shelf name. shelf.faults };
 
@@ -106,7 +110,24 @@ impl<'a, R: Files> Shelf for DiskShelf<'a, R> {
         }
     }
 
-    fn append(&mut self, piece: &[u8]) -> Result<usize, KeepError> {
+    /// Hands the bytes on to the file. Where that tells its bytes, those of the answer were added,
+    /// and none on an error.
+    fn append(&mut self, piece: &[u8]) -> Result<usize, KeepError>
+        requires { IsSome (writing_on self.old.current) }
+        ensures count { TakesSome piece.now result }
+        ensures writing { writing_on self.new.current ≡ writing_on self.old.current }
+        ensures reads { KeepReads result (λ name. self.old.faults) (λ name. self.new.faults) }
+        ensures writes { KeepWrites (name_of (writing_on self.old.current)) result
+            (λ name. self.old.faults) (λ name. self.new.faults) }
+
+        ensures taken { IfOk result (λ count.
+            Appends (told_by ⟦<R::File as Write>⟧.contents self.old.current)
+            (told_by ⟦<R::File as Write>⟧.contents self.new.current)
+            (take count piece.now)) }
+        ensures kept { OnErr result
+            (Keeps (told_by ⟦<R::File as Write>⟧.contents self.old.current)
+            (told_by ⟦<R::File as Write>⟧.contents self.new.current)) }
+    {
         match write_to(&mut self.current, piece) {
             Some(count) => Ok(count),
             None => {
@@ -136,8 +157,13 @@ fn write_to<F: Write>(current: &mut Option<Open<F>>, piece: &[u8]) -> Option<usi
     requires { IsSome current.old }
     ensures within { IfSome result (λ count. count ≤ length piece.now) }
     ensures some { IfSome result (λ count. 0 < length piece.now → 0 < count) }
-    ensures name { option_map (λ file. string_bytes file.name) current.new
-        ≡ option_map (λ file. string_bytes file.name) current.old }
+    ensures name { writing_on current.new ≡ writing_on current.old }
+    // Where the file tells its bytes, these were added, or none.
+    ensures taken { IfSome result (λ count.
+        Appends (told_by F.contents current.old) (told_by F.contents current.new)
+        (take count piece.now)) }
+    ensures kept { IfNone result
+        (Keeps (told_by F.contents current.old) (told_by F.contents current.new)) }
 {
     match current {
         Some(open) => write_some(&mut open.file, piece),
@@ -148,8 +174,7 @@ fn write_to<F: Write>(current: &mut Option<Open<F>>, piece: &[u8]) -> Option<usi
 // Whether all that was written has left for the device.
 fn flush<F: Write>(current: &mut Option<Open<F>>) -> bool
     requires { IsSome current.old }
-    ensures { option_map (λ file. string_bytes file.name) current.new
-        ≡ option_map (λ file. string_bytes file.name) current.old }
+    ensures { writing_on current.new ≡ writing_on current.old }
 {
     match current {
         Some(open) => open.file.flush().is_ok(),

@@ -3,7 +3,7 @@ ghost use Rattle.std.specs.Prelude.{IsTrue, IfOk, OnOk, OnErr, string_bytes, opt
 ghost use Rattle.sgm_io.specs.Held.{Held, NamedBytes, put, put_all, extend, no_files};
 ghost use Rattle.sgm_io.specs.Fetch.{Fetches};
 ghost use Rattle.sgm_io.specs.Keep.{name_of};
-ghost use Rattle.sgm_io.specs.Filed.{named_bytes, last_file, last_name, current_of};
+ghost use Rattle.sgm_io.specs.Filed.{named_bytes, last_name, current_of};
 
 use crate::FetchError;
 use std::alloc::{AllocError, Global};

@@ -1,6 +1,6 @@
-ghost use Rattle.std.specs.Prelude.{◌≡◌, ◌↔◌, ◌≤◌, ℕ, List, [], length, Bool, Option, Some};
+ghost use Rattle.std.specs.Prelude.{◌≡◌, ◌↔◌, ◌+◌, ◌<◌, ◌≤◌, ℕ, List, [], length, Bool, Option, Some};
 ghost use Rattle.std.specs.Prelude.{IsTrue, IsSome, OnOk, OnErr};
-ghost use Rattle.sgm_io.specs.Held.{Held};
+ghost use Rattle.sgm_io.specs.Held.{Held, length_at};
 ghost use Rattle.sgm_io.specs.Counts.{Counts};
 ghost use Rattle.sgm_io.specs.Piece.{TakesSome};
 ghost use Rattle.sgm_io.specs.Fetch.{Fetches, FetchReads, FetchWrites};
@@ -109,13 +109,16 @@ pub trait Shelf {
         (name : List ℕ) → writing shelf ≡ Some name → IsSome (held shelf name) };
 }
 
-/// Adds the whole piece to the file being written, or on an error a part from its front. The file
-/// is still being written afterwards.
+/// Adds the whole piece to the file being written, or on an error a part from its front, which is
+/// never all of it. The file is still being written afterwards.
 pub fn append_whole<S: Shelf>(shelf: &mut S, piece: &[u8]) -> Result<(), KeepError>
     requires { IsSome (S.writing shelf.old) }
     ensures held { IsTrue S.tells →
         AppendsWhole (name_of (S.writing shelf.old)) piece.now result
         (S.held shelf.old) (S.held shelf.new) }
+    ensures short { IsTrue S.tells → OnErr result
+        (let name = name_of (S.writing shelf.old) in
+        length_at (S.held shelf.new) name < length_at (S.held shelf.old) name + length piece.now) }
     ensures writing { S.writing shelf.new ≡ S.writing shelf.old }
     ensures reads { KeepReads result (S.read_faults shelf.old) (S.read_faults shelf.new) }
     ensures writes { KeepWrites (name_of (S.writing shelf.old)) result

@@ -1,4 +1,4 @@
-ghost use Rattle.std.specs.Prelude.{◌≡◌, ℕ, List, Bool, IsTrue};
+ghost use Rattle.std.specs.Prelude.{ℕ, List, Bool, IsTrue};
 ghost use Rattle.sgm_io.specs.Piece.{TakesSome};
 ghost use Rattle.sgm_io.specs.Sink.{SinkFaults, Writes, WritesWhole};
 

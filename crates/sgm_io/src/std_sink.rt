@@ -1,4 +1,7 @@
-ghost use Rattle.std.specs.Prelude.{◌≡◌, false, []};
+ghost use Rattle.std.specs.Prelude.{◌≡◌, false, [], take, IfOk, OnErr};
+ghost use Rattle.std.specs.Io.KnownBytes.{Appends, Keeps};
+ghost use Rattle.sgm_io.specs.Piece.{TakesSome};
+ghost use Rattle.sgm_io.specs.Sink.{SinkFaults};
 
 use crate::device::write_some;
 use crate::{Sink, SinkError};
@@ -27,7 +30,18 @@ impl<W: Write + Drop> Sink for StdSink<W> {
 
     ghost faults = { λ sink. sink.faults };
 
-    fn write(&mut self, piece: &[u8]) -> Result<usize, SinkError> {
+    /// Hands the bytes on to the stream. Where that tells its bytes, those of the answer were added,
+    /// and none on an error.
+    fn write(&mut self, piece: &[u8]) -> Result<usize, SinkError>
+        ensures count { TakesSome piece.now result }
+        ensures faults { SinkFaults result self.old.faults self.new.faults }
+
+        ensures taken { IfOk result (λ count.
+            Appends (W.contents self.old.stream) (W.contents self.new.stream)
+            (take count piece.now)) }
+        ensures kept { OnErr result
+            (Keeps (W.contents self.old.stream) (W.contents self.new.stream)) }
+    {
         match write_some(&mut self.stream, piece) {
             Some(count) => Ok(count),
             None => {

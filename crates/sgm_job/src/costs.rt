@@ -1,5 +1,5 @@
 // The costs of two planes of codes.
-ghost use Rattle.std.specs.Prelude.{◌≡◌, ℕ, ◌+◌, ◌*◌, ◌<◌, ◌≤◌, ◌⊎◌, ◌^◌, IfOk, length, slice_index, All};
+ghost use Rattle.std.specs.Prelude.{◌≡◌, ℕ, ◌+◌, ◌*◌, ◌<◌, ◌≤◌, ◌⊎◌, IfOk, length, slice_index, All};
 ghost use Rattle.sgm_base.specs.declared.limits.TheConstants.{MAX_VOLUME};
 ghost use Rattle.sgm_census.specs.Costs.{census_cost};
 ghost use Rattle.sgm_calib.specs.Calibration.{Penalties};

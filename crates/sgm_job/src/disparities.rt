@@ -1,5 +1,5 @@
 // From two planes to the disparities of the left one.
-ghost use Rattle.std.specs.Prelude.{◌≡◌, ℕ, ◌+◌, ◌*◌, ◌%◌, ◌^◌, ◌<◌, ◌≤◌, IfOk, length, slice_index_or, EachIndex, All};
+ghost use Rattle.std.specs.Prelude.{◌≡◌, ℕ, ◌+◌, ◌*◌, ◌%◌, ◌<◌, ◌≤◌, IfOk, length, slice_index_or, EachIndex, All};
 ghost use Rattle.sgm_base.specs.declared.limits.TheConstants.{MAX_VOLUME};
 ghost use Rattle.sgm_base.specs.Values.{Values, row_of};
 ghost use Rattle.sgm_energy.specs.Pens.{p1_of, p2_of};

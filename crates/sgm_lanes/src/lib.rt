@@ -2,7 +2,7 @@
 //! says, for every length. None takes memory.
 #![tactic(auto)]
 
-ghost use Rattle.std.specs.Prelude.{◌≡◌, ℕ, ◌+◌, ◌-◌, ◌^◌, ◌<◌, ◌≤◌, length, slice_index, EachIndex, All, Contains, count_ones, bit_xor};
+ghost use Rattle.std.specs.Prelude.{◌≡◌, ◌+◌, ◌-◌, ◌^◌, ◌<◌, ◌≤◌, length, slice_index, EachIndex, All, Contains, count_ones, bit_xor};
 ghost use Rattle.sgm_terms.specs.Step.{IsStepped};
 
 #[cfg(test)]

@@ -1,5 +1,5 @@
 // The values of one pixel. Its costs and its values begin at the same place of their rows.
-ghost use Rattle.std.specs.Prelude.{◌≡◌, ℕ, ◌+◌, ◌-◌, ◌^◌, ◌<◌, ◌≤◌, ◌⊎◌, length, slice_index, EachIndex, All};
+ghost use Rattle.std.specs.Prelude.{◌≡◌, ℕ, ◌+◌, ◌-◌, ◌<◌, ◌≤◌, ◌⊎◌, length, slice_index, EachIndex, All};
 ghost use Rattle.sgm_path.specs.Paths.{Follows};
 
 use sgm_lanes::{least, step};

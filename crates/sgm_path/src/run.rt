@@ -1,4 +1,4 @@
-ghost use Rattle.std.specs.Prelude.{◌≡◌, ℕ, ◌+◌, ◌-◌, ◌*◌, ◌/◌, ◌%◌, ◌^◌, ◌<◌, ◌≤◌, length, All, IsTrue};
+ghost use Rattle.std.specs.Prelude.{◌≡◌, ℕ, ◌+◌, ◌*◌, ◌/◌, ◌%◌, ◌<◌, ◌≤◌, length, All, IsTrue};
 ghost use Rattle.sgm_energy.specs.declared.dir.Dir.TheVariants.{Right, Left};
 ghost use Rattle.sgm_energy.specs.Dirs.{is_level};
 ghost use Rattle.sgm_energy.specs.Pens.{p1_of, p2_of};

@@ -1,7 +1,7 @@
 //! Bilinear values. A weight is at most 65536 and the four add up to that, so that the sum of the weighted
 //! samples and the half, at most 65536 * 65535 + 32768, fits 32 bits.
 
-ghost use Rattle.std.specs.Prelude.{◌≡◌, ℕ, ◌+◌, ◌/◌, ◌<◌, ◌≤◌, pos, ◌*◌, ◌≤ℤ◌, IfSome};
+ghost use Rattle.std.specs.Prelude.{◌≡◌, ◌+◌, ◌/◌, ◌<◌, ◌≤◌, pos, ◌*◌, ◌≤ℤ◌, IfSome};
 ghost use Rattle.sgm_rectify.specs.Bilinear.{whole, fraction, sample_at, weighted, mean_at, bilinear};
 
 use sgm_base::Image;

@@ -2,10 +2,10 @@
 //! below 2^53, and 256 times that below 2^61; for a mesh, weights add up to at most 2^20 and nodes are up to
 //! 2^24, so that each sum is at most 2^46. All of this fits 64 bits with a sign.
 
-ghost use Rattle.std.specs.Prelude.{◌≡◌, ℕ, ◌+◌, ◌-◌, ◌-ℤ◌, ◌*◌, ◌/◌, ◌<◌, ◌≤◌, ℤ, pos, negsuc, ◌+ℤ◌, ◌*ℤ◌, ◌≤ℤ◌, ◌<ℤ◌, All, List, length, map, slice_index_or};
+ghost use Rattle.std.specs.Prelude.{◌≡◌, ◌+◌, ◌-◌, ◌-ℤ◌, ◌*◌, ◌/◌, ◌<◌, ◌≤◌, ℤ, pos, ◌+ℤ◌, ◌*ℤ◌, ◌≤ℤ◌, ◌<ℤ◌, All, length, map, slice_index_or};
 ghost use Rattle.std.specs.Int.{int_div_euclid};
 ghost use Rattle.sgm_rectify.specs.Places.{affine, entry, denominator, quotient, blended, in_cell};
-ghost use Rattle.sgm_rectify.specs.Warps.{IsEntry, IsCoordinate, IsNode, IsMesh};
+ghost use Rattle.sgm_rectify.specs.Warps.{IsEntry, IsCoordinate, IsNode};
 
 /// A matrix entry times a column or row.
 fn times(a: i64, n: u32) -> i64

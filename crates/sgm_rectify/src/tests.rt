@@ -1,4 +1,4 @@
-ghost use Rattle.std.specs.Prelude.{◌≡◌, ◌↔◌, ◌≤◌, IfOk, IsTrue, All, length};
+ghost use Rattle.std.specs.Prelude.{◌↔◌, ◌≤◌, IsTrue, All};
 ghost use Rattle.sgm_rectify.specs.Faults.{Suits};
 ghost use Rattle.sgm_rectify.specs.Warps.{IsCoordinate, IsNode, IsMesh, IsWarp};
 
