@@ -1,9 +1,12 @@
 -- The texts of rows.
-use Rattle.std.proofs.Common.{◌≡◌, ℕ, ◌<◌, List, [], ◌∷◌, ◌++◌, map, length, drop, get_or, ℤ, Option, None, sym, ap, ◌∙◌, arith, append-nil, append_assoc, take, subst, ◌-◌, ◌≤◌, Result, Ok, Err, is_ok, OnOk, if◌then◌else◌}
+use Rattle.std.proofs.Common.{◌≡◌, ℕ, ◌<◌, List, [], ◌∷◌, ◌++◌, map, length, drop, get_or, ℤ, Option, None, sym, ap, ◌∙◌, arith, flat_map, ◌+◌, append-nil, append_assoc, take, subst, ◌-◌, ◌≤◌, Result, Ok, Err, is_ok, OnOk, if◌then◌else◌}
 use Rattle.std.proofs.lemmas.List.{take-append-drop, take_all, length-drop}
 use Rattle.std.proofs.Math.Seq.{take-append_seam}
+use Rattle.std.proofs.lemmas.List.{flat_map_more}
+use Rattle.std.proofs.lemmas.List.FromFn.{map-range_with_len_more}
 use Rattle.std.specs.List.{join_with_byte}
-use Rattle.sgm_grid.specs.Text.{StartsAs, after_spaces, height_text, line, row_text}
+use Rattle.sgm_grid.specs.Cells.{Cells, row_of}
+use Rattle.sgm_grid.specs.Text.{StartsAs, after_spaces, first_rows, height_text, line, row_text}
 
 -- what is added at the end leaves what stood before
 pub starts_append : (xs ys : List ℕ) → StartsAs xs (xs ++ ys)
@@ -56,3 +59,16 @@ two_lines (Ok x) old first new word value word2 value2 text text2 p t u s =
     ∙ ap (λ (b : List ℕ). first ++ line (word2 ++ b)) u
     ∙ ap (λ (b : List ℕ). b ++ line (word2 ++ text2)) (p ∙ ap (λ (b : List ℕ). old ++ line (word ++ b)) t)
     ∙ append_assoc old (line (word ++ text)) (line (word2 ++ text2))
+
+-- the texts of the first rows, and that of the next
+pub rows_more : (grid : Cells) (n : ℕ) (first old new : List ℕ) (heights : List (Option ℤ)) → heights ≡ row_of grid n
+    → old ≡ first ++ flat_map row_text (first_rows grid n) → new ≡ old ++ row_text heights → new ≡ first ++ flat_map row_text (first_rows grid (n + 1))
+rows_more grid n first old new heights is before now =
+    now ∙ ap (λ (t : List ℕ). t ++ row_text heights) before
+    ∙ ap (λ (h : List (Option ℤ)). (first ++ flat_map row_text (first_rows grid n)) ++ row_text h) is
+    ∙ flat_map_more row_text first (first_rows grid n) (row_of grid n)
+    ∙ ap (λ (rows : List (List (Option ℤ))). first ++ flat_map row_text rows) (sym (map-range_with_len_more (row_of grid) 0 n n (omega arith)))
+
+-- what was added at the end of a text leaves what stood before
+pub starts_more : (xs ys zs added : List ℕ) → StartsAs xs ys → zs ≡ ys ++ added → StartsAs xs zs
+starts_more xs ys zs added p is = starts_on xs ys zs p (subst (λ (t : List ℕ). StartsAs ys t) (sym is) (starts_append ys added))

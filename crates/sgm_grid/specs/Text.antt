@@ -1,7 +1,7 @@
 -- The text of a grid of heights.
-use Rattle.std.specs.Prelude.{◌≡◌, ℕ, zero, suc, ℤ, List, [], ◌∷◌, ◌++◌, map, flat_map, codes, take, length, decimal, Option, Some, None}
+use Rattle.std.specs.Prelude.{◌≡◌, ℕ, ℤ, List, [], ◌∷◌, ◌++◌, map, flat_map, codes, take, length, decimal, Option, Some, None}
 use Rattle.std.specs.Fmt.{signed_decimal}
-use Rattle.std.specs.List.{join_with_byte}
+use Rattle.std.specs.List.{join_with_byte, range_with_len}
 use Rattle.sgm_grid.specs.declared.grid_spec.GridSpec.{GridSpec}
 use Rattle.sgm_grid.specs.Cells.{Cells, row_of}
 
@@ -38,13 +38,16 @@ row_text heights = line (join_with_byte 32 (map height_text heights))
 abbrev pub after_spaces : List (Option ℤ) → List ℕ
 after_spaces heights = flat_map (λ height. 32 ∷ height_text height) heights
 
--- the first n rows from the north
-abbrev pub rows_text : Cells → ℕ → List ℕ
-rows_text grid zero = []
-rows_text grid (suc n) = rows_text grid n ++ row_text (row_of grid n)
+-- the heights of the first n rows from the north
+abbrev pub first_rows : Cells → ℕ → List (List (Option ℤ))
+first_rows grid n = map (row_of grid) (range_with_len 0 n)
+
+-- the lines of all rows, from the north
+abbrev pub rows_text : Cells → List ℕ
+rows_text grid = flat_map row_text (first_rows grid grid.spec.rows)
 
 abbrev pub grid_text : Cells → List ℕ
-grid_text grid = head_text grid.spec ++ rows_text grid grid.spec.rows
+grid_text grid = head_text grid.spec ++ rows_text grid
 
 -- what was there before still stands in front
 abbrev pub StartsAs : List ℕ → List ℕ → Type 0

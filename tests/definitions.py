@@ -1,0 +1,586 @@
+#!/usr/bin/env python3
+"""Equations that hold the definitions in specs/ against plain Python.
+
+    definitions.py FOLDER [wrong]
+
+writes into FOLDER a page of lemmas for each layer. The left side of each is a definition over small
+arguments, the right side what the reference gives for them or, for path values, a trial of every sequence.
+`rt check` proves each by computing alone, so it takes part in neither side: see definitions.sh. With `wrong`
+one right side on each page is false, and no page may be proved.
+"""
+
+import itertools
+import json
+import os
+import random
+import re
+import sys
+
+import calibration_cases
+import least_energies
+import reference
+import reference_inputs as inputs
+import reference_matching as matching
+
+CRATES = os.path.join(os.path.dirname(os.path.abspath(__file__)), "..", "crates")
+COMMON = """◌≡◌ ℕ ℤ pos negsuc ◌+◌ ◌*◌ List [] ◌∷◌ ◌++◌ map codes slice_index Option Some None true false refl
+Result Ok Err option_map""".split()
+
+
+# How values are written in the language of the definitions
+
+
+def whole(number):
+    return f"(pos {number})" if number >= 0 else f"(negsuc {-number - 1})"
+
+
+def natural(number):
+    return str(number)
+
+
+def listed(values, show=natural):
+    return "(" + "".join(show(value) + " ∷ " for value in values) + "[])"
+
+
+def option(value, show=natural):
+    return "None" if value is None else f"(Some {show(value)})"
+
+
+def record(**fields):
+    return "(record { " + "; ".join(f"{name} = {value}" for name, value in fields.items()) + " })"
+
+
+def text(data):
+    """Some bytes, as text where they can be read."""
+    data = data.encode() if isinstance(data, str) else data
+    is_plain = all(byte == 10 or (32 <= byte < 127) for byte in data)
+    return f"(codes {json.dumps(data.decode())})" if is_plain and data else listed(data)
+
+
+def truth(value):
+    return "true" if value else "false"
+
+
+def falsified(value):
+    """The value with its last number greater by one; the same where it has none."""
+    return re.sub(r"(\d+)(\D*)$", lambda found: f"{int(found[1]) + 1}{found[2]}", value)
+
+
+class Page:
+    """Lemmas over some modules of definitions, whose names are all unfolded."""
+
+    def __init__(self, title, imports, before="", given=""):
+        self.title, self.imports, self.before, self.given, self.lemmas = title, imports, before, given, []
+
+    def holds(self, left, right):
+        self.lemmas.append((left, right))
+
+    def unfolded(self, module):
+        crate, _, name = module.partition(".")
+        with open(os.path.join(CRATES, crate, "specs", name + ".antt"), encoding="utf-8") as file:
+            return re.findall(r"^unfoldable pub (\S+) :", file.read(), re.M)
+
+    def write(self, folder, is_wrong):
+        # A numeral of the library computes only where its digits are unfolded.
+        unfolded = ["digits"]
+        lines = [f"-- {self.title}", f"use Rattle.std.proofs.Common.{{{', '.join(COMMON)}}}"]
+        lines.append("use Rattle.core.specs.Fmt.{digits}")
+        for module, names in self.imports.items():
+            if "specs" not in module:
+                found = self.unfolded(module)
+                unfolded += found
+                names = sorted(set(names.split()) | set(found))
+                crate, _, name = module.partition(".")
+                module = f"{crate}.specs.{name}"
+            else:
+                names = names.split()
+            lines.append(f"use Rattle.{module}.{{{', '.join(names)}}}")
+        lines.append(self.before)
+        binder = f"({self.given} : Float) → " if self.given else ""
+        for number, (left, right) in enumerate(self.lemmas):
+            if is_wrong and right != falsified(right):
+                is_wrong, right = False, falsified(right)
+            lines.append(f"case_{number} : {binder}{left} ≡ {right}")
+            lines.append("unfolding " + " ".join(unfolded))
+            lines.append(f"case_{number} {self.given} = refl".replace("  ", " "))
+        with open(os.path.join(folder, self.title.capitalize() + ".antt"), "w", encoding="utf-8") as file:
+            file.write("\n".join(lines) + "\n")
+        return len(self.lemmas)
+
+
+# The pages
+
+DIRECTIONS = "Right Left Down DownRight DownLeft Up UpRight UpLeft"
+
+
+def problem(costs, p1, p2):
+    """A problem whose costs are these, costs[y][x][d]."""
+    height, width, count = len(costs), len(costs[0]), len(costs[0][0])
+    cells = listed([cost for row in costs for pixel in row for cost in pixel])
+    cost = f"(λ p d. slice_index {cells} ((p.y * {width} + p.x) * {count} + d))"
+    return f"(fixed_problem {width} {height} {count} {cost} {p1} {p2})"
+
+
+def some_costs(draw, width, height, count, most):
+    return [[[draw.randrange(most + 1) for _ in range(count)] for _ in range(width)] for _ in range(height)]
+
+
+def energies(draw):
+    page = Page(
+        "energies",
+        {
+            "sgm_energy.specs.declared.dir.Dir.TheVariants": DIRECTIONS,
+            "sgm_energy.Rays": "Pixel pixel_at fixed_problem",
+            "sgm_energy.Energies": "below",
+        },
+    )
+    images = [([row], p1, p2) for p1, p2, row in least_energies.ROWS if len(row) < 5]
+    images.append((least_energies.IMAGE, *least_energies.IMAGE_PENALTIES))
+    images.append((some_costs(draw, 3, 2, 3, 8), 2, 3))
+    for costs, p1, p2 in images:
+        height, width, count = len(costs), len(costs[0]), len(costs[0][0])
+        for direction in least_energies.OFFSETS:
+            values = least_energies.path_values(costs, direction, p1, p2)
+            for y, x in itertools.product(range(height), range(width)):
+                ray = least_energies.ray_to(width, height, direction, x, y)
+                shown = listed(ray, lambda p: f"pixel_at {p[0]} {p[1]}")
+                page.holds(f"ray {problem(costs, p1, p2)} {direction} (pixel_at {x} {y})", shown)
+                left = f"map (path_value {problem(costs, p1, p2)} {direction} (pixel_at {x} {y})) (below {count})"
+                page.holds(left, listed(values[y][x]))
+    return page
+
+
+def some_plane(draw, width, height, voids):
+    def value():
+        return None if draw.random() < voids else draw.choice([5, 5, 6, 900])
+
+    return [[value() for _ in range(width)] for _ in range(height)]
+
+
+def plane_of(plane):
+    entries = listed([value for row in plane for value in row], option)
+    return f"(values_of {len(plane[0])} {len(plane)} {entries})"
+
+
+def codes(draw):
+    page = Page(
+        "codes",
+        {
+            "sgm_base.Values": "values_of",
+            "sgm_census.Codes": "codes_of",
+            "sgm_census.Costs": "",
+            "sgm_census.Windows": "WindowSides",
+        },
+        "abbrev window : ℕ → ℕ → WindowSides\n"
+        "window width height = record { width = width; height = height }\n",
+    )
+    for (across, down), voids in [((3, 3), 0.1), ((3, 3), 0), ((5, 3), 0.05), ((3, 5), 0)]:
+        left, right = some_plane(draw, 6, 5, voids), some_plane(draw, 6, 5, voids)
+        greatest = across * down - 1
+        left_codes, right_codes = (matching.census_codes(plane, (across, down)) for plane in (left, right))
+        bits = lambda code: listed([truth(code >> k & 1) for k in reversed(range(greatest))], str)
+        for y, x in itertools.product(range(5), range(6)):
+            page.holds(f"code_at {plane_of(left)} (window {across} {down}) {x} {y}", option(left_codes[y][x], bits))
+        first, count = draw.choice([-2, 0, 1]), 3
+        costs = matching.costs_of(left_codes, right_codes, first, count, greatest)
+        both = " ".join(f"(codes_of {plane_of(plane)} (window {across} {down}))" for plane in (left, right))
+        for y, x in itertools.product((1, 2), range(6)):
+            for d in range(count):
+                page.holds(f"census_cost {both} {whole(first)} {x} {y} {d}", natural(costs[y][x][d]))
+    return page
+
+
+def selection(draw):
+    page = Page(
+        "selection",
+        {
+            "sgm_base.Values": "values_of",
+            "sgm_energy.Rays": "pixel_at fixed_problem",
+            "sgm_energy.Energies": "below",
+            "sgm_select.Selection": "",
+            "sgm_select.Rows": "",
+        },
+    )
+    for _ in range(24):
+        width, count, first = draw.choice([1, 4, 6]), draw.choice([1, 2, 4]), draw.choice([-2, -1, 0, 1])
+        row = [[draw.choice([3, 3, 4, 7]) for _ in range(count)] for _ in range(width)]
+        sums = listed([value for pixel in row for value in pixel])
+        bases = [matching.least_index(pixel) for pixel in row]
+        matches = [matching.match_of(row, q, first) for q in range(width)]
+        left, right = some_plane(draw, width, 1, 0.1), some_plane(draw, width, 1, 0.1)
+        checked = matching.disparities([row], left, right, first)[0]
+        rows = f"{listed(bases)} {listed(matches, option)} {listed(left[0], option)} {listed(right[0], option)}"
+        for x in range(width):
+            page.holds(f"base_in {sums} {count} {x}", natural(bases[x]))
+            page.holds(f"matched_in {sums} {width} {whole(first)} {count} {x}", option(matches[x]))
+            page.holds(f"checked_in {rows} {whole(first)} {x}", option(checked[x]))
+    for width, height, count, first in [(3, 2, 2, 0), (2, 2, 2, -1), (4, 1, 3, 0)]:
+        costs = some_costs(draw, width, height, count, 3)
+        planes = [some_plane(draw, width, height, 0.1) for _ in range(2)]
+        sums = matching.sums_of(costs, 1, 2)
+        found = matching.disparities(sums, *planes, first)
+        whole_problem = problem(costs, 1, 2)
+        for y, x in itertools.product(range(height), range(width)):
+            pixel = f"(pixel_at {x} {y})"
+            page.holds(f"map (path_sum {whole_problem} {pixel}) (below {count})", listed(sums[y][x]))
+            page.holds(f"base {whole_problem} {pixel}", natural(matching.least_index(sums[y][x])))
+            page.holds(f"matched {whole_problem} {whole(first)} {x} {y}", option(matching.match_of(sums[y], x, first)))
+            both = f"{plane_of(planes[0])} {plane_of(planes[1])}"
+            page.holds(f"disparity {whole_problem} {both} {whole(first)} {pixel}", option(found[y][x]))
+    return page
+
+
+def warp_of(warp):
+    if warp["kind"] == "identity":
+        return "Identity"
+    if warp["kind"] == "projective":
+        return f"(Projective {listed(warp['matrix'], whole)})"
+    places = zip(warp["nodes"][::2], warp["nodes"][1::2])
+    nodes = listed(places, lambda place: f"({whole(place[0])}, {whole(place[1])})")
+    return f"(Mesh {warp['step']} {warp['cols']} {warp['rows']} {nodes})"
+
+
+def some_warp(draw, width, height):
+    """A warp that suits an image of these sides, most of the time."""
+    kind = draw.choice(["identity", "projective", "projective", "mesh", "mesh"])
+    if kind == "projective":
+        lines = [draw.randrange(-300, 301) for _ in range(6)]
+        return {"kind": kind, "matrix": lines + [draw.randrange(-1, 3), draw.randrange(-1, 3), draw.randrange(0, 9)]}
+    if kind == "mesh":
+        step = draw.choice([2, 3, 1024])
+        cols, rows = (width - 1) // step + 2 + draw.choice([0, 0, 0, 1]), (height - 1) // step + 2
+        nodes = [draw.randrange(-400, 1200) for _ in range(2 * cols * rows)]
+        return {"kind": kind, "step": step, "cols": cols, "rows": rows, "nodes": nodes}
+    return {"kind": kind}
+
+
+def picture_of(image):
+    return f"(picture {image.width} {image.height} {image.maxval} {listed(image.samples)})"
+
+
+def rectification(draw):
+    page = Page(
+        "rectification",
+        {
+            "sgm_base.Picture": "picture",
+            "sgm_base.Values": "values_of",
+            "sgm_rectify.specs.declared.warp.Warp": "Warp",
+            "sgm_rectify.specs.declared.warp.Warp.TheVariants": "Identity Projective Mesh",
+            "sgm_rectify.Places": "",
+            "sgm_rectify.Bilinear": "",
+            "sgm_rectify.Faults": "",
+            "sgm_rectify.Rectified": "",
+            "sgm_base.specs.declared.side.Side.TheVariants": "Left",
+            "sgm_app.Lines": "warp_parts",
+            "std.specs.List": "concat",
+        },
+        "abbrev fault_line : Warp → ℕ → ℕ → Option (List ℕ)\n"
+        "fault_line warp width height = option_map (λ fault. concat (warp_parts Left fault))\n"
+        "    (warp_fault warp (record { width = width; height = height }))\n",
+    )
+    for _ in range(60):
+        width, height = draw.randrange(1, 6), draw.randrange(1, 5)
+        warp = some_warp(draw, width, height)
+        fault = matching.warp_fault(warp, width, height)
+        line = None if fault is None else f"sgm: left warp: {fault}\n"
+        page.holds(f"fault_line {warp_of(warp)} {width} {height}", option(line, text))
+        if fault is None:
+            x, y = draw.randrange(width), draw.randrange(height)
+            u, v = matching.place(warp, x, y)
+            page.holds(f"place_of {warp_of(warp)} {x} {y}", f"({whole(u)}, {whole(v)})")
+            image = inputs.Image(width, height, 65535, [draw.choice([0, 1, 255, 65535]) for _ in range(width * height)])
+            rows = matching.rectify(image, warp)
+            page.holds(f"rectified_values {picture_of(image)} {warp_of(warp)}", plane_of(rows))
+    image = inputs.Image(3, 2, 65535, [0, 65535, 3, 700, 1, 2])
+    for u, v in itertools.product([-257, -1, 0, 1, 128, 255, 256, 511, 512, 513], [-1, 0, 77, 256, 257]):
+        page.holds(f"bilinear {picture_of(image)} {whole(u)} {whole(v)}", option(matching.bilinear(image, u, v)))
+    return page
+
+
+CAMERA = "focal baseline cx cy doffs mount near far".split()
+
+
+def camera_of(camera):
+    return record(**{name: whole(camera[name]) for name in CAMERA})
+
+
+def point_of(point):
+    return record(x=whole(point[0]), y=whole(point[1]), h=whole(point[2]))
+
+
+def points(draw):
+    page = Page("points", {"sgm_height.Camera": "point_of"})
+    ends = (16777216, 2000000000, -16777216, 16777216, -16777216, 2000000000, 1, 2000000000)
+    far_away = dict(zip(CAMERA, ends))
+    cases = [(far_away, 4095, 4095, sixteenths) for sixteenths in (-32768, 32767, 32768)]
+    for near, far in ((100000, 100000), (100001, 100001), (99999, 99999)):
+        cases.append((dict(zip(CAMERA, (25600, 1000, 0, 0, 0, 150000, near, far))), 2, 1, 16))
+    for _ in range(60):
+        limits = (draw.choice([1, 50]), draw.choice([3000, 2000000000]))
+        sides = (draw.randrange(1, 4000), draw.randrange(1, 50), draw.randrange(-900, 900), draw.randrange(-900, 900))
+        camera = dict(zip(CAMERA, (*sides, draw.choice([0, -16, 5, 512]), draw.randrange(5000), *limits)))
+        cases.append((camera, draw.randrange(6), draw.randrange(6), draw.choice([-32, 0, 1, 2, 16, 33, 100])))
+    for camera, x, y, sixteenths in cases:
+        found = option(matching.point(camera, x, y, sixteenths), point_of)
+        page.holds(f"point_of {camera_of(camera)} {x} {y} {whole(sixteenths)}", found)
+    return page
+
+
+def spec_of(grid):
+    lengths = {name: whole(grid[name]) for name in ("west", "south", "cell")}
+    return record(**lengths, cols=natural(grid["cols"]), rows=natural(grid["rows"]))
+
+
+def cells_of(grid, cells):
+    heights = [height for row in cells for height in row]
+    return f"(cells_of {spec_of(grid)} {listed(heights, lambda height: option(height, whole))})"
+
+
+def grids(draw):
+    page = Page("grids", {"sgm_grid.Cells": "cells_of", "sgm_grid.Points": "cell_after", "sgm_grid.Text": "grid_text"})
+    for cols, rows, cell in [(3, 2, 3), (1, 1, 1), (2, 4, 10)]:
+        grid = dict(west=draw.randrange(-9, 9), south=draw.randrange(-9, 9), cell=cell, cols=cols, rows=rows)
+
+        def some_point():
+            x = grid["west"] + draw.randrange(-2, cols * cell + 3)
+            y = grid["south"] + draw.randrange(-2, rows * cell + 3)
+            return x, y, draw.choice([-2000000000, 7, -7, 2000000000])
+
+        some = [some_point() for _ in range(12)]
+        cells = matching.heights(some, grid)
+        for row, col in itertools.product(range(rows), range(cols)):
+            height = option(cells[row][col], whole)
+            page.holds(f"cell_after {spec_of(grid)} {listed(some, point_of)} {col} {row}", height)
+        page.holds(f"grid_text {cells_of(grid, cells)}", text(reference.grid_text(grid, cells)))
+    return page
+
+
+def area_of(region):
+    numbers = {name: natural(region[name]) for name in ("col", "row", "cols", "rows")}
+    return record(name=text(region["name"]), **numbers, base=whole(region["base"]))
+
+
+def tally_of(row):
+    lowest, highest = (option(None if end == "" else end, whole) for end in row[4:])
+    return record(cells=row[0], empty=row[1], fill=row[2], cut=row[3], lowest=lowest, highest=highest)
+
+
+def reports(draw):
+    page = Page(
+        "reports",
+        {
+            "sgm_grid.Cells": "cells_of",
+            "sgm_report.Areas": "is_region_name",
+            "sgm_report.Tallies": "tally_of",
+            "sgm_report.Table": "table_text",
+        },
+    )
+    grid = dict(west=0, south=0, cell=1000, cols=4, rows=3)
+    for _ in range(6):
+        cells = [[draw.choice([None, 5, 7, -2000000000, 2000000000]) for _ in range(4)] for _ in range(3)]
+        regions = []
+        for name in ("all", "a b_-.9Z", "x"):
+            col, row, base = draw.randrange(4), draw.randrange(3), draw.choice([6, -3, 2000000000])
+            cols, rows = draw.randrange(1, 5 - col), draw.randrange(1, 4 - row)
+            regions.append(dict(name=name, col=col, row=row, cols=cols, rows=rows, base=base))
+        tallies = [matching.tally(cells, grid["cell"], region) for region in regions]
+        for region, row in zip(regions, tallies):
+            page.holds(f"tally_of {cells_of(grid, cells)} {area_of(region)}", tally_of(row))
+        table = f"table_text {listed(regions, area_of)} {listed(tallies, tally_of)}"
+        page.holds(table, text(reference.table_text(regions, tallies)))
+    for name in ["", "a", "A z_-.09", "a,b", 'a"b', "a/b", "é", "x" * 64, "x" * 65, " ", "a\nb", *"@[`{:"]:
+        is_name = re.fullmatch("[A-Za-z0-9 _.-]{1,64}", name) is not None
+        page.holds(f"is_region_name {listed(name.encode())}", truth(is_name))
+    return page
+
+
+def settings_of(calibration):
+    return " ".join([
+        "(Ok (settings",
+        record(first=whole(calibration.first), count=calibration.count),
+        record(width=calibration.window[0], height=calibration.window[1]),
+        f"{calibration.p1} {calibration.p2}",
+        warp_of(calibration.left),
+        warp_of(calibration.right),
+        option(calibration.camera, camera_of),
+        option(calibration.grid, spec_of),
+        option(calibration.regions, lambda regions: listed(regions, area_of)),
+        "))",
+    ])
+
+
+DATA = "unsigned negative float null boolean number string array object no_items item no_members member"
+
+
+def data_of(value):
+    """A JSON value as the reading gives it: members in the order of their names, and any float the same."""
+    if value is None:
+        return "null"
+    if isinstance(value, bool):
+        return f"(boolean {truth(value)})"
+    if isinstance(value, int):
+        return f"(number (unsigned {value}))" if value >= 0 else f"(number (negative {whole(value)}))"
+    if isinstance(value, float):
+        return "(number (float real))"
+    if isinstance(value, str):
+        return f"(string {text(value)})"
+    if isinstance(value, list):
+        return "(array " + "".join(f"(item {data_of(it)} " for it in value) + "no_items" + ")" * (len(value) + 1)
+    members = sorted(value.items(), key=lambda member: member[0].encode())
+    shown = "".join(f"(member {text(name)} {data_of(it)} " for name, it in members)
+    return "(object " + shown + "no_members" + ")" * (len(members) + 1)
+
+
+def calibrations(draw):
+    page = Page(
+        "calibrations",
+        {
+            "std.specs.Prelude": "Float",
+            "serde_json.specs.Data": DATA,
+            "sgm_rectify.specs.declared.warp.Warp.TheVariants": "Identity Projective Mesh",
+            "sgm_calib.specs.declared.keys.CalibFault": "CalibFault",
+            "sgm_calib.Paths": "",
+            "sgm_calib.Calibration": "Calibration settings",
+            "sgm_calib.Checks": "",
+            "sgm_calib.WarpKeys": "",
+            "sgm_calib.RegionKeys": "",
+            "sgm_calib.Judge": "",
+            "sgm_app.Lines": "calib_parts",
+            "std.specs.List": "concat",
+        },
+        "abbrev with_line : Result Calibration CalibFault → Result Calibration (List ℕ)\n"
+        "with_line (Ok calib) = Ok calib\n"
+        "with_line (Err fault) = Err (concat (calib_parts fault))\n",
+        given="real",
+    )
+    cases = [json.dumps(made) for _, made, _ in calibration_cases.faults()]
+    cases += [json.dumps(made) for _, made in calibration_cases.bounds()]
+    cases += ["[]", "7", "null", "{}", '{"version":2,"a":2}', '{"version":1.0}', '{"version":-0}']
+    cases.append('{"version":9223372036854775808}')
+    for case in cases:
+        try:
+            answer = settings_of(inputs.read_calibration(case.encode()))
+        except inputs.Ended as end:
+            answer = f"(Err {text(end.line + chr(10))})"
+        page.holds(f"with_line (judged {data_of(inputs.parse_json(case.encode()))})", answer)
+    return page
+
+
+def words(draw):
+    page = Page(
+        "words",
+        {
+            "sgm_app.specs.declared.words.Options": "Options",
+            "sgm_app.specs.declared.words.Options.TheVariants": "Match Demo",
+            "sgm_app.specs.declared.words.UsageFault": "UsageFault",
+            "sgm_app.Words": "",
+            "sgm_app.Lines": "usage_parts",
+            "std.specs.List": "concat",
+        },
+        "abbrev with_line : Result Options UsageFault → Result Options (List ℕ)\n"
+        "with_line (Ok asked) = Ok asked\n"
+        "with_line (Err fault) = Err (concat (usage_parts fault))\n",
+    )
+    names = ["a", "b", "-", "o", "o.pgm", "o.csv", ""]
+    numbers = ["0", "7", "007", "4294967295", "4294967296", "", "x", "+1", "é"]
+    options = "strips=1 strips=064 strips=65 strips=0 strips= workers=16 workers=17 workers=2x Strips=1 1".split()
+    cases = [[], ["match"], ["march", "a"], ["match", "a", "b", "-", "o"], ["match", "a", "b", "-"], ["demo"]]
+    for _ in range(60):
+        operands = draw.choices(names, weights=[4, 4, 4, 8, 1, 1, 1], k=4)
+        cases.append(["match", *operands, *draw.choices(options, k=draw.randrange(4))])
+        cases.append(["demo", draw.choice(numbers), *draw.choices(options, k=draw.randrange(4))])
+    for case in cases:
+        try:
+            operands = inputs.read_words(case)
+            asked = dict(word.split("=") for word in case[1 + len(operands) :])
+            counts = f"{int(asked.get('strips', 1))} {int(asked.get('workers', 1))}"
+            is_match = case[0] == "match"
+            answer = f"(Ok (Match {counts}))" if is_match else f"(Ok (Demo {int(operands[0])} {counts}))"
+        except inputs.Ended as end:
+            answer = f"(Err {text(end.line + chr(10))})"
+        page.holds(f"with_line (read_of {listed(case, lambda word: text(word))})", answer)
+    return page
+
+
+def texts(draw):
+    page = Page(
+        "texts",
+        {
+            "sgm_base.Values": "values_of",
+            "sgm_base.specs.declared.side.Side.TheVariants": "Left Right",
+            "sgm_pgm.Write": "",
+            "sgm_app.Pair": "",
+            "sgm_app.Texts": "",
+        },
+    )
+    for width, height in [(1, 1), (3, 2), (10, 1)]:
+        found = [[draw.choice([None, 0, 16, 4080]) for _ in range(width)] for _ in range(height)]
+        summary = reference.summary_text(found)
+        page.holds(f"disparity_text {plane_of(found)}", text(reference.disparity_text(found)))
+        page.holds(f"summary_text {plane_of(found)}", text(summary))
+        page.holds(f"demo_text {plane_of(found)}", text(summary + f"sum {sum(reference.disparity_samples(found))}\n"))
+    for number in (0, 7, 4294967295):
+        left, right = reference.generated_pair(256, 192, number)
+        edges = [(0, 0), (8, 0), (95, 64), (96, 63), (96, 64), (159, 127), (160, 127), (96, 128), (255, 191)]
+        for x, y in [*edges, (3, 47), (3, 48), (3, 144)]:
+            page.holds(f"pair_sample {number} Left {x} {y}", natural(left.at(x, y)))
+            page.holds(f"pair_sample {number} Right {x} {y}", natural(right.at(x, y)))
+    return page
+
+
+def surveys(draw):
+    """A whole survey of a pair so small that every sequence along every ray can be tried."""
+    page = Page(
+        "surveys",
+        {
+            "sgm_base.Picture": "picture",
+            "sgm_base.Values": "values_of",
+            "sgm_rectify.specs.declared.warp.Warp.TheVariants": "Identity",
+            "sgm_rectify.Places": "",
+            "sgm_rectify.Bilinear": "",
+            "sgm_rectify.Rectified": "",
+            "sgm_census.Codes": "",
+            "sgm_census.Costs": "",
+            "sgm_energy.Rays": "",
+            "sgm_energy.Energies": "",
+            "sgm_select.Selection": "",
+            "sgm_grid.Cells": "cells_of",
+            "sgm_calib.Calibration": "settings",
+            "sgm_job.Heights": "",
+            "sgm_job.Survey": "survey_of",
+        },
+    )
+    for width, height in [(3, 3), (4, 3)]:
+        pair = [inputs.Image(width, height, 255, [draw.randrange(9) for _ in range(width * height)]) for _ in range(2)]
+        calibration = inputs.Calibration()
+        calibration.first, calibration.count, calibration.window, calibration.p1, calibration.p2 = 0, 2, (3, 3), 1, 3
+        calibration.camera = dict(zip(CAMERA, (25600, 1000, 0, 0, 0, 150000, 1, 1000000)))
+        calibration.grid = dict(west=0, south=-2000, cell=1000, cols=4, rows=3)
+        calibration.regions = [dict(name="all", col=0, row=0, cols=4, rows=3, base=40000)]
+        found, cells, tallies = matching.survey(*pair, calibration)
+        wanted = settings_of(calibration)[len("(Ok ") : -len(")")]
+        answer = record(
+            disp=plane_of(found),
+            grid=f"(Some {cells_of(calibration.grid, cells)})",
+            tallies=f"(Some {listed(tallies, tally_of)})",
+        )
+        page.holds(f"survey_of {picture_of(pair[0])} {picture_of(pair[1])} {wanted}", answer)
+    return page
+
+
+PAGES = [energies, codes, selection, rectification, points, grids, reports, calibrations, words, texts, surveys]
+
+
+def main(folder, *options):
+    titles, count = [], 0
+    for make in PAGES:
+        page = make(random.Random(20261127))
+        count += page.write(folder, "wrong" in options)
+        titles.append(page.title.capitalize())
+    with open(os.path.join(folder, "Lib.antt"), "w", encoding="utf-8") as file:
+        file.write("".join(f"pub mod {title}\n" for title in titles))
+    print(f"definitions: {count} equations on {len(titles)} pages")
+
+
+if __name__ == "__main__":
+    main(*sys.argv[1:])
