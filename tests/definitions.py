@@ -21,6 +21,7 @@ import least_energies
 import reference
 import reference_inputs as inputs
 import reference_matching as matching
+from test_reference import WORKED
 
 CRATES = os.path.join(os.path.dirname(os.path.abspath(__file__)), "..", "crates")
 COMMON = """◌≡◌ ℕ ℤ pos negsuc ◌+◌ ◌*◌ List [] ◌∷◌ ◌++◌ map codes slice_index Option Some None true false refl
@@ -84,7 +85,7 @@ class Page:
         # A numeral of the library computes only where its digits are unfolded.
         unfolded = ["digits"]
         lines = [f"-- {self.title}", f"use Rattle.std.proofs.Common.{{{', '.join(COMMON)}}}"]
-        lines.append("use Rattle.core.specs.Fmt.{digits}")
+        lines.append("use Rattle.std.specs.Fmt.{digits}")
         for module, names in self.imports.items():
             if "specs" not in module:
                 found = self.unfolded(module)
@@ -529,7 +530,7 @@ def texts(draw):
 
 
 def surveys(draw):
-    """A whole survey of a pair so small that every sequence along every ray can be tried."""
+    """Whole surveys: the worked pair, and two that are as small, so that every sequence of a ray can be tried."""
     page = Page(
         "surveys",
         {
@@ -550,21 +551,20 @@ def surveys(draw):
             "sgm_job.Survey": "survey_of",
         },
     )
+    calibration = inputs.read_calibration(WORKED["c.json"])
+    pairs = [[inputs.read_pgm(WORKED[name], name) for name in ("l.pgm", "r.pgm")]]
     for width, height in [(3, 3), (4, 3)]:
-        pair = [inputs.Image(width, height, 255, [draw.randrange(9) for _ in range(width * height)]) for _ in range(2)]
-        calibration = inputs.Calibration()
-        calibration.first, calibration.count, calibration.window, calibration.p1, calibration.p2 = 0, 2, (3, 3), 1, 3
-        calibration.camera = dict(zip(CAMERA, (25600, 1000, 0, 0, 0, 150000, 1, 1000000)))
-        calibration.grid = dict(west=0, south=-2000, cell=1000, cols=4, rows=3)
-        calibration.regions = [dict(name="all", col=0, row=0, cols=4, rows=3, base=40000)]
-        found, cells, tallies = matching.survey(*pair, calibration)
-        wanted = settings_of(calibration)[len("(Ok ") : -len(")")]
+        noise = [[draw.randrange(9) for _ in range(width * height)] for _ in range(2)]
+        pairs.append([inputs.Image(width, height, 255, samples) for samples in noise])
+    settings = settings_of(calibration)[len("(Ok ") : -len(")")]
+    for left, right in pairs:
+        found, cells, tallies = matching.survey(left, right, calibration)
         answer = record(
             disp=plane_of(found),
             grid=f"(Some {cells_of(calibration.grid, cells)})",
             tallies=f"(Some {listed(tallies, tally_of)})",
         )
-        page.holds(f"survey_of {picture_of(pair[0])} {picture_of(pair[1])} {wanted}", answer)
+        page.holds(f"survey_of {picture_of(left)} {picture_of(right)} {settings}", answer)
     return page
 
 
