@@ -5,7 +5,7 @@ ghost use Rattle.sgm_pgm.specs.Read.{Reads};
 ghost use Rattle.sgm_pgm.specs.declared.fault.PgmFault.{PgmFault};
 ghost use Rattle.sgm_calib.specs.Calibration.{Calibration, plain};
 ghost use Rattle.sgm_calib.specs.declared.keys.CalibFault.{CalibFault};
-ghost use Rattle.sgm_job.specs.Bounds.{AtMost};
+ghost use Rattle.sgm_base.specs.Values.{AtMost};
 ghost use Rattle.sgm_grid.specs.Text.{grid_text};
 ghost use Rattle.sgm_report.specs.Areas.{IsRegionName};
 ghost use Rattle.sgm_report.specs.Table.{table_text};

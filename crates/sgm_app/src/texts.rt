@@ -1,6 +1,6 @@
 //! The texts that are written.
 ghost use Rattle.std.specs.Prelude.{◌≡◌, ◌≤◌, ◌+◌, ◌*◌, ◌^◌, ◌++◌, map, sum, count_by, is_some, length, IfOk, IfSome, string_bytes};
-ghost use Rattle.sgm_job.specs.Bounds.{AtMost};
+ghost use Rattle.sgm_base.specs.Values.{AtMost};
 ghost use Rattle.sgm_app.specs.Texts.{sample_of, disparity_text, summary_text, demo_text};
 
 use sgm_base::DispMap;

@@ -1,3 +1,4 @@
+pub mod Columns
 pub mod Disparities
 pub mod Picture
 pub mod Rounding

@@ -1,10 +1,11 @@
-//! Sizes, disparities, images, planes, disparity maps and points, whose types keep their ranges, and
-//! the limits of the tool.
+//! Sizes, disparities, images, planes, disparity maps and points, whose types keep their ranges; which
+//! columns of two images stand for each other; and the limits of the tool.
 #![tactic(auto)]
 
 mod disp_map;
 mod image;
 mod limits;
+mod overlap;
 mod plane;
 mod point;
 mod side;
@@ -13,7 +14,12 @@ mod span;
 
 pub use disp_map::DispMap;
 pub use image::Image;
-pub use limits::{MAX_COUNT, MAX_FIRST, MAX_IMAGE_BYTES, MAX_SIDE, MAX_VOLUME, MIN_FIRST};
+pub use limits::{
+    MAX_CALIB_BYTES, MAX_COST, MAX_COUNT, MAX_DISPARITY, MAX_FIRST, MAX_GRID_LINES,
+    MAX_IMAGE_BYTES, MAX_PATH_VALUE, MAX_PENALTY, MAX_REGIONS, MAX_SIDE, MAX_STRIPS, MAX_SUM,
+    MAX_VOLUME, MAX_WINDOW_HEIGHT, MAX_WINDOW_WIDTH, MAX_WORKERS, MIN_FIRST, MIN_WINDOW_SIDE,
+};
+pub use overlap::Overlap;
 pub use plane::Plane;
 pub use point::{Point, round_div};
 pub use side::Side;

@@ -13,8 +13,8 @@ use Rattle.sgm_report.specs.Areas.{Area, IsArea}
 
 -- the penalties of a change of the index by one, and by more
 pub record Penalties : Type 0 where
-  pub near : ℕ
-  pub far : ℕ
+  pub p1 : ℕ
+  pub p2 : ℕ
 
 pub record Calibration : Type 0 where
   pub span : Disparities
@@ -27,10 +27,10 @@ pub record Calibration : Type 0 where
   pub regions : Option (List Area)
 
 abbrev pub settings : Disparities → WindowSides → ℕ → ℕ → Warp → Warp → Option Camera → Option GridSpec → Option (List Area) → Calibration
-settings span window near far left right camera grid regions = record {
+settings span window p1 p2 left right camera grid regions = record {
   span = span;
   window = window;
-  penalties = record { near = near; far = far };
+  penalties = record { p1 = p1; p2 = p2 };
   left = left;
   right = right;
   camera = camera;

@@ -72,8 +72,8 @@ window_in top = record {
 
 unfoldable pub penalties_in : Data → Penalties
 penalties_in top = record {
-  near = unsigned_abs (number_at (codes "penalties") (codes "p1") top);
-  far = unsigned_abs (number_at (codes "penalties") (codes "p2") top);
+  p1 = unsigned_abs (number_at (codes "penalties") (codes "p1") top);
+  p2 = unsigned_abs (number_at (codes "penalties") (codes "p2") top);
 }
 
 -- the camera that an object is

@@ -81,8 +81,8 @@ impl Calib {
 
     /// The penalties of a change of the disparity.
     pub fn pen(&self) -> Pen
-        ensures near { p1_of result ≡ self.now.penalties.near }
-        ensures far { p2_of result ≡ self.now.penalties.far }
+        ensures p1 { p1_of result ≡ self.now.penalties.p1 }
+        ensures p2 { p2_of result ≡ self.now.penalties.p2 }
     {
         self.pen
     }

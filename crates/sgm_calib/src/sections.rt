@@ -96,8 +96,8 @@ fn pen(p1: i64, p2: i64) -> Pen
     requires low { pos 1 ≤ℤ p1 }
     requires ordered { p1 ≤ℤ p2 }
     requires high { p2 ≤ℤ pos 4000 }
-    ensures near { p1_of result ≡ unsigned_abs p1 }
-    ensures far { p2_of result ≡ unsigned_abs p2 }
+    ensures p1 { p1_of result ≡ unsigned_abs p1 }
+    ensures p2 { p2_of result ≡ unsigned_abs p2 }
 {
     let Some(pen) = Pen::make(p1 as u16, p2 as u16) else {
         unreachable!()
@@ -108,8 +108,8 @@ fn pen(p1: i64, p2: i64) -> Pen
 #[tactic(auto, unfolding(crate::specs::Judge::section_fault, crate::specs::Judge::held_fault, crate::specs::Judge::penalties_in))]
 pub fn penalties(top: &Value) -> Result<Pen, CalibFault>
     ensures ok { OnOk result (section_fault (view top.now) table.penalties ≡ None) }
-    ensures near { IfOk result (λ pen. p1_of pen ≡ (penalties_in (view top.now)).near) }
-    ensures far { IfOk result (λ pen. p2_of pen ≡ (penalties_in (view top.now)).far) }
+    ensures p1 { IfOk result (λ pen. p1_of pen ≡ (penalties_in (view top.now)).p1) }
+    ensures p2 { IfOk result (λ pen. p2_of pen ≡ (penalties_in (view top.now)).p2) }
     ensures fault { IfErr result (λ f. section_fault (view top.now) table.penalties ≡ Some f) }
 {
     let Some(object) = top.get("penalties") else {

@@ -7,7 +7,8 @@ use Rattle.std.proofs.lemmas.Nat.{mul-add-lt, div-mul-add, mod-mul-add, mod_belo
 use Rattle.std.specs.List.{range_with_len}
 use Rattle.sgm_base.specs.Values.{Values, IsValues}
 use Rattle.sgm_census.specs.Windows.{WindowSides, IsWindow, greatest_of}
-use Rattle.sgm_census.specs.Codes.{Codes, IsCodes, row_by_row, codes_of, code_in, code_at}
+use Rattle.sgm_census.specs.Codes.{Codes, IsCodes, codes_of, code_in, code_at}
+use Rattle.sgm_base.specs.Values.{row_by_row}
 use Rattle.sgm_census.specs.Packed.{bits_of, place_of, unpacked, codes_in, IsPacked, HoldsCodes}
 use Rattle.sgm_census.proofs.Bits.{length-bits_of}
 use Rattle.sgm_census.proofs.Centres.{code_at-void, length-code_at}

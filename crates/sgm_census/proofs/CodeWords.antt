@@ -3,7 +3,8 @@ use Rattle.std.proofs.Common.{◌≡◌, ℕ, ◌+◌, ◌*◌, ◌/◌, ◌%◌
 use Rattle.std.specs.List.{remove}
 use Rattle.sgm_base.specs.Values.{Values}
 use Rattle.sgm_census.specs.Windows.{WindowSides, IsWindow, greatest_of}
-use Rattle.sgm_census.specs.Codes.{value_at, window_values, less_than, code_at}
+use Rattle.sgm_census.specs.Codes.{window_values, less_than, code_at}
+use Rattle.sgm_base.specs.Values.{value_at}
 use Rattle.sgm_census.specs.Packed.{bits_of, pushed}
 use Rattle.sgm_census.proofs.Bits.{bits_of-none, bits_of-pushed, bits_of-without, without_small}
 use Rattle.sgm_census.proofs.Centres.{middle, is_middle, code_at-there}

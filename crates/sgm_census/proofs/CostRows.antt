@@ -5,7 +5,7 @@ use Rattle.std.proofs.lemmas.Int.{ints}
 use Rattle.std.proofs.lemmas.List.{get_or-take, get_or_append_left, get_or-append_right}
 use Rattle.std.proofs.lemmas.Nat.{mul-le, row_fits, div-add-mod', mod_below, div_below}
 use Rattle.sgm_census.specs.Windows.{WindowSides, IsWindow, greatest_of}
-use Rattle.sgm_census.specs.Columns.{column_within, left_column, right_column}
+use Rattle.sgm_base.specs.Columns.{column_within, left_column, right_column}
 use Rattle.sgm_census.specs.Codes.{Codes, IsCodes, code_in}
 use Rattle.sgm_census.specs.Costs.{differs, differing, cost_between, census_cost}
 use Rattle.sgm_census.specs.Packed.{unpacked, HoldsCodes}

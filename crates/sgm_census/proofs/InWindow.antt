@@ -7,7 +7,8 @@ use Rattle.std.proofs.lemmas.Nat.{row_fits}
 use Rattle.std.specs.List.{flat_map, range_with_len}
 use Rattle.sgm_base.specs.Values.{Values, IsValues, row_of}
 use Rattle.sgm_census.specs.Windows.{WindowSides, IsWindow}
-use Rattle.sgm_census.specs.Codes.{value_at, value_near, window_values}
+use Rattle.sgm_census.specs.Codes.{value_near, window_values}
+use Rattle.sgm_base.specs.Values.{value_at}
 
 -- the row j of a window
 abbrev pub window_row : Values → WindowSides → ℕ → ℕ → ℕ → List (Option ℕ)

@@ -2,13 +2,8 @@
 use Rattle.std.specs.Prelude.{◌≡◌, ℕ, ◌+◌, ◌-◌, ◌*◌, ◌/◌, ◌%◌, Bool, ◌&&◌, nat_lt, nat_le, if◌then◌else◌, List, [], ◌∷◌, length, map, slice_index_or, remove, Option, Some, None, option_map, option_and_then}
 use Rattle.std.specs.List.{flat_map, range_with_len}
 use Rattle.sgm_base.specs.Sides.{IsSide}
-use Rattle.sgm_base.specs.Values.{Values}
+use Rattle.sgm_base.specs.Values.{Values, value_at, row_by_row}
 use Rattle.sgm_census.specs.Windows.{WindowSides, IsWindow, greatest_of}
-
--- the value of the pixel (x, y), none where it is void or outside
-abbrev pub value_at : Values → ℕ → ℕ → Option ℕ
-value_at plane x y =
-    if nat_lt x plane.width && nat_lt y plane.height then slice_index_or plane.entries (y * plane.width + x) None else None
 
 -- the value in the column i and the row j of the window round the pixel (x, y)
 abbrev pub value_near : Values → WindowSides → ℕ → ℕ → ℕ → ℕ → Option ℕ
@@ -40,10 +35,6 @@ less_than centre values = option_map (map (λ v. nat_lt v centre)) (all_there va
 -- the centre. None where a pixel of the window is void or outside.
 unfoldable pub code_at : Values → WindowSides → ℕ → ℕ → Option (List Bool)
 code_at plane window x y = option_and_then (λ centre. less_than centre (neighbours plane window x y)) (value_at plane x y)
-
--- what f gives for each pixel (x, y) of an image, row by row
-unfoldable pub row_by_row : {X : Type 0} → ℕ → ℕ → (ℕ → ℕ → X) → List X
-row_by_row width height f = map (λ k. f (k % width) (k / width)) (range_with_len 0 (width * height))
 
 -- what contracts see of a plane of codes: its sides, its window, and for each pixel, row by row, its code or none
 pub record Codes : Type 0 where

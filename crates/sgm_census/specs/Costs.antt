@@ -1,7 +1,7 @@
 -- Matching costs: in how many places two codes differ.
 use Rattle.std.specs.Prelude.{ℕ, ◌+◌, Bool, true, false, List, ◌∷◌, Option, Some, option_and_then, ℤ}
 use Rattle.sgm_census.specs.Windows.{greatest_of}
-use Rattle.sgm_census.specs.Columns.{right_column}
+use Rattle.sgm_base.specs.Columns.{right_column}
 use Rattle.sgm_census.specs.Codes.{Codes, code_in}
 
 -- 1 where two truth values differ, else 0

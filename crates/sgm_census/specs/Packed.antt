@@ -4,7 +4,8 @@ use Rattle.std.specs.Prelude.{◌≡◌, ℕ, ◌+◌, ◌-◌, ◌*◌, ◌/◌
 use Rattle.std.specs.Int.{from_bool}
 use Rattle.sgm_base.specs.Sides.{IsSide}
 use Rattle.sgm_census.specs.Windows.{WindowSides, IsWindow, greatest_of}
-use Rattle.sgm_census.specs.Codes.{Codes, row_by_row, code_in}
+use Rattle.sgm_census.specs.Codes.{Codes, code_in}
+use Rattle.sgm_base.specs.Values.{row_by_row}
 
 -- the lowest n bits of a word, the highest of them first
 unfoldable pub bits_of : ℕ → ℕ → List Bool

@@ -1,11 +1,11 @@
 ghost use Rattle.std.specs.Prelude.{◌≡◌, ℕ, ◌+◌, ◌-◌, ◌*◌, ◌^◌, ◌<◌, ◌≤◌, length, slice_index, slice_index_or, All, EachIndex, Some, option_and_then, if◌then◌else◌, false};
-ghost use Rattle.sgm_census.specs.Columns.{left_column};
+ghost use Rattle.sgm_base.specs.Columns.{left_column};
 ghost use Rattle.sgm_census.specs.Costs.{cost_between, census_cost};
 ghost use Rattle.sgm_census.specs.Packed.{bits_of, unpacked, HoldsSmall};
 
-use crate::Overlap;
+
 use crate::code_plane::{CodePlane, CodeRow};
-use sgm_base::Span;
+use sgm_base::{Overlap, Span};
 use sgm_lanes::hamming;
 
 /// Writes the value into each cell.

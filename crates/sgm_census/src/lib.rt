@@ -5,13 +5,11 @@
 mod code_plane;
 mod cost;
 pub mod laws;
-mod overlap;
 mod pack;
 mod window;
 
 pub use code_plane::{CodePlane, codes};
 pub use cost::cost_row;
-pub use overlap::Overlap;
 pub use window::Window;
 
 #[cfg(test)]

@@ -53,15 +53,15 @@ least_value_is g dir q qs h e =
       reached = sym is;
     }
 
-pub next : (g : Problem) (dir : Dir) (p q : Pixel) (d : ℕ) → d < g.count → g.near ≤ g.far q p → predecessor g dir p ≡ Some q
-    → IsStepped (path_value g dir q) g.count g.near (g.far q p) (least_value g dir q) (g.cost p d) d (path_value g dir p d)
+pub next : (g : Problem) (dir : Dir) (p q : Pixel) (d : ℕ) → d < g.count → g.p1 ≤ g.far q p → predecessor g dir p ≡ Some q
+    → IsStepped (path_value g dir q) g.count g.p1 (g.far q p) (least_value g dir q) (g.cost p d) d (path_value g dir p d)
 next g dir p q d h f e =
     let w = ray_ends g dir q in
     let qs = w.0 in
     let rp : ray g dir p ≡ (qs ++ q ∷ []) ++ p ∷ [] = ray_next g dir p q e ∙ ap (λ r. r ++ p ∷ []) w.1 in
     let l = least_value_is g dir q qs (omega arith) w.1 in
     let a = ending_next_in g qs q p d h in
-    let step = step_is (path_value g dir q) g.count g.near (g.far q p) (least_value g dir q) d (least_of_all g qs) (g.cost p d) (least_ending g ((qs ++ q ∷ []) ++ p ∷ []) d) h f
+    let step = step_is (path_value g dir q) g.count g.p1 (g.far q p) (least_value g dir q) d (least_of_all g qs) (g.cost p d) (least_ending g ((qs ++ q ∷ []) ++ p ∷ []) d) h f
     l.each l.at l.below_count l.reached
     (λ x hx. omega (arith, ending_next_le g qs q p x d hx h, value_at g dir q qs x hx w.1))
     a.0 a.1 (omega (arith, a.2, value_at g dir q qs a.0 a.1 w.1)) in
@@ -74,7 +74,7 @@ high g dir p d most top h i w = cases (predecessor g dir p) refl
     cases : (o : Option Pixel) → predecessor g dir p ≡ o → path_value g dir p d ≤ most + top
     cases None e = omega (arith, first g dir p d h e, w.costs p d i h)
     cases (Some q) e =
-        omega (arith, next g dir p q d h (w.ordered q p) e, carried_le_far (path_value g dir q) g.count g.near (g.far q p) (least_value g dir q) d, w.costs p d i h, w.penalties q p)
+        omega (arith, next g dir p q d h (w.ordered q p) e, carried_le_far (path_value g dir q) g.count g.p1 (g.far q p) (least_value g dir q) d, w.costs p d i h, w.penalties q p)
 
 pub within_fixed : (width height count p1 p2 most : ℕ) (cost : Pixel → ℕ → ℕ) → p1 ≤ p2 → ((p : Pixel) (d : ℕ) → p.x < width → p.y < height → d < count → cost p d ≤ most)
     → IsWithin (fixed_problem width height count cost p1 p2) most p2

@@ -24,13 +24,13 @@ ends_in d [] = false
 ends_in d (a ∷ []) = a == d
 ends_in d (a ∷ b ∷ s) = ends_in d (b ∷ s)
 
--- the penalty of a change from the index a to b: none, near for a change by one, far for one by more
+-- the penalty of a change from the index a to b: none, p1 for a change by one, far for one by more
 abbrev pub change : ℕ → ℕ → ℕ → ℕ → ℕ
-change near far a b = if a == b then 0 else if (a + 1 == b) || (b + 1 == a) then near else far
+change p1 far a b = if a == b then 0 else if (a + 1 == b) || (b + 1 == a) then p1 else far
 
 -- the penalty of a change from the index a at q to b at p
 abbrev pub jump : Problem → Pixel → Pixel → ℕ → ℕ → ℕ
-jump g q p a b = change g.near (g.far q p) a b
+jump g q p a b = change g.p1 (g.far q p) a b
 
 -- the costs of a sequence's indices, each at its pixel
 unfoldable pub costs : Problem → List Pixel → List ℕ → ℕ
@@ -71,8 +71,8 @@ sum_done done g p d = sum_by (λ dir. if done dir then path_value g dir p d else
 unfoldable pub path_sum : Problem → Pixel → ℕ → ℕ
 path_sum g p d = sum_by (λ dir. path_value g dir p d) directions
 
--- no cost in the image is above most, no penalty above top, and far is never below near
+-- no cost in the image is above most, no penalty above top, and far is never below p1
 pub record IsWithin (g : Problem) (most top : ℕ) : Type 0 where
   pub costs : (p : Pixel) (d : ℕ) → IsInside g p → d < g.count → g.cost p d ≤ most
-  pub ordered : (q p : Pixel) → g.near ≤ g.far q p
+  pub ordered : (q p : Pixel) → g.p1 ≤ g.far q p
   pub penalties : (q p : Pixel) → g.far q p ≤ top

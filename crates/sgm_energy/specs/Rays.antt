@@ -13,20 +13,20 @@ abbrev pub pixel_at : ℕ → ℕ → Pixel
 pixel_at x y = record { x = x; y = y }
 
 -- An image of width by height pixels, each of which is to have an index below count: the cost of an index at
--- a pixel, and, from one pixel of a ray to the next, the penalty of an index that changes by one, near, and
+-- a pixel, and, from one pixel of a ray to the next, the penalty of an index that changes by one, p1, and
 -- that of an index that changes by more, far.
 pub record Problem : Type 0 where
   pub width : ℕ
   pub height : ℕ
   pub count : ℕ
   pub cost : Pixel → ℕ → ℕ
-  pub near : ℕ
+  pub p1 : ℕ
   pub far : Pixel → Pixel → ℕ
 
 -- the problem whose two penalties are p1 and p2 everywhere
 abbrev pub fixed_problem : ℕ → ℕ → ℕ → (Pixel → ℕ → ℕ) → ℕ → ℕ → Problem
 fixed_problem width height count cost p1 p2 =
-    record { width = width; height = height; count = count; cost = cost; near = p1; far = λ _ _. p2 }
+    record { width = width; height = height; count = count; cost = cost; p1 = p1; far = λ _ _. p2 }
 
 abbrev pub IsInside : Problem → Pixel → Type 0
 IsInside g p = (p.x < g.width) × (p.y < g.height)

@@ -46,8 +46,8 @@ pub fn all_sequences()
 pub fn recurrence()
     ensures first { (g : Problem) (dir : Dir) (p : Pixel) (d : ℕ) → d < g.count → predecessor g dir p ≡ None
         → path_value g dir p d ≡ g.cost p d }
-    ensures next { (g : Problem) (dir : Dir) (p q : Pixel) (d : ℕ) → d < g.count → g.near ≤ g.far q p → predecessor g dir p ≡ Some q
-        → IsStepped (path_value g dir q) g.count g.near (g.far q p) (least_value g dir q) (g.cost p d) d (path_value g dir p d) }
+    ensures next { (g : Problem) (dir : Dir) (p q : Pixel) (d : ℕ) → d < g.count → g.p1 ≤ g.far q p → predecessor g dir p ≡ Some q
+        → IsStepped (path_value g dir q) g.count g.p1 (g.far q p) (least_value g dir q) (g.cost p d) d (path_value g dir p d) }
 {}
 
 /// No path value is below 0: what is subtracted is never greater. None is above the greatest cost and

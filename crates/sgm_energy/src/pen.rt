@@ -1,25 +1,28 @@
 ghost use Rattle.std.specs.Prelude.{◌≡◌, ◌≤◌, ◌↔◌, IsSome, IfSome};
+ghost use Rattle.sgm_base.specs.declared.limits.TheConstants.{MAX_PENALTY};
+
+use sgm_base::MAX_PENALTY;
 
 /// The penalties for a change of the index from one pixel of a ray to the next: `p1` where it
-/// changes by one, `p2` where it changes by more. 1 <= p1 <= p2 <= 4000.
+/// changes by one, `p2` where it changes by more. 1 <= p1 <= p2 <= [`MAX_PENALTY`].
 #[derive(Clone, Copy, Debug, PartialEq, Eq)]
 pub struct Pen {
     p1: u16,
     p2: u16,
     ghost positive: { 1 ≤ p1 },
     ghost ordered: { p1 ≤ p2 },
-    ghost limited: { p2 ≤ 4000 },
+    ghost limited: { p2 ≤ MAX_PENALTY },
 }
 
 impl Pen {
     ghost use Rattle.sgm_energy.specs.Pens.{p1_of, p2_of};
 
-    /// None exactly where the penalties are outside 1 <= p1 <= p2 <= 4000.
+    /// None exactly where the penalties are outside 1 <= p1 <= p2 <= [`MAX_PENALTY`].
     pub fn make(p1: u16, p2: u16) -> Option<Pen>
-        ensures within { IsSome result ↔ ((1 ≤ p1) × (p1 ≤ p2) × (p2 ≤ 4000)) }
+        ensures within { IsSome result ↔ ((1 ≤ p1) × (p1 ≤ p2) × (p2 ≤ MAX_PENALTY)) }
         ensures value { IfSome result (λ pen. (p1_of pen ≡ p1) × (p2_of pen ≡ p2)) }
     {
-        if 1 <= p1 && p1 <= p2 && p2 <= 4000 {
+        if 1 <= p1 && p1 <= p2 && p2 <= MAX_PENALTY {
             Some(Pen { p1, p2 })
         } else {
             None

@@ -11,7 +11,7 @@ use Rattle.std.proofs.lemmas.Nat.{mod_below, div_below}
 use Rattle.std.proofs.lemmas.Option.{unwrap_or-slice_get}
 use Rattle.sgm_base.specs.Values.{Values, row_of}
 use Rattle.sgm_base.specs.declared.point.Point.{Point}
-use Rattle.sgm_census.specs.Codes.{row_by_row, value_at}
+use Rattle.sgm_base.specs.Values.{row_by_row, value_at}
 use Rattle.sgm_census.proofs.InWindow.{get_or-row_of}
 use Rattle.std.specs.Prelude.{option_and_then}
 use Rattle.sgm_height.specs.declared.camera.Camera.{Camera}

@@ -5,7 +5,7 @@ use Rattle.std.proofs.lemmas.Bool.{cases_eq}
 use Rattle.std.proofs.lemmas.List.FromFn.{fill_by_all}
 use Rattle.std.proofs.lemmas.Nat.{mod_below, div_below, mul-add-lt}
 use Rattle.sgm_base.specs.Values.{Values, row_of, values_of}
-use Rattle.sgm_census.specs.Codes.{row_by_row}
+use Rattle.sgm_base.specs.Values.{row_by_row}
 use Rattle.sgm_energy.specs.Energies.{path_sum}
 use Rattle.sgm_energy.specs.Rays.{Problem, pixel_at}
 use Rattle.sgm_energy.specs.Rows.{HoldsRow}

@@ -8,26 +8,26 @@ use Rattle.sgm_base.specs.Picture.{Picture}
 use Rattle.sgm_base.specs.Disparities.{Disparities}
 use Rattle.sgm_base.specs.Values.{Values}
 use Rattle.sgm_calib.specs.Calibration.{Calibration}
-use Rattle.sgm_census.specs.Codes.{row_by_row, value_at}
-use Rattle.sgm_census.specs.Columns.{right_column}
+use Rattle.sgm_base.specs.Values.{row_by_row, value_at}
+use Rattle.sgm_base.specs.Columns.{right_column}
 use Rattle.sgm_census.specs.Windows.{WindowSides}
 use Rattle.sgm_energy.specs.Energies.{path_sum}
 use Rattle.sgm_energy.specs.Rays.{Pixel, pixel_at, Problem}
 use Rattle.sgm_select.specs.Selection.{agree, base, checked, disparity, least_index, matched}
-use Rattle.sgm_job.specs.Bounds.{AtMost}
+use Rattle.sgm_base.specs.Values.{AtMost}
 use Rattle.sgm_job.specs.Survey.{disparities, disparities_of, left_plane, matching, right_plane}
 
 -- the map of the planes is that of the images
-pub map_is : (left right : Picture) (calib : Calibration) (a b : Values) (span : Disparities) (window : WindowSides) (near far : ℕ) → a ≡ left_plane left calib → b ≡ right_plane right calib → span ≡ calib.span → window ≡ calib.window
-    → near ≡ calib.penalties.near → far ≡ calib.penalties.far
-    → disparities_of (matching a b span window (record { near = near; far = far })) a b span.first ≡ disparities left right calib
-map_is left right calib a b span window near far ea eb es ew en ef =
-    ap (λ p. disparities_of (matching p b span window (record { near = near; far = far })) p b span.first) ea
-    ∙ ap (λ p. disparities_of (matching (left_plane left calib) p span window (record { near = near; far = far })) (left_plane left calib) p span.first) eb
-    ∙ ap (λ s. disparities_of (matching (left_plane left calib) (right_plane right calib) s window (record { near = near; far = far })) (left_plane left calib) (right_plane right calib) s.first) es
-    ∙ ap (λ w. disparities_of (matching (left_plane left calib) (right_plane right calib) calib.span w (record { near = near; far = far })) (left_plane left calib) (right_plane right calib) calib.span.first) ew
-    ∙ ap (λ n. disparities_of (matching (left_plane left calib) (right_plane right calib) calib.span calib.window (record { near = n; far = far })) (left_plane left calib) (right_plane right calib) calib.span.first) en
-    ∙ ap (λ n. disparities_of (matching (left_plane left calib) (right_plane right calib) calib.span calib.window (record { near = calib.penalties.near; far = n })) (left_plane left calib) (right_plane right calib) calib.span.first) ef
+pub map_is : (left right : Picture) (calib : Calibration) (a b : Values) (span : Disparities) (window : WindowSides) (p1 far : ℕ) → a ≡ left_plane left calib → b ≡ right_plane right calib → span ≡ calib.span → window ≡ calib.window
+    → p1 ≡ calib.penalties.p1 → far ≡ calib.penalties.p2
+    → disparities_of (matching a b span window (record { p1 = p1; p2 = far })) a b span.first ≡ disparities left right calib
+map_is left right calib a b span window p1 far ea eb es ew en ef =
+    ap (λ p. disparities_of (matching p b span window (record { p1 = p1; p2 = far })) p b span.first) ea
+    ∙ ap (λ p. disparities_of (matching (left_plane left calib) p span window (record { p1 = p1; p2 = far })) (left_plane left calib) p span.first) eb
+    ∙ ap (λ s. disparities_of (matching (left_plane left calib) (right_plane right calib) s window (record { p1 = p1; p2 = far })) (left_plane left calib) (right_plane right calib) s.first) es
+    ∙ ap (λ w. disparities_of (matching (left_plane left calib) (right_plane right calib) calib.span w (record { p1 = p1; p2 = far })) (left_plane left calib) (right_plane right calib) calib.span.first) ew
+    ∙ ap (λ n. disparities_of (matching (left_plane left calib) (right_plane right calib) calib.span calib.window (record { p1 = n; p2 = far })) (left_plane left calib) (right_plane right calib) calib.span.first) en
+    ∙ ap (λ n. disparities_of (matching (left_plane left calib) (right_plane right calib) calib.span calib.window (record { p1 = calib.penalties.p1; p2 = n })) (left_plane left calib) (right_plane right calib) calib.span.first) ef
 
 -- ---- no disparity is above 16 times the greatest index
 find_inside : (p counts : ℕ → Bool) (a n b : ℕ) → find p (filter counts (range_with_len a n)) ≡ Some b → b < a + n

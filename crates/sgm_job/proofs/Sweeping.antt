@@ -78,12 +78,12 @@ comes : (g : Problem) (dir : Dir) (y : ℕ) (begun : Bool) (far : ℕ) (before :
 comes g dir y begun far before true e h = subst (λ l. MatchBool l ⊤ (Before g dir y begun far before)) (sym e) tt
 comes g dir y begun far before false e h = subst (λ l. MatchBool l ⊤ (Before g dir y begun far before)) (sym e) (h e)
 
-pub far_everywhere : (g : Problem) (before y near far count : ℕ) (costs : List ℕ) → SuitsRow g y near far count costs → HasFar g before y (λ _ _. far)
-far_everywhere g before y near far count costs s = record { each = λ z x hz hx. s.same_far (pixel_at z before) (pixel_at x y) }
+pub far_everywhere : (g : Problem) (before y p1 far count : ℕ) (costs : List ℕ) → SuitsRow g y p1 far count costs → HasFar g before y (λ _ _. far)
+far_everywhere g before y p1 far count costs s = record { each = λ z x hz hx. s.same_far (pixel_at z before) (pixel_at x y) }
 
 -- ---- a row of a volume
-pub height_is : (g : Problem) (near far count row : ℕ) (costs : List ℕ) → SuitsVolume g near far count row costs → 0 < row → length costs / row ≡ g.height
-height_is g near far count row costs s h =
+pub height_is : (g : Problem) (p1 far count row : ℕ) (costs : List ℕ) → SuitsVolume g p1 far count row costs → 0 < row → length costs / row ≡ g.height
+height_is g p1 far count row costs s h =
     let e : length costs ≡ g.height * row + 0 = omega (arith, s.holds.whole, ap (λ n. g.height * n) s.same_row) in
     ap (λ n. n / row) e ∙ div-mul-add g.height row 0 h
 
@@ -103,11 +103,11 @@ row_holds g f volume n y en h l =
           ∙ h.each x y d hx l hd;
     }
 
-pub row_suits : (g : Problem) (near far count n y : ℕ) (costs : List ℕ) → SuitsVolume g near far count n costs → y < g.height → SuitsRow g y near far count (slice_range costs (y * n) (y * n + n))
-row_suits g near far count n y costs s l = record {
+pub row_suits : (g : Problem) (p1 far count n y : ℕ) (costs : List ℕ) → SuitsVolume g p1 far count n costs → y < g.height → SuitsRow g y p1 far count (slice_range costs (y * n) (y * n + n))
+row_suits g p1 far count n y costs s l = record {
   suits = record {
     same_count = s.same_count;
-    same_near = s.same_near;
+    same_p1 = s.same_p1;
     inside = l;
     holds = row_holds g g.cost costs n y s.same_row s.holds l;
   };
@@ -121,9 +121,9 @@ pub record Done (g : Problem) (dir : Dir) (i n : ℕ) (last old new : List ℕ) 
       → slice_index new (y * n + (x * g.count + d)) ≡ slice_index old (y * n + (x * g.count + d)) + path_value g dir (pixel_at x y) d
 
 -- before the visit i the row in last comes before it
-pub before_visit : (g : Problem) (dir : Dir) (near far count i n : ℕ) (costs last old new : List ℕ) → SuitsVolume g near far count n costs → i < g.height
+pub before_visit : (g : Problem) (dir : Dir) (p1 far count i n : ℕ) (costs last old new : List ℕ) → SuitsVolume g p1 far count n costs → i < g.height
     → Done g dir i n last old new → ComesBefore g dir (visited dir g.height i) (ltb 0 i) far last
-before_visit g dir near far count i n costs last old new s h w =
+before_visit g dir p1 far count i n costs last old new s h w =
     let y : ℕ = visited dir g.height i in
     comes g dir y (ltb 0 i) far last (is_level dir) refl (λ level. elim (cases_lt 0 i) [
       | inl l ↦ (let e : i - 1 + 1 ≡ i = omega arith in
@@ -189,21 +189,21 @@ rise_more rows n r most first old new last others here same low rise k = elim (c
 ]
 
 -- the visit i, and what is done after it
-pub done_more : (g : Problem) (dir : Dir) (near far count i n r : ℕ) (costs last last' first old new : List ℕ)
-    → SuitsVolume g near far count n costs → r ≡ visited dir g.height i → i < g.height
+pub done_more : (g : Problem) (dir : Dir) (p1 far count i n r : ℕ) (costs last last' first old new : List ℕ)
+    → SuitsVolume g p1 far count n costs → r ≡ visited dir g.height i → i < g.height
     → Done g dir i n last first old
-    → ((y : ℕ) → SuitsRow g y near far count (slice_range costs (r * n) (r * n + n)) → ComesBefore g dir y (ltb 0 i) far last → HoldsRow g y (path_value g dir) last')
+    → ((y : ℕ) → SuitsRow g y p1 far count (slice_range costs (r * n) (r * n + n)) → ComesBefore g dir y (ltb 0 i) far last → HoldsRow g y (path_value g dir) last')
     → ((k : ℕ) → (k < r * n) ⊎ (r * n + n ≤ k) → slice_index new k ≡ slice_index old k)
     → ((k : ℕ) → k < n → slice_index new (r * n + k) ≡ slice_index old (r * n + k) + slice_index last' k)
     → ((z k : ℕ) → z < g.height → i ≤ visited dir g.height z → k < n → slice_index old (z * n + k) ≡ slice_index first (z * n + k))
     → Done g dir (i + 1) n last' first new
-done_more g dir near far count i n r costs last last' first old new s er hi w paths others here left =
+done_more g dir p1 far count i n r costs last last' first old new s er hi w paths others here left =
     let rows : ℕ = g.height in
     let hr : r < rows = omega (arith, er, visited_inside dir rows i hi) in
     let back : visited dir rows r ≡ i = ap (visited dir rows) er ∙ visited_back dir rows i hi in
-    let before = before_visit g dir near far count i n costs last first old s hi w in
+    let before = before_visit g dir p1 far count i n costs last first old s hi w in
     let row : HoldsRow g r (path_value g dir) last' =
-    paths r (row_suits g near far count n r costs s hr) (subst (λ z. ComesBefore g dir z (ltb 0 i) far last) (sym er) before) in
+    paths r (row_suits g p1 far count n r costs s hr) (subst (λ z. ComesBefore g dir z (ltb 0 i) far last) (sym er) before) in
     record {
       handed = λ _. subst (λ z. HoldsRow g z (path_value g dir) last') (er ∙ ap (visited dir rows) (omega arith)) row;
       added = λ x z d hx hz hd hv.
@@ -216,9 +216,9 @@ done_more g dir near far count i n r costs last last' first old new s er hi w pa
     }
 
 -- once all rows are visited, the sums hold their path values too
-pub all_done : (g : Problem) (dir : Dir) (near far count n : ℕ) (f : Pixel → ℕ → ℕ) (costs last old new : List ℕ) → SuitsVolume g near far count n costs → length new ≡ length old
+pub all_done : (g : Problem) (dir : Dir) (p1 far count n : ℕ) (f : Pixel → ℕ → ℕ) (costs last old new : List ℕ) → SuitsVolume g p1 far count n costs → length new ≡ length old
     → Done g dir g.height n last old new → HoldsVolume g f old → HoldsVolume g (λ p d. f p d + path_value g dir p d) new
-all_done g dir near far count n f costs last old new s e w h = record {
+all_done g dir p1 far count n f costs last old new s e w h = record {
   whole = e ∙ h.whole;
   each = λ x y d hx hy hd.
       ap (λ k. slice_index new (y * k + (x * g.count + d))) s.same_row

@@ -3,7 +3,7 @@ use Rattle.std.specs.Prelude.{ℕ, ℤ, pos, ◌+ℤ◌, ◌*ℤ◌, List, filte
 use Rattle.std.specs.List.{flat_map, range_with_len}
 use Rattle.sgm_base.specs.Values.{Values}
 use Rattle.sgm_base.specs.declared.point.Point.{Point}
-use Rattle.sgm_census.specs.Codes.{row_by_row, value_at}
+use Rattle.sgm_base.specs.Values.{row_by_row, value_at}
 use Rattle.sgm_height.specs.declared.camera.Camera.{Camera}
 use Rattle.sgm_height.specs.Camera.{point_of}
 use Rattle.sgm_grid.specs.declared.grid_spec.GridSpec.{GridSpec}

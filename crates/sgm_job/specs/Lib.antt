@@ -1,4 +1,3 @@
-pub mod Bounds
 pub mod Heights
 pub mod Survey
 pub mod Surveys

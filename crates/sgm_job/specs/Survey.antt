@@ -9,7 +9,8 @@ use Rattle.sgm_base.specs.Picture.{Picture}
 use Rattle.sgm_base.specs.Values.{Values, values_of}
 use Rattle.sgm_base.specs.Disparities.{Disparities}
 use Rattle.sgm_census.specs.Windows.{WindowSides}
-use Rattle.sgm_census.specs.Codes.{codes_of, row_by_row}
+use Rattle.sgm_census.specs.Codes.{codes_of}
+use Rattle.sgm_base.specs.Values.{row_by_row}
 use Rattle.sgm_census.specs.Costs.{census_cost}
 use Rattle.sgm_energy.specs.Rays.{pixel_at, Problem, fixed_problem}
 use Rattle.sgm_select.specs.Selection.{disparity}
@@ -32,7 +33,7 @@ abbrev pub matching : Values → Values → Disparities → WindowSides → Pena
 matching left right span window penalties =
     let left_codes = codes_of left window in
     let right_codes = codes_of right window in
-    fixed_problem left.width left.height span.count (λ p d. census_cost left_codes right_codes span.first p.x p.y d) penalties.near penalties.far
+    fixed_problem left.width left.height span.count (λ p d. census_cost left_codes right_codes span.first p.x p.y d) penalties.p1 penalties.p2
 
 -- the disparity of each pixel, row by row
 abbrev pub disparities_of : Problem → Values → Values → ℤ → Values

@@ -13,16 +13,16 @@ pub record HoldsVolume (g : Problem) (f : Pixel → ℕ → ℕ) (volume : List 
   pub each : (x y d : ℕ) → x < g.width → y < g.height → d < g.count → slice_index volume (y * (g.width * g.count) + (x * g.count + d)) ≡ f (pixel_at x y) d
 
 -- a call with these penalties, this count, this length of a row and these costs is about the problem
-pub record SuitsVolume (g : Problem) (near far count row : ℕ) (costs : List ℕ) : Type 0 where
+pub record SuitsVolume (g : Problem) (p1 far count row : ℕ) (costs : List ℕ) : Type 0 where
   pub same_count : g.count ≡ count
   pub same_row : g.width * g.count ≡ row
-  pub same_near : g.near ≡ near
+  pub same_p1 : g.p1 ≡ p1
   pub same_far : (q p : Pixel) → g.far q p ≡ far
   pub holds : HoldsVolume g g.cost costs
 
 -- the same of the costs of the row y
-pub record SuitsRow (g : Problem) (y near far count : ℕ) (costs : List ℕ) : Type 0 where
-  pub suits : Suits g y near count costs
+pub record SuitsRow (g : Problem) (y p1 far count : ℕ) (costs : List ℕ) : Type 0 where
+  pub suits : Suits g y p1 count costs
   pub same_far : (q p : Pixel) → g.far q p ≡ far
 
 -- which row of an image is the i-th that a direction comes to: from the top downwards, or from the bottom upwards

@@ -7,7 +7,7 @@ ghost use Rattle.sgm_energy.specs.Rays.{Problem, pixel_at};
 ghost use Rattle.sgm_energy.specs.Rows.{HoldsRow};
 ghost use Rattle.sgm_energy.specs.Energies.{path_sum};
 ghost use Rattle.sgm_select.specs.Selection.{disparity};
-ghost use Rattle.sgm_job.specs.Bounds.{AtMost};
+ghost use Rattle.sgm_base.specs.Values.{AtMost};
 ghost use Rattle.sgm_job.specs.Survey.{matching, disparities_of};
 ghost use Rattle.sgm_job.specs.Volumes.{HoldsVolume, SuitsPlane, SuitsVolume};
 
@@ -162,7 +162,7 @@ pub(crate) fn disparity_map(
     requires same_height { left.now.height ≡ right.now.height }
     requires room { left.now.width * left.now.height * span.count ≤ MAX_VOLUME }
     ensures bound { IfOk result (λ m. AtMost 4080 m.entries) }
-    ensures exact { IfOk result (λ m. m ≡ disparities_of (matching left.now right.now span window (record { near = p1_of pen; far = p2_of pen })) left.now right.now span.first) }
+    ensures exact { IfOk result (λ m. m ≡ disparities_of (matching left.now right.now span window (record { p1 = p1_of pen; p2 = p2_of pen })) left.now right.now span.first) }
 {
     let count = span.count as usize;
     let row = left.size().width as usize * count;

@@ -5,7 +5,7 @@ ghost use Rattle.std.specs.List.{filter_map, range_with_len};
 ghost use Rattle.sgm_height.specs.Camera.{IsCamera, Within};
 ghost use Rattle.sgm_grid.specs.Cells.{IsGridSpec};
 ghost use Rattle.sgm_grid.specs.Points.{added};
-ghost use Rattle.sgm_job.specs.Bounds.{AtMost};
+ghost use Rattle.sgm_base.specs.Values.{AtMost};
 ghost use Rattle.sgm_job.specs.Heights.{point_at, points_of, grid_of};
 
 use sgm_base::{DispMap, Point, Span};

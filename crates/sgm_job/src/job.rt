@@ -1,6 +1,6 @@
 ghost use Rattle.std.specs.Prelude.{◌≡◌, ◌≤◌, IfOk, Some, None};
 ghost use Rattle.sgm_rectify.specs.Warps.{IsWarp};
-ghost use Rattle.sgm_job.specs.Bounds.{AtMost};
+ghost use Rattle.sgm_base.specs.Values.{AtMost};
 ghost use Rattle.sgm_job.specs.Survey.{pair_fault, side_fault, surveyed};
 ghost use Rattle.sgm_job.specs.Surveys.{Surveys};
 

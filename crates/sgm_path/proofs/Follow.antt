@@ -18,15 +18,15 @@ entries_of xs = sym (fill_by_all (slice_index xs) xs (length xs) 0 refl (λ k h.
 low_is : (xs : List ℕ) (m : ℕ) → Contains xs m → All (λ x. m ≤ x) xs → least (map (slice_index xs) (below (length xs))) ≡ m
 low_is xs m c h = ap least (entries_of xs) ∙ least_is xs m c (λ x d. All-contains (λ z. m ≤ z) xs x h d)
 
-pub follows_from : (prev : List ℕ) (near far cost d value low : ℕ) → Contains prev low → All (λ x. low ≤ x) prev → IsStepped (slice_index prev) (length prev) near far low cost d value → Follows (slice_index prev) (length prev) near far cost d value
-follows_from prev near far cost d value low c h e =
-    let P : ℕ → Type 0 = λ m. IsStepped (slice_index prev) (length prev) near far m cost d value in
+pub follows_from : (prev : List ℕ) (p1 far cost d value low : ℕ) → Contains prev low → All (λ x. low ≤ x) prev → IsStepped (slice_index prev) (length prev) p1 far low cost d value → Follows (slice_index prev) (length prev) p1 far cost d value
+follows_from prev p1 far cost d value low c h e =
+    let P : ℕ → Type 0 = λ m. IsStepped (slice_index prev) (length prev) p1 far m cost d value in
     subst P (sym (low_is prev low c h)) e
 
 -- no value is above its cost and the greater penalty together
-pub follows_le : (prev : ℕ → ℕ) (count near far cost d value : ℕ) → Follows prev count near far cost d value → value ≤ cost + far
-follows_le prev count near far cost d value f =
-    omega (arith, f, carried_le_far prev count near far (least (map prev (below count))) d)
+pub follows_le : (prev : ℕ → ℕ) (count p1 far cost d value : ℕ) → Follows prev count p1 far cost d value → value ≤ cost + far
+follows_le prev count p1 far cost d value f =
+    omega (arith, f, carried_le_far prev count p1 far (least (map prev (below count))) d)
 
 -- ---- the recurrence reads only the values before below count
 map_same : (f g : ℕ → ℕ) (a n : ℕ) → ((k : ℕ) → a ≤ k → k < a + n → f k ≡ g k) → map f (range_with_len a n) ≡ map g (range_with_len a n)
@@ -35,12 +35,12 @@ map_same f g a (suc n) h =
     ap (λ x. x ∷ map f (range_with_len (a + 1) n)) (h a (omega arith) (omega arith))
     ∙ ap (λ xs. g a ∷ xs) (map_same f g (a + 1) n (λ k l m. h k (omega arith) (omega arith)))
 
-carried_of : (prev prev' : ℕ → ℕ) (count near far low d : ℕ) → d < count → ((k : ℕ) → k < count → prev k ≡ prev' k) → carried prev count near far low d ≡ carried prev' count near far low d
+carried_of : (prev prev' : ℕ → ℕ) (count p1 far low d : ℕ) → d < count → ((k : ℕ) → k < count → prev k ≡ prev' k) → carried prev count p1 far low d ≡ carried prev' count p1 far low d
 unfolding carried
-carried_of prev prev' count near far low d h same = grind (arith, nat_tests, same d, same (d - 1), same (d + 1))
+carried_of prev prev' count p1 far low d h same = grind (arith, nat_tests, same d, same (d - 1), same (d + 1))
 
-pub follows_same : (prev prev' : ℕ → ℕ) (count near far cost cost' d value value' : ℕ) → d < count → ((k : ℕ) → k < count → prev k ≡ prev' k) → cost ≡ cost' → value ≡ value' → Follows prev count near far cost d value → Follows prev' count near far cost' d value'
-follows_same prev prev' count near far cost cost' d value value' h same ec ev f =
+pub follows_same : (prev prev' : ℕ → ℕ) (count p1 far cost cost' d value value' : ℕ) → d < count → ((k : ℕ) → k < count → prev k ≡ prev' k) → cost ≡ cost' → value ≡ value' → Follows prev count p1 far cost d value → Follows prev' count p1 far cost' d value'
+follows_same prev prev' count p1 far cost cost' d value value' h same ec ev f =
     let low : least (map prev (below count)) ≡ least (map prev' (below count)) = ap least (map_same prev prev' 0 count (λ k _ l. same k (omega arith))) in
     omega (
       arith,
@@ -48,15 +48,15 @@ follows_same prev prev' count near far cost cost' d value value' h same ec ev f 
       low,
       ec,
       ev,
-      carried_of prev prev' count near far (least (map prev (below count))) d h same,
-      ap (λ l. carried prev' count near far l d) low,
+      carried_of prev prev' count p1 far (least (map prev (below count))) d h same,
+      ap (λ l. carried prev' count p1 far l d) low,
     )
 
 -- what follows from a part of a row follows from the row
-pub follows_part : (prev : List ℕ) (prev' : ℕ → ℕ) (count near far cost cost' d value value' : ℕ) → length prev ≡ count → d < count → ((k : ℕ) → k < count → slice_index prev k ≡ prev' k) → cost ≡ cost' → value ≡ value' → Follows (slice_index prev) (length prev) near far cost d value → Follows prev' count near far cost' d value'
-follows_part prev prev' count near far cost cost' d value value' e h same ec ev f =
-    follows_same (slice_index prev) prev' count near far cost cost' d value value' h same ec ev
-    (subst (λ n. Follows (slice_index prev) n near far cost d value) e f)
+pub follows_part : (prev : List ℕ) (prev' : ℕ → ℕ) (count p1 far cost cost' d value value' : ℕ) → length prev ≡ count → d < count → ((k : ℕ) → k < count → slice_index prev k ≡ prev' k) → cost ≡ cost' → value ≡ value' → Follows (slice_index prev) (length prev) p1 far cost d value → Follows prev' count p1 far cost' d value'
+follows_part prev prev' count p1 far cost cost' d value value' e h same ec ev f =
+    follows_same (slice_index prev) prev' count p1 far cost cost' d value value' h same ec ev
+    (subst (λ n. Follows (slice_index prev) n p1 far cost d value) e f)
 
 -- ---- a part of a list
 pub mid_at : (a v w : List ℕ) (n d : ℕ) → length a ≡ n → d < length v → slice_index (a ++ (v ++ w)) (n + d) ≡ slice_index v d

@@ -14,71 +14,71 @@ use Rattle.sgm_path.specs.Paths.{Follows, HasFar, HoldsRowBefore, RowFollows, St
 use Rattle.sgm_path.proofs.Follow.{follows_same, follows_part}
 
 -- how many pixels a row has
-pub width_is : (g : Problem) (y near count : ℕ) (costs : List ℕ) → Suits g y near count costs → 0 < count → length costs / count ≡ g.width
-width_is g y near count costs s h =
+pub width_is : (g : Problem) (y p1 count : ℕ) (costs : List ℕ) → Suits g y p1 count costs → 0 < count → length costs / count ≡ g.width
+width_is g y p1 count costs s h =
     let e : length costs ≡ g.width * count + 0 = omega (arith, s.holds.whole, ap (λ n. g.width * n) s.same_count) in
     ap (λ n. n / count) e ∙ div-mul-add g.width count 0 h
 
-pub cost_at : (g : Problem) (y near count : ℕ) (costs : List ℕ) (x d : ℕ) → Suits g y near count costs → x < g.width → d < count → slice_index costs (x * count + d) ≡ g.cost (pixel_at x y) d
-cost_at g y near count costs x d s hx hd =
+pub cost_at : (g : Problem) (y p1 count : ℕ) (costs : List ℕ) (x d : ℕ) → Suits g y p1 count costs → x < g.width → d < count → slice_index costs (x * count + d) ≡ g.cost (pixel_at x y) d
+cost_at g y p1 count costs x d s hx hd =
     ap (λ n. slice_index costs (x * n + d)) (sym s.same_count) ∙ s.holds.each x d hx (omega (arith, s.same_count))
 
 -- the value that follows from the path values of the pixel before is the path value
-value_next : (g : Problem) (dir : Dir) (p q : Pixel) (prev : ℕ → ℕ) (count near far cost d value : ℕ) → g.count ≡ count → g.near ≡ near → g.far q p ≡ far → near ≤ far → d < count
-    → predecessor g dir p ≡ Some q → ((a : ℕ) → a < count → prev a ≡ path_value g dir q a) → cost ≡ g.cost p d → Follows prev count near far cost d value → value ≡ path_value g dir p d
-value_next g dir p q prev count near far cost d value ec en ef le h e same cost_is f =
-    let a = follows_same prev (path_value g dir q) count near far cost (g.cost p d) d value value h same cost_is refl f in
-    let b = subst (λ n. Follows (path_value g dir q) n near far (g.cost p d) d value) (sym ec) a in
+value_next : (g : Problem) (dir : Dir) (p q : Pixel) (prev : ℕ → ℕ) (count p1 far cost d value : ℕ) → g.count ≡ count → g.p1 ≡ p1 → g.far q p ≡ far → p1 ≤ far → d < count
+    → predecessor g dir p ≡ Some q → ((a : ℕ) → a < count → prev a ≡ path_value g dir q a) → cost ≡ g.cost p d → Follows prev count p1 far cost d value → value ≡ path_value g dir p d
+value_next g dir p q prev count p1 far cost d value ec en ef le h e same cost_is f =
+    let a = follows_same prev (path_value g dir q) count p1 far cost (g.cost p d) d value value h same cost_is refl f in
+    let b = subst (λ n. Follows (path_value g dir q) n p1 far (g.cost p d) d value) (sym ec) a in
     let c = subst (λ n. Follows (path_value g dir q) g.count n far (g.cost p d) d value) (sym en) b in
-    let f' = subst (λ n. Follows (path_value g dir q) g.count g.near n (g.cost p d) d value) (sym ef) c in
+    let f' = subst (λ n. Follows (path_value g dir q) g.count g.p1 n (g.cost p d) d value) (sym ef) c in
     omega (arith, f', next g dir p q d (omega arith) (omega (arith, en, ef)) e)
 
 -- the same for an entry of a row, where the path values of the pixel before stand in the row before
-entry_at : (g : Problem) (dir : Dir) (x y row near count : ℕ) (far : ℕ → ℕ → ℕ) (costs before : List ℕ) (d value : ℕ) → Suits g y near count costs → HasFar g row y far → ((z x : ℕ) → near ≤ far z x)
+entry_at : (g : Problem) (dir : Dir) (x y row p1 count : ℕ) (far : ℕ → ℕ → ℕ) (costs before : List ℕ) (d value : ℕ) → Suits g y p1 count costs → HasFar g row y far → ((z x : ℕ) → p1 ≤ far z x)
     → row_before dir g.height y ≡ Some row → x < g.width → d < count
     → ((z a : ℕ) → column_before dir g.width x ≡ Some z → a < count → slice_index before (z * count + a) ≡ path_value g dir (pixel_at z row) a)
     → (o : Option ℕ) → column_before dir g.width x ≡ o
-    → MatchOption o (value ≡ slice_index costs (x * count + d)) (λ z. Follows (λ a. slice_index before (z * count + a)) count near (far z x) (slice_index costs (x * count + d)) d value)
+    → MatchOption o (value ≡ slice_index costs (x * count + d)) (λ z. Follows (λ a. slice_index before (z * count + a)) count p1 (far z x) (slice_index costs (x * count + d)) d value)
     → value ≡ path_value g dir (pixel_at x y) d
-entry_at g dir x y row near count far costs before d value s hf le er hx hd same None e step =
-    step ∙ cost_at g y near count costs x d s hx hd ∙ sym (first g dir (pixel_at x y) d (omega (arith, s.same_count)) (no_column g dir (pixel_at x y) e))
-entry_at g dir x y row near count far costs before d value s hf le er hx hd same (Some z) e step =
-    value_next g dir (pixel_at x y) (pixel_at z row) (λ a. slice_index before (z * count + a)) count near (far z x) (slice_index costs (x * count + d)) d value
-    s.same_count s.same_near (hf.each z x (minus_small g.width x z (offset dir).0 e) hx) (le z x) hd
+entry_at g dir x y row p1 count far costs before d value s hf le er hx hd same None e step =
+    step ∙ cost_at g y p1 count costs x d s hx hd ∙ sym (first g dir (pixel_at x y) d (omega (arith, s.same_count)) (no_column g dir (pixel_at x y) e))
+entry_at g dir x y row p1 count far costs before d value s hf le er hx hd same (Some z) e step =
+    value_next g dir (pixel_at x y) (pixel_at z row) (λ a. slice_index before (z * count + a)) count p1 (far z x) (slice_index costs (x * count + d)) d value
+    s.same_count s.same_p1 (hf.each z x (minus_small g.width x z (offset dir).0 e) hx) (le z x) hd
     (predecessor_is g dir (pixel_at x y) (pixel_at z row) (record { across = e; down = er }))
     (λ a ha. same z a e ha)
-    (cost_at g y near count costs x d s hx hd)
+    (cost_at g y p1 count costs x d s hx hd)
     step
 
 -- the row's entry by the problem's own width and count
-step_of : (g : Problem) (dir : Dir) (y near count : ℕ) (far : ℕ → ℕ → ℕ) (costs before into : List ℕ) → Suits g y near count costs → 0 < count → length into ≡ length costs
-    → RowFollows dir count near far before costs into → (x d : ℕ) → x < g.width → d < count → StepsAt dir g.width count near far before costs x d (slice_index into (x * count + d))
-step_of g dir y near count far costs before into s pos_count el steps x d hx hd =
-    let wd : length into / count ≡ g.width = ap (λ n. n / count) el ∙ width_is g y near count costs s pos_count in
-    subst (λ w. StepsAt dir w count near far before costs x d (slice_index into (x * count + d))) wd (steps x d (omega arith) hd)
+step_of : (g : Problem) (dir : Dir) (y p1 count : ℕ) (far : ℕ → ℕ → ℕ) (costs before into : List ℕ) → Suits g y p1 count costs → 0 < count → length into ≡ length costs
+    → RowFollows dir count p1 far before costs into → (x d : ℕ) → x < g.width → d < count → StepsAt dir g.width count p1 far before costs x d (slice_index into (x * count + d))
+step_of g dir y p1 count far costs before into s pos_count el steps x d hx hd =
+    let wd : length into / count ≡ g.width = ap (λ n. n / count) el ∙ width_is g y p1 count costs s pos_count in
+    subst (λ w. StepsAt dir w count p1 far before costs x d (slice_index into (x * count + d))) wd (steps x d (omega arith) hd)
 
-holds : (g : Problem) (dir : Dir) (y near count : ℕ) (costs into : List ℕ) → Suits g y near count costs → length into ≡ length costs
+holds : (g : Problem) (dir : Dir) (y p1 count : ℕ) (costs into : List ℕ) → Suits g y p1 count costs → length into ≡ length costs
     → ((x d : ℕ) → x < g.width → d < count → slice_index into (x * count + d) ≡ path_value g dir (pixel_at x y) d) → HoldsRow g y (path_value g dir) into
-holds g dir y near count costs into s el same =
+holds g dir y p1 count costs into s el same =
     record {
       whole = omega (arith, s.holds.whole);
       each = λ x d hx hd. ap (λ n. slice_index into (x * n + d)) s.same_count ∙ same x d hx (omega (arith, s.same_count));
     }
 
 -- a row that follows from the path values of the row before has path values
-pub paths_from : (g : Problem) (dir : Dir) (y near count : ℕ) (far : ℕ → ℕ → ℕ) (costs before into : List ℕ) → Suits g y near count costs → ((z x : ℕ) → near ≤ far z x) → 0 < count → length into ≡ length costs
-    → HoldsRowBefore g dir y far before → RowFollows dir count near far before costs into → HoldsRow g y (path_value g dir) into
-paths_from g dir y near count far costs before into s le pos_count el b steps =
-    holds g dir y near count costs into s el
-    (λ x d hx hd. entry_at g dir x y b.row near count far costs before d (slice_index into (x * count + d)) s b.has_far le b.comes_from hx hd
+pub paths_from : (g : Problem) (dir : Dir) (y p1 count : ℕ) (far : ℕ → ℕ → ℕ) (costs before into : List ℕ) → Suits g y p1 count costs → ((z x : ℕ) → p1 ≤ far z x) → 0 < count → length into ≡ length costs
+    → HoldsRowBefore g dir y far before → RowFollows dir count p1 far before costs into → HoldsRow g y (path_value g dir) into
+paths_from g dir y p1 count far costs before into s le pos_count el b steps =
+    holds g dir y p1 count costs into s el
+    (λ x d hx hd. entry_at g dir x y b.row p1 count far costs before d (slice_index into (x * count + d)) s b.has_far le b.comes_from hx hd
     (λ z a e ha. ap (λ n. slice_index before (z * n + a)) (sym s.same_count) ∙ b.holds.each z a (minus_small g.width x z (offset dir).0 e) (omega (arith, s.same_count)))
     (column_before dir g.width x) refl
-    (step_of g dir y near count far costs before into s pos_count el steps x d hx hd))
+    (step_of g dir y p1 count far costs before into s pos_count el steps x d hx hd))
 
 -- a row that nothing comes before has its costs
-pub paths_alone : (g : Problem) (dir : Dir) (y near count : ℕ) (costs into : List ℕ) → Suits g y near count costs → length into ≡ length costs → row_before dir g.height y ≡ None
+pub paths_alone : (g : Problem) (dir : Dir) (y p1 count : ℕ) (costs into : List ℕ) → Suits g y p1 count costs → length into ≡ length costs → row_before dir g.height y ≡ None
     → ((k : ℕ) → k < length into → slice_index into k ≡ slice_index costs k) → HoldsRow g y (path_value g dir) into
-paths_alone g dir y near count costs into s el e same =
+paths_alone g dir y p1 count costs into s el e same =
     record {
       whole = omega (arith, s.holds.whole);
       each = λ x d hx hd.
@@ -98,23 +98,23 @@ level_row UpRight height y l h = absurd (cc)
 level_row UpLeft height y l h = absurd (cc)
 
 -- what a ray has left before a pixel, n at most, falls from one pixel to the one before
-level_within : (g : Problem) (dir : Dir) (y near count : ℕ) (far : ℕ → ℕ → ℕ) (costs into : List ℕ) → Suits g y near count costs → HasFar g y y far → ((z x : ℕ) → near ≤ far z x) → is_level dir ≡ true
-    → ((x d : ℕ) → x < g.width → d < count → StepsAt dir g.width count near far into costs x d (slice_index into (x * count + d)))
+level_within : (g : Problem) (dir : Dir) (y p1 count : ℕ) (far : ℕ → ℕ → ℕ) (costs into : List ℕ) → Suits g y p1 count costs → HasFar g y y far → ((z x : ℕ) → p1 ≤ far z x) → is_level dir ≡ true
+    → ((x d : ℕ) → x < g.width → d < count → StepsAt dir g.width count p1 far into costs x d (slice_index into (x * count + d)))
     → (n x d : ℕ) → room g dir (pixel_at x y) < n → x < g.width → d < count → slice_index into (x * count + d) ≡ path_value g dir (pixel_at x y) d
-level_within g dir y near count far costs into s hf le l steps zero x d r hx hd = absurd (omega (arith, r))
-level_within g dir y near count far costs into s hf le l steps (suc n) x d r hx hd =
+level_within g dir y p1 count far costs into s hf le l steps zero x d r hx hd = absurd (omega (arith, r))
+level_within g dir y p1 count far costs into s hf le l steps (suc n) x d r hx hd =
     let er = level_row dir g.height y l s.inside in
-    entry_at g dir x y y near count far costs into d (slice_index into (x * count + d)) s hf le er hx hd
+    entry_at g dir x y y p1 count far costs into d (slice_index into (x * count + d)) s hf le er hx hd
     (λ z a e ha. let falls = room_falls g dir (pixel_at x y) (pixel_at z y) (record { across = e; down = er }) in
-    level_within g dir y near count far costs into s hf le l steps n z a (omega (arith, r, falls)) (minus_small g.width x z (offset dir).0 e) ha)
+    level_within g dir y p1 count far costs into s hf le l steps n z a (omega (arith, r, falls)) (minus_small g.width x z (offset dir).0 e) ha)
     (column_before dir g.width x) refl
     (steps x d hx hd)
 
-pub paths_level : (g : Problem) (dir : Dir) (y near count : ℕ) (far : ℕ → ℕ → ℕ) (costs into : List ℕ) → Suits g y near count costs → HasFar g y y far → ((z x : ℕ) → near ≤ far z x) → 0 < count
-    → length into ≡ length costs → is_level dir ≡ true → RowFollows dir count near far into costs into → HoldsRow g y (path_value g dir) into
-paths_level g dir y near count far costs into s hf le pos_count el l steps =
-    holds g dir y near count costs into s el
-    (λ x d hx hd. level_within g dir y near count far costs into s hf le l (step_of g dir y near count far costs into into s pos_count el steps)
+pub paths_level : (g : Problem) (dir : Dir) (y p1 count : ℕ) (far : ℕ → ℕ → ℕ) (costs into : List ℕ) → Suits g y p1 count costs → HasFar g y y far → ((z x : ℕ) → p1 ≤ far z x) → 0 < count
+    → length into ≡ length costs → is_level dir ≡ true → RowFollows dir count p1 far into costs into → HoldsRow g y (path_value g dir) into
+paths_level g dir y p1 count far costs into s hf le pos_count el l steps =
+    holds g dir y p1 count costs into s el
+    (λ x d hx hd. level_within g dir y p1 count far costs into s hf le l (step_of g dir y p1 count far costs into into s pos_count el steps)
     (suc (room g dir (pixel_at x y))) x d (omega arith) hx hd)
 
 -- ---- one more pixel of a row: what stands elsewhere in the row stays
@@ -158,20 +158,20 @@ row_keep_down P old new count x n others right here z d hz hn hd = elim (cases_e
 ]
 
 -- an entry that follows from a row follows from each row that has the same values where it comes from
-steps_in : (count near : ℕ) (far : ℕ → ℕ → ℕ) (old new costs : List ℕ) (x d value : ℕ) → d < count → (o : Option ℕ)
+steps_in : (count p1 : ℕ) (far : ℕ → ℕ → ℕ) (old new costs : List ℕ) (x d value : ℕ) → d < count → (o : Option ℕ)
     → ((z a : ℕ) → o ≡ Some z → a < count → slice_index old (z * count + a) ≡ slice_index new (z * count + a))
-    → MatchOption o (value ≡ slice_index costs (x * count + d)) (λ z. Follows (λ a. slice_index old (z * count + a)) count near (far z x) (slice_index costs (x * count + d)) d value)
-    → MatchOption o (value ≡ slice_index costs (x * count + d)) (λ z. Follows (λ a. slice_index new (z * count + a)) count near (far z x) (slice_index costs (x * count + d)) d value)
-steps_in count near far old new costs x d value hd None same step = step
-steps_in count near far old new costs x d value hd (Some z) same step =
-    follows_same (λ a. slice_index old (z * count + a)) (λ a. slice_index new (z * count + a)) count near (far z x) (slice_index costs (x * count + d)) (slice_index costs (x * count + d)) d value value hd
+    → MatchOption o (value ≡ slice_index costs (x * count + d)) (λ z. Follows (λ a. slice_index old (z * count + a)) count p1 (far z x) (slice_index costs (x * count + d)) d value)
+    → MatchOption o (value ≡ slice_index costs (x * count + d)) (λ z. Follows (λ a. slice_index new (z * count + a)) count p1 (far z x) (slice_index costs (x * count + d)) d value)
+steps_in count p1 far old new costs x d value hd None same step = step
+steps_in count p1 far old new costs x d value hd (Some z) same step =
+    follows_same (λ a. slice_index old (z * count + a)) (λ a. slice_index new (z * count + a)) count p1 (far z x) (slice_index costs (x * count + d)) (slice_index costs (x * count + d)) d value value hd
     (λ a ha. same z a refl ha) refl refl step
 
-pub steps_same : (dir : Dir) (width count near : ℕ) (far : ℕ → ℕ → ℕ) (old new costs : List ℕ) (x d value : ℕ) → d < count
+pub steps_same : (dir : Dir) (width count p1 : ℕ) (far : ℕ → ℕ → ℕ) (old new costs : List ℕ) (x d value : ℕ) → d < count
     → ((z a : ℕ) → column_before dir width x ≡ Some z → a < count → slice_index old (z * count + a) ≡ slice_index new (z * count + a))
-    → StepsAt dir width count near far old costs x d value → StepsAt dir width count near far new costs x d value
-steps_same dir width count near far old new costs x d value hd same step =
-    steps_in count near far old new costs x d value hd (column_before dir width x) same step
+    → StepsAt dir width count p1 far old costs x d value → StepsAt dir width count p1 far new costs x d value
+steps_same dir width count p1 far old new costs x d value hd same step =
+    steps_in count p1 far old new costs x d value hd (column_before dir width x) same step
 
 -- ---- one more entry of a row that runs to the right
 product_before : (x count : ℕ) → 0 < x → (x - 1) * count + count ≡ x * count
@@ -180,77 +180,77 @@ product_before x count h =
     let e : z + 1 ≡ x = omega arith in
     omega (arith, ap (λ n. n * count) e)
 
-pub begins_right : (width count near : ℕ) (far : ℕ → ℕ → ℕ) (row costs : List ℕ) (x d value : ℕ) → x ≡ 0 → value ≡ slice_index costs (x * count + d) → StepsAt Right width count near far row costs x d value
-begins_right width count near far row costs x d value e v =
-    subst (λ o. MatchOption o (value ≡ slice_index costs (x * count + d)) (λ z. Follows (λ a. slice_index row (z * count + a)) count near (far z x) (slice_index costs (x * count + d)) d value))
+pub begins_right : (width count p1 : ℕ) (far : ℕ → ℕ → ℕ) (row costs : List ℕ) (x d value : ℕ) → x ≡ 0 → value ≡ slice_index costs (x * count + d) → StepsAt Right width count p1 far row costs x d value
+begins_right width count p1 far row costs x d value e v =
+    subst (λ o. MatchOption o (value ≡ slice_index costs (x * count + d)) (λ z. Follows (λ a. slice_index row (z * count + a)) count p1 (far z x) (slice_index costs (x * count + d)) d value))
     (sym (minus_one_none width x e)) v
 
-pub follows_left : (width count near far' near' : ℕ) (far : ℕ → ℕ → ℕ) (old new costs : List ℕ) (x d value : ℕ) → near' ≡ near → far' ≡ far (x - 1) x → 0 < x → x < width → d < count
+pub follows_left : (width count p1 far' p1' : ℕ) (far : ℕ → ℕ → ℕ) (old new costs : List ℕ) (x d value : ℕ) → p1' ≡ p1 → far' ≡ far (x - 1) x → 0 < x → x < width → d < count
     → ((k : ℕ) → (k < x * count) ⊎ (x * count + count ≤ k) → slice_index new k ≡ slice_index old k)
-    → Follows (λ a. slice_index old (x * count - count + a)) count near' far' (slice_index costs (x * count + d)) d value → StepsAt Right width count near far new costs x d value
-follows_left width count near far' near' far old new costs x d value en ef hx hw hd others f =
+    → Follows (λ a. slice_index old (x * count - count + a)) count p1' far' (slice_index costs (x * count + d)) d value → StepsAt Right width count p1 far new costs x d value
+follows_left width count p1 far' p1' far old new costs x d value en ef hx hw hd others f =
     let cost : ℕ = slice_index costs (x * count + d) in
-    let same = follows_same (λ a. slice_index old (x * count - count + a)) (λ a. slice_index new ((x - 1) * count + a)) count near' far' cost cost d value value hd
+    let same = follows_same (λ a. slice_index old (x * count - count + a)) (λ a. slice_index new ((x - 1) * count + a)) count p1' far' cost cost d value value hd
     (λ a ha. let i : x * count - count + a ≡ (x - 1) * count + a = omega (arith, product_before x count hx) in
     ap (slice_index old) i ∙ sym (others ((x - 1) * count + a) (inl (omega (arith, product_before x count hx))))) refl refl f in
     let a = subst (λ n. Follows (λ a. slice_index new ((x - 1) * count + a)) count n far' cost d value) en same in
-    let b = subst (λ n. Follows (λ a. slice_index new ((x - 1) * count + a)) count near n cost d value) ef a in
-    subst (λ o. MatchOption o (value ≡ cost) (λ z. Follows (λ a. slice_index new (z * count + a)) count near (far z x) cost d value))
+    let b = subst (λ n. Follows (λ a. slice_index new ((x - 1) * count + a)) count p1 n cost d value) ef a in
+    subst (λ o. MatchOption o (value ≡ cost) (λ z. Follows (λ a. slice_index new (z * count + a)) count p1 (far z x) cost d value))
     (sym (minus_one width x hx (omega arith))) b
 
-pub right_more : (width count near : ℕ) (far : ℕ → ℕ → ℕ) (old new costs : List ℕ) (x : ℕ) → ((k : ℕ) → (k < x * count) ⊎ (x * count + count ≤ k) → slice_index new k ≡ slice_index old k)
-    → ((z d : ℕ) → z < x → d < count → StepsAt Right width count near far old costs z d (slice_index old (z * count + d)))
-    → ((d : ℕ) → d < count → StepsAt Right width count near far new costs x d (slice_index new (x * count + d)))
-    → (z d : ℕ) → z < x + 1 → d < count → StepsAt Right width count near far new costs z d (slice_index new (z * count + d))
-right_more width count near far old new costs x others left here =
-    row_keep (λ z d v. StepsAt Right width count near far new costs z d v) old new count x others
-    (λ z d hz hd. steps_same Right width count near far old new costs z d (slice_index old (z * count + d)) hd
+pub right_more : (width count p1 : ℕ) (far : ℕ → ℕ → ℕ) (old new costs : List ℕ) (x : ℕ) → ((k : ℕ) → (k < x * count) ⊎ (x * count + count ≤ k) → slice_index new k ≡ slice_index old k)
+    → ((z d : ℕ) → z < x → d < count → StepsAt Right width count p1 far old costs z d (slice_index old (z * count + d)))
+    → ((d : ℕ) → d < count → StepsAt Right width count p1 far new costs x d (slice_index new (x * count + d)))
+    → (z d : ℕ) → z < x + 1 → d < count → StepsAt Right width count p1 far new costs z d (slice_index new (z * count + d))
+right_more width count p1 far old new costs x others left here =
+    row_keep (λ z d v. StepsAt Right width count p1 far new costs z d v) old new count x others
+    (λ z d hz hd. steps_same Right width count p1 far old new costs z d (slice_index old (z * count + d)) hd
     (λ w a e ha. let lt : w < x = omega (arith, (minus_pos width z 1 w e).0) in sym (others (w * count + a) (inl (omega (arith, mul-add-lt w count a x lt ha)))))
     (left z d hz hd))
     here
 
 -- ---- and of one that runs to the left
-pub begins_left : (width count near : ℕ) (far : ℕ → ℕ → ℕ) (row costs : List ℕ) (x d value : ℕ) → x + 1 ≡ width → value ≡ slice_index costs (x * count + d) → StepsAt Left width count near far row costs x d value
-begins_left width count near far row costs x d value e v =
-    subst (λ o. MatchOption o (value ≡ slice_index costs (x * count + d)) (λ z. Follows (λ a. slice_index row (z * count + a)) count near (far z x) (slice_index costs (x * count + d)) d value))
+pub begins_left : (width count p1 : ℕ) (far : ℕ → ℕ → ℕ) (row costs : List ℕ) (x d value : ℕ) → x + 1 ≡ width → value ≡ slice_index costs (x * count + d) → StepsAt Left width count p1 far row costs x d value
+begins_left width count p1 far row costs x d value e v =
+    subst (λ o. MatchOption o (value ≡ slice_index costs (x * count + d)) (λ z. Follows (λ a. slice_index row (z * count + a)) count p1 (far z x) (slice_index costs (x * count + d)) d value))
     (sym (minus_up_none width x (omega arith))) v
 
-pub follows_right : (width count near far' near' : ℕ) (far : ℕ → ℕ → ℕ) (old new costs : List ℕ) (x d value : ℕ) → near' ≡ near → far' ≡ far (x + 1) x → x + 1 < width → d < count
+pub follows_right : (width count p1 far' p1' : ℕ) (far : ℕ → ℕ → ℕ) (old new costs : List ℕ) (x d value : ℕ) → p1' ≡ p1 → far' ≡ far (x + 1) x → x + 1 < width → d < count
     → ((k : ℕ) → (k < x * count) ⊎ (x * count + count ≤ k) → slice_index new k ≡ slice_index old k)
-    → Follows (λ a. slice_index old (x * count + count + a)) count near' far' (slice_index costs (x * count + d)) d value → StepsAt Left width count near far new costs x d value
-follows_right width count near far' near' far old new costs x d value en ef hw hd others f =
+    → Follows (λ a. slice_index old (x * count + count + a)) count p1' far' (slice_index costs (x * count + d)) d value → StepsAt Left width count p1 far new costs x d value
+follows_right width count p1 far' p1' far old new costs x d value en ef hw hd others f =
     let cost : ℕ = slice_index costs (x * count + d) in
-    let same = follows_same (λ a. slice_index old (x * count + count + a)) (λ a. slice_index new ((x + 1) * count + a)) count near' far' cost cost d value value hd
+    let same = follows_same (λ a. slice_index old (x * count + count + a)) (λ a. slice_index new ((x + 1) * count + a)) count p1' far' cost cost d value value hd
     (λ a ha. let i : x * count + count + a ≡ (x + 1) * count + a = omega arith in
     ap (slice_index old) i ∙ sym (others ((x + 1) * count + a) (inr (omega arith)))) refl refl f in
     let a = subst (λ n. Follows (λ a. slice_index new ((x + 1) * count + a)) count n far' cost d value) en same in
-    let b = subst (λ n. Follows (λ a. slice_index new ((x + 1) * count + a)) count near n cost d value) ef a in
-    subst (λ o. MatchOption o (value ≡ cost) (λ z. Follows (λ a. slice_index new (z * count + a)) count near (far z x) cost d value))
+    let b = subst (λ n. Follows (λ a. slice_index new ((x + 1) * count + a)) count p1 n cost d value) ef a in
+    subst (λ o. MatchOption o (value ≡ cost) (λ z. Follows (λ a. slice_index new (z * count + a)) count p1 (far z x) cost d value))
     (sym (minus_up width x hw)) b
 
-pub left_more : (width count near : ℕ) (far : ℕ → ℕ → ℕ) (old new costs : List ℕ) (x : ℕ) → ((k : ℕ) → (k < x * count) ⊎ (x * count + count ≤ k) → slice_index new k ≡ slice_index old k)
-    → ((z d : ℕ) → x + 1 ≤ z → z < width → d < count → StepsAt Left width count near far old costs z d (slice_index old (z * count + d)))
-    → ((d : ℕ) → d < count → StepsAt Left width count near far new costs x d (slice_index new (x * count + d)))
-    → (z d : ℕ) → x ≤ z → z < width → d < count → StepsAt Left width count near far new costs z d (slice_index new (z * count + d))
-left_more width count near far old new costs x others right here =
-    row_keep_down (λ z d v. StepsAt Left width count near far new costs z d v) old new count x width others
-    (λ z d hz hn hd. steps_same Left width count near far old new costs z d (slice_index old (z * count + d)) hd
+pub left_more : (width count p1 : ℕ) (far : ℕ → ℕ → ℕ) (old new costs : List ℕ) (x : ℕ) → ((k : ℕ) → (k < x * count) ⊎ (x * count + count ≤ k) → slice_index new k ≡ slice_index old k)
+    → ((z d : ℕ) → x + 1 ≤ z → z < width → d < count → StepsAt Left width count p1 far old costs z d (slice_index old (z * count + d)))
+    → ((d : ℕ) → d < count → StepsAt Left width count p1 far new costs x d (slice_index new (x * count + d)))
+    → (z d : ℕ) → x ≤ z → z < width → d < count → StepsAt Left width count p1 far new costs z d (slice_index new (z * count + d))
+left_more width count p1 far old new costs x others right here =
+    row_keep_down (λ z d v. StepsAt Left width count p1 far new costs z d v) old new count x width others
+    (λ z d hz hn hd. steps_same Left width count p1 far old new costs z d (slice_index old (z * count + d)) hd
     (λ w a e ha. sym (others (w * count + a) (inr (omega (arith, mul-le (x + 1) count w count (omega (arith, (minus_negsuc width z 0 w e).0)) (omega arith))))))
     (right z d hz hn hd))
     here
 
 -- ---- an entry of a row that comes after another
-pub begins_from : (dir : Dir) (width count near : ℕ) (far : ℕ → ℕ → ℕ) (before costs : List ℕ) (x d value : ℕ) → None ≡ column_before dir width x → value ≡ slice_index costs (x * count + d) → StepsAt dir width count near far before costs x d value
-begins_from dir width count near far before costs x d value e v =
-    subst (λ o. MatchOption o (value ≡ slice_index costs (x * count + d)) (λ z. Follows (λ a. slice_index before (z * count + a)) count near (far z x) (slice_index costs (x * count + d)) d value)) e v
+pub begins_from : (dir : Dir) (width count p1 : ℕ) (far : ℕ → ℕ → ℕ) (before costs : List ℕ) (x d value : ℕ) → None ≡ column_before dir width x → value ≡ slice_index costs (x * count + d) → StepsAt dir width count p1 far before costs x d value
+begins_from dir width count p1 far before costs x d value e v =
+    subst (λ o. MatchOption o (value ≡ slice_index costs (x * count + d)) (λ z. Follows (λ a. slice_index before (z * count + a)) count p1 (far z x) (slice_index costs (x * count + d)) d value)) e v
 
-pub follows_row : (dir : Dir) (width count near far' near' : ℕ) (far : ℕ → ℕ → ℕ) (prev before costs : List ℕ) (x z d value : ℕ) → near' ≡ near → far' ≡ far z x → d < count
+pub follows_row : (dir : Dir) (width count p1 far' p1' : ℕ) (far : ℕ → ℕ → ℕ) (prev before costs : List ℕ) (x z d value : ℕ) → p1' ≡ p1 → far' ≡ far z x → d < count
     → Some z ≡ column_before dir width x → length prev ≡ count → ((a : ℕ) → a < count → slice_index prev a ≡ slice_index before (z * count + a))
-    → Follows (slice_index prev) (length prev) near' far' (slice_index costs (x * count + d)) d value → StepsAt dir width count near far before costs x d value
-follows_row dir width count near far' near' far prev before costs x z d value en ef hd e el same f =
+    → Follows (slice_index prev) (length prev) p1' far' (slice_index costs (x * count + d)) d value → StepsAt dir width count p1 far before costs x d value
+follows_row dir width count p1 far' p1' far prev before costs x z d value en ef hd e el same f =
     let cost : ℕ = slice_index costs (x * count + d) in
     let row : ℕ → ℕ = λ a. slice_index before (z * count + a) in
-    let a = follows_part prev row count near' far' cost cost d value value el hd same refl refl f in
+    let a = follows_part prev row count p1' far' cost cost d value value el hd same refl refl f in
     let b = subst (λ n. Follows row count n far' cost d value) en a in
-    let c = subst (λ n. Follows row count near n cost d value) ef b in
-    subst (λ o. MatchOption o (value ≡ cost) (λ z. Follows (λ a. slice_index before (z * count + a)) count near (far z x) cost d value)) e c
+    let c = subst (λ n. Follows row count p1 n cost d value) ef b in
+    subst (λ o. MatchOption o (value ≡ cost) (λ z. Follows (λ a. slice_index before (z * count + a)) count p1 (far z x) cost d value)) e c

@@ -8,26 +8,26 @@ use Rattle.sgm_energy.specs.Rows.{HoldsRow}
 
 -- value is what the recurrence gives at the index d, from the values prev of the pixel before and d's cost
 abbrev pub Follows : (ℕ → ℕ) → ℕ → ℕ → ℕ → ℕ → ℕ → ℕ → Type 0
-Follows prev count near far cost d value = IsStepped prev count near far (least (map prev (below count))) cost d value
+Follows prev count p1 far cost d value = IsStepped prev count p1 far (least (map prev (below count))) cost d value
 
 -- value is that of the column x and the index d in a row that comes after the row before in this direction:
 -- the cost alone, where the direction comes from beyond the side of the image. far z x is the penalty of a
 -- change by more than one from the column z of the row before to the column x
 abbrev pub StepsAt : Dir → ℕ → ℕ → ℕ → (ℕ → ℕ → ℕ) → List ℕ → List ℕ → ℕ → ℕ → ℕ → Type 0
-StepsAt dir width count near far before costs x d value =
+StepsAt dir width count p1 far before costs x d value =
     MatchOption (column_before dir width x) (value ≡ slice_index costs (x * count + d))
-    (λ z. Follows (λ a. slice_index before (z * count + a)) count near (far z x) (slice_index costs (x * count + d)) d value)
+    (λ z. Follows (λ a. slice_index before (z * count + a)) count p1 (far z x) (slice_index costs (x * count + d)) d value)
 
 -- each entry of a row is what the recurrence gives from the row before and the costs
 abbrev pub RowFollows : Dir → ℕ → ℕ → (ℕ → ℕ → ℕ) → List ℕ → List ℕ → List ℕ → Type 0
-RowFollows dir count near far before costs row =
+RowFollows dir count p1 far before costs row =
     let width = length row / count in
-    (x d : ℕ) → x < width → d < count → StepsAt dir width count near far before costs x d (slice_index row (x * count + d))
+    (x d : ℕ) → x < width → d < count → StepsAt dir width count p1 far before costs x d (slice_index row (x * count + d))
 
--- a call with this near penalty, this count and these costs is about the row y of the problem
-pub record Suits (g : Problem) (y near count : ℕ) (costs : List ℕ) : Type 0 where
+-- a call with this p1 penalty, this count and these costs is about the row y of the problem
+pub record Suits (g : Problem) (y p1 count : ℕ) (costs : List ℕ) : Type 0 where
   pub same_count : g.count ≡ count
-  pub same_near : g.near ≡ near
+  pub same_p1 : g.p1 ≡ p1
   pub inside : y < g.height
   pub holds : HoldsRow g y g.cost costs
 

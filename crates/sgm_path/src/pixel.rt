@@ -6,17 +6,17 @@ use sgm_lanes::{least, step};
 
 /// The values of a pixel from those of the pixel before.
 #[inline]
-fn follow(prev: &[u16], costs: &[u8], near: u16, far: u16, into: &mut [u16])
+fn follow(prev: &[u16], costs: &[u8], p1: u16, far: u16, into: &mut [u16])
     requires some { 0 < length prev.now }
     requires prev_length { length prev.now ≡ length into.old }
     requires costs_length { length costs.now ≡ length into.old }
-    requires penalties { (near ≤ far) × (far ≤ 4000) }
+    requires penalties { (p1 ≤ far) × (far ≤ 4000) }
     requires values { All (λ v. v ≤ 4062) prev.now }
     requires costs { All (λ c. c ≤ 62) costs.now }
-    ensures each { EachIndex into.new (λ d. Follows (slice_index prev.now) (length prev.now) near far (slice_index costs.now d) d (slice_index into.new d)) }
+    ensures each { EachIndex into.new (λ d. Follows (slice_index prev.now) (length prev.now) p1 far (slice_index costs.now d) d (slice_index into.new d)) }
     ensures bound { All (λ v. v ≤ 4062) into.new }
 {
-    step(prev, least(prev), costs, near, far, into);
+    step(prev, least(prev), costs, p1, far, into);
 }
 
 /// The values of a pixel that begins a ray: its costs.
@@ -39,7 +39,7 @@ pub(crate) fn begin_at(costs: &[u8], count: usize, at: usize, into: &mut [u16])
 pub(crate) fn from_left(
     costs: &[u8],
     count: usize,
-    near: u16,
+    p1: u16,
     far: u16,
     at: usize,
     into: &mut [u16],
@@ -48,16 +48,16 @@ pub(crate) fn from_left(
     requires room { count ≤ at }
     requires inside { at + count ≤ length into.old }
     requires same_length { length costs.now ≡ length into.old }
-    requires penalties { (near ≤ far) × (far ≤ 4000) }
+    requires penalties { (p1 ≤ far) × (far ≤ 4000) }
     requires costs { All (λ c. c ≤ 62) costs.now }
     requires values { (k : ℕ) → k < at → slice_index into.old k ≤ 4062 }
     ensures others { (k : ℕ) → (k < at) ⊎ (at + count ≤ k) → slice_index into.new k ≡ slice_index into.old k }
-    ensures each { (d : ℕ) → d < count → Follows (λ a. slice_index into.old (at - count + a)) count near far (slice_index costs.now (at + d)) d (slice_index into.new (at + d)) }
+    ensures each { (d : ℕ) → d < count → Follows (λ a. slice_index into.old (at - count + a)) count p1 far (slice_index costs.now (at + d)) d (slice_index into.new (at + d)) }
     ensures bound { (d : ℕ) → d < count → slice_index into.new (at + d) ≤ 4062 }
 {
     let (done, rest) = into.split_at_mut(at);
     let (here, _) = rest.split_at_mut(count);
-    follow(&done[at - count..], &costs[at..at + count], near, far, here);
+    follow(&done[at - count..], &costs[at..at + count], p1, far, here);
 }
 
 /// The values of a pixel from those of the pixel on its right.
@@ -65,7 +65,7 @@ pub(crate) fn from_left(
 pub(crate) fn from_right(
     costs: &[u8],
     count: usize,
-    near: u16,
+    p1: u16,
     far: u16,
     at: usize,
     into: &mut [u16],
@@ -73,16 +73,16 @@ pub(crate) fn from_right(
     requires positive { 0 < count }
     requires inside { (at + count) + count ≤ length into.old }
     requires same_length { length costs.now ≡ length into.old }
-    requires penalties { (near ≤ far) × (far ≤ 4000) }
+    requires penalties { (p1 ≤ far) × (far ≤ 4000) }
     requires costs { All (λ c. c ≤ 62) costs.now }
     requires values { (k : ℕ) → at + count ≤ k → k < length into.old → slice_index into.old k ≤ 4062 }
     ensures others { (k : ℕ) → (k < at) ⊎ (at + count ≤ k) → slice_index into.new k ≡ slice_index into.old k }
-    ensures each { (d : ℕ) → d < count → Follows (λ a. slice_index into.old (at + count + a)) count near far (slice_index costs.now (at + d)) d (slice_index into.new (at + d)) }
+    ensures each { (d : ℕ) → d < count → Follows (λ a. slice_index into.old (at + count + a)) count p1 far (slice_index costs.now (at + d)) d (slice_index into.new (at + d)) }
     ensures bound { (d : ℕ) → d < count → slice_index into.new (at + d) ≤ 4062 }
 {
     let (front, done) = into.split_at_mut(at + count);
     let (_, here) = front.split_at_mut(at);
-    follow(&done[..count], &costs[at..at + count], near, far, here);
+    follow(&done[..count], &costs[at..at + count], p1, far, here);
 }
 
 /// The values of a pixel from those of a pixel of another row, `prev`.
@@ -90,7 +90,7 @@ pub(crate) fn from_right(
 pub(crate) fn from_other(
     prev: &[u16],
     costs: &[u8],
-    near: u16,
+    p1: u16,
     far: u16,
     at: usize,
     into: &mut [u16],
@@ -98,14 +98,14 @@ pub(crate) fn from_other(
     requires some { 0 < length prev.now }
     requires inside { at + length prev.now ≤ length into.old }
     requires same_length { length costs.now ≡ length into.old }
-    requires penalties { (near ≤ far) × (far ≤ 4000) }
+    requires penalties { (p1 ≤ far) × (far ≤ 4000) }
     requires costs { All (λ c. c ≤ 62) costs.now }
     requires values { All (λ v. v ≤ 4062) prev.now }
     ensures others { (k : ℕ) → (k < at) ⊎ (at + length prev.now ≤ k) → slice_index into.new k ≡ slice_index into.old k }
-    ensures each { (d : ℕ) → d < length prev.now → Follows (slice_index prev.now) (length prev.now) near far (slice_index costs.now (at + d)) d (slice_index into.new (at + d)) }
+    ensures each { (d : ℕ) → d < length prev.now → Follows (slice_index prev.now) (length prev.now) p1 far (slice_index costs.now (at + d)) d (slice_index into.new (at + d)) }
     ensures bound { (d : ℕ) → d < length prev.now → slice_index into.new (at + d) ≤ 4062 }
 {
     let (_, rest) = into.split_at_mut(at);
     let (here, _) = rest.split_at_mut(prev.len());
-    follow(prev, &costs[at..at + prev.len()], near, far, here);
+    follow(prev, &costs[at..at + prev.len()], p1, far, here);
 }

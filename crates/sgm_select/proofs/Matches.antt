@@ -1,7 +1,7 @@
 -- Which index a column of the right row has.
 use Rattle.std.proofs.Common.{◌≡◌, ℕ, ◌+◌, ◌-◌, ◌*◌, ◌<◌, ◌≤◌, true, false, cond, leb, ltb, ◌&&◌, List, Some, None, is_some, unwrap_or, ap, ◌∙◌, subst, inl, inr, arith, slice_index, ℤ}
 use Rattle.std.proofs.lemmas.Bool.{cases_lt, lt-leb, le-leb, lt-ltb, le-ltb}
-use Rattle.sgm_census.specs.Columns.{left_column}
+use Rattle.sgm_base.specs.Columns.{left_column}
 use Rattle.sgm_census.proofs.InWindow.{allowed, refused}
 use Rattle.sgm_select.specs.Selection.{lies}
 use Rattle.sgm_select.specs.Rows.{matched_in}

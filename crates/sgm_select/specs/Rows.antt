@@ -1,7 +1,7 @@
 -- The same over rows: a row of sums, in which that of the column x and the index d stands at x * count + d, and a row
 -- each of indices and of values.
 use Rattle.std.specs.Prelude.{◌≡◌, ℕ, ◌+◌, ◌*◌, ◌<◌, List, length, slice_index, slice_index_or, slice_get, unwrap_or, Option, Some, None, option_and_then, ℤ}
-use Rattle.sgm_census.specs.Columns.{left_column, right_column}
+use Rattle.sgm_base.specs.Columns.{left_column, right_column}
 use Rattle.sgm_energy.specs.Rays.{pixel_at, Problem}
 use Rattle.sgm_select.specs.Selection.{least_index, least_of, lies, base, matched, checked}
 

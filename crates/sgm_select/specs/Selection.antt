@@ -1,8 +1,8 @@
 -- Which index is chosen for a pixel, and which of them stand the check from left to right.
 use Rattle.std.specs.Prelude.{ℕ, ◌+◌, ◌*◌, Bool, true, ◌&&◌, ◌==◌, nat_le, if◌then◌else◌, map, filter, find, unwrap_or, Option, Some, None, is_some, option_and_then, ℤ}
 use Rattle.sgm_base.specs.Values.{Values}
-use Rattle.sgm_census.specs.Codes.{value_at}
-use Rattle.sgm_census.specs.Columns.{left_column, right_column}
+use Rattle.sgm_base.specs.Values.{value_at}
+use Rattle.sgm_base.specs.Columns.{left_column, right_column}
 use Rattle.sgm_energy.specs.Rays.{Pixel, pixel_at, Problem}
 use Rattle.sgm_energy.specs.Energies.{least, below, path_sum}
 

@@ -1,6 +1,6 @@
 ghost use Rattle.std.specs.Prelude.{◌≡◌, ◌^◌, ◌<◌, length, slice_get, Some, None, EachIndex, All, IfSome};
 ghost use Rattle.sgm_base.specs.Disparities.{IsFirst};
-ghost use Rattle.sgm_census.specs.Columns.{right_column as right_column_of};
+ghost use Rattle.sgm_base.specs.Columns.{right_column as right_column_of};
 ghost use Rattle.sgm_select.specs.Selection.{checked as checked_of};
 ghost use Rattle.sgm_select.specs.Rows.{checked_in};
 

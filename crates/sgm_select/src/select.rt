@@ -1,8 +1,8 @@
 ghost use Rattle.std.specs.Prelude.{◌≡◌, ℕ, ◌+◌, ◌*◌, ◌<◌, ◌≤◌, length, slice_index, slice_get, Some, EachIndex, All};
 ghost use Rattle.sgm_select.specs.Rows.{base_in, matched_in};
 
-use sgm_base::Span;
-use sgm_census::Overlap;
+use sgm_base::{Overlap, Span};
+
 
 /// The least index at which the sums of a pixel are least.
 fn base_at(sums: &[u16]) -> u16

@@ -1,5 +1,5 @@
 use Rattle.std.proofs.Common.{◌+◌, ◌-◌, cond, length, get_or, Some, None, option_and_then, ap, sym, ◌∙◌, arith}
-use Rattle.sgm_census.specs.Columns.{left_column}
+use Rattle.sgm_base.specs.Columns.{left_column}
 use Rattle.sgm_census.specs.Costs.{cost_between}
 use Rattle.sgm_census.specs.Packed.{bits_of, unpacked}
 use Rattle.sgm_census.proofs.CostWords.{unpacked-part, small-part, in_parts}

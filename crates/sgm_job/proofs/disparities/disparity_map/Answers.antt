@@ -9,7 +9,7 @@ use Rattle.std.specs.Prelude.{IfOk}
 use Rattle.std.specs.declared.alloc.AllocError.{AllocError}
 use Rattle.sgm_energy.specs.Rays.{Problem}
 use Rattle.sgm_base.specs.Values.{Values}
-use Rattle.sgm_job.specs.Bounds.{AtMost}
+use Rattle.sgm_base.specs.Values.{AtMost}
 use Rattle.sgm_job.specs.Survey.{matching, disparities_of}
 use Rattle.sgm_job.specs.Volumes.{HoldsVolume, SuitsVolume}
 use Rattle.sgm_job.proofs.Surveying.{rows_low}
@@ -19,7 +19,7 @@ multiple : (a b : ℕ) → 0 < b → (a * b) % b ≡ 0
 multiple a b h = let e : a * b ≡ a * b + 0 = omega arith in ap (λ n. n % b) e ∙ mod-mul-add a b 0 h
 
 none : Penalties
-none = record { near = 0; far = 0 }
+none = record { p1 = 0; p2 = 0 }
 
 pub sum_volume-requires-clause-whole : goal.sum_volume-requires-clause-whole
 sum_volume-requires-clause-whole c = multiple c.row.inside.width c.span.inside.count (omega arith)
@@ -39,7 +39,7 @@ select-requires-clause-sums_length c =
 
 pub returns-clause-exact : goal.returns-clause-exact
 returns-clause-exact c =
-    let p : Penalties = record { near = p1_of c.args.pen; far = p2_of c.args.pen } in
+    let p : Penalties = record { p1 = p1_of c.args.pen; p2 = p2_of c.args.pen } in
     let g = matching c.args.left.now c.args.right.now c.args.span c.args.window p in
     let row = c.row.inside.width * c.span.inside.count in
     let count : c.span.inside.count ≡ c.args.span.count = ap (λ (s : Disparities). s.count) c.span.view_is in
@@ -49,7 +49,7 @@ returns-clause-exact c =
     record {
       same_count = sym count;
       same_row = same;
-      same_near = refl;
+      same_p1 = refl;
       same_far = λ q p. refl;
       holds = subst (λ v. HoldsVolume g g.cost v) (sym c.deref.ensures.value) (c.in_ok-costs.ensures.costs p);
     } in
@@ -63,7 +63,7 @@ bounded (Err error) g left right first some few e = tt
 
 pub returns-clause-bound : goal.returns-clause-bound
 returns-clause-bound c =
-    let p : Penalties = record { near = p1_of c.args.pen; far = p2_of c.args.pen } in
+    let p : Penalties = record { p1 = p1_of c.args.pen; p2 = p2_of c.args.pen } in
     let count : c.span.inside.count ≡ c.args.span.count = ap (λ (s : Disparities). s.count) c.span.view_is in
     bounded c.select.result (matching c.args.left.now c.args.right.now c.args.span c.args.window p) c.args.left.now c.args.right.now c.args.span.first
     (omega (arith, count, c.span.invariant)) (omega (arith, count, c.span.invariant)) (returns-clause-exact c)

@@ -68,7 +68,7 @@ returns-clause-exact c =
     (c.in_ok-disp.ensures.exact
     ∙ map_is c.args.left.now c.args.right.now c.args.calib.now c.in_ok-left.left c.in_ok-right.right c.span-span.result c.window.result (p1_of c.pen.result) (p2_of c.pen.result)
     (c.in_ok-left.ensures ∙ ap (rectified_values c.args.left.now) c.left.ensures.value) (c.in_ok-right.ensures ∙ ap (rectified_values c.args.right.now) c.right.ensures.value)
-    c.span-span.ensures c.window.ensures c.pen.ensures.near c.pen.ensures.far)
+    c.span-span.ensures c.window.ensures c.pen.ensures.p1 c.pen.ensures.p2)
     (c.in_ok-grid.ensures ∙ grid_same c.camera.result c.args.calib.now.camera c.grid.result c.args.calib.now.grid c.span-span.result.first c.args.calib.now.span.first c.in_ok-disp.disp c.camera.ensures.value c.grid.ensures.value first)
     (c.in_ok-tallies.ensures
     ∙ ap (λ (g : Option Cells). tallies_of g (option_map (λ r. r.now) c.regions.result)) c.as_ref.ensures.value

@@ -5,12 +5,12 @@ use Rattle.sgm_path.proofs.pixel.follow.Goals as goal
 
 pub returns-clause-each : goal.returns-clause-each
 returns-clause-each c i h =
-    follows_from c.args.prev.now c.args.near c.args.far (slice_index c.args.costs.now i) i (slice_index c.step.new.into i) c.least.result
+    follows_from c.args.prev.now c.args.p1 c.args.far (slice_index c.args.costs.now i) i (slice_index c.step.new.into i) c.least.result
     c.least.ensures.contained c.least.ensures.least (c.step.ensures i h)
 
 pub returns-clause-bound : goal.returns-clause-bound
 returns-clause-bound c =
     All-from_get_or (λ v. v ≤ 4062) c.step.new.into 0 (λ i h.
-    let f = follows_from c.args.prev.now c.args.near c.args.far (slice_index c.args.costs.now i) i (slice_index c.step.new.into i) c.least.result
+    let f = follows_from c.args.prev.now c.args.p1 c.args.far (slice_index c.args.costs.now i) i (slice_index c.step.new.into i) c.least.result
     c.least.ensures.contained c.least.ensures.least (c.step.ensures i h) in
-    omega (arith, follows_le (slice_index c.args.prev.now) (length c.args.prev.now) c.args.near c.args.far (slice_index c.args.costs.now i) i (slice_index c.step.new.into i) f, c.requires.costs i 0 (omega (arith, c.step.auto.into))))
+    omega (arith, follows_le (slice_index c.args.prev.now) (length c.args.prev.now) c.args.p1 c.args.far (slice_index c.args.costs.now i) i (slice_index c.step.new.into i) f, c.requires.costs i 0 (omega (arith, c.step.auto.into))))

@@ -9,7 +9,7 @@ returns-clause-each c d h =
     let rest = c.split_at_mut-here.result.1.now in
     let first : ℕ = c.args.at - c.args.count in
     let lt : d < length c.follow.new.into = omega (arith, c.follow.auto.into, c.split_at_mut-here.ensures.front_len) in
-    follows_part (take (length done - first) (drop first done)) (λ a. slice_index c.args.into.now (first + a)) c.args.count c.args.near c.args.far
+    follows_part (take (length done - first) (drop first done)) (λ a. slice_index c.args.into.now (first + a)) c.args.count c.args.p1 c.args.far
     _ (slice_index c.args.costs.now (c.args.at + d)) d (slice_index c.follow.new.into d) _
     (omega (arith, length-take (length done - first) (drop first done), length-drop first done, c.split_at_mut-done.ensures.front_len))
     h

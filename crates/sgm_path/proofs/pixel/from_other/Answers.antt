@@ -8,7 +8,7 @@ returns-clause-each c d h =
     let back = c.split_at_mut-here.result.1.now in
     let prev = c.args.prev.now in
     let lt : d < length c.follow.new.into = omega (arith, c.follow.auto.into, c.split_at_mut-here.ensures.front_len) in
-    follows_part prev (slice_index prev) (length prev) c.args.near c.args.far _ (slice_index c.args.costs.now (c.args.at + d)) d (slice_index c.follow.new.into d) _
+    follows_part prev (slice_index prev) (length prev) c.args.p1 c.args.far _ (slice_index c.args.costs.now (c.args.at + d)) d (slice_index c.follow.new.into d) _
     refl h (λ k hk. refl)
     (part_at c.args.costs.now c.args.at (c.args.at + length prev - c.args.at) d (omega arith))
     (sym (mid_at front c.follow.new.into back c.args.at d c.split_at_mut-rest.ensures.front_len lt))

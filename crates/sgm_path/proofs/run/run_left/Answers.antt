@@ -13,14 +13,14 @@ loop-x-preserved-then-x-width c =
     let count = c.args.count in
     let costs = c.args.costs.now in
     let width : ℕ = length c.args.into.now / count in
-    let near = p1_of c.args.pen in
+    let p1 = p1_of c.args.pen in
     let far : ℕ → ℕ → ℕ = λ _ _. p2_of c.args.pen in
     record {
       bound = bound_down old new count x 4062 c.begin_at.ensures.others c.begin_at.auto.into
           (λ k h l. c.loop-x.invariant.bound k (omega (arith, h, ap (λ n. n * count) up)) l) c.begin_at.ensures.bound;
-      each = left_more width count near far old new costs x c.begin_at.ensures.others
+      each = left_more width count p1 far old new costs x c.begin_at.ensures.others
           (λ z d h. c.loop-x.invariant.each z d (omega arith))
-          (λ d h. begins_left width count near far new costs x d (slice_index new (x * count + d)) c.if-x-width.true (c.begin_at.ensures.each d h));
+          (λ d h. begins_left width count p1 far new costs x d (slice_index new (x * count + d)) c.if-x-width.true (c.begin_at.ensures.each d h));
     }
 
 pub loop-x-preserved : goal.loop-x-preserved
@@ -32,14 +32,14 @@ loop-x-preserved c =
     let count = c.args.count in
     let costs = c.args.costs.now in
     let width : ℕ = length c.args.into.now / count in
-    let near = p1_of c.args.pen in
+    let p1 = p1_of c.args.pen in
     let far : ℕ → ℕ → ℕ = λ _ _. p2_of c.args.pen in
     record {
       bound = bound_down old new count x 4062 c.from_right.ensures.others c.from_right.auto.into
           (λ k h l. c.loop-x.invariant.bound k (omega (arith, h, ap (λ n. n * count) up)) l) c.from_right.ensures.bound;
-      each = left_more width count near far old new costs x c.from_right.ensures.others
+      each = left_more width count p1 far old new costs x c.from_right.ensures.others
           (λ z d h. c.loop-x.invariant.each z d (omega arith))
-          (λ d h. follows_right width count near c.p2.result c.p1.result far old new costs x d (slice_index new (x * count + d)) c.p1.ensures c.p2.ensures
+          (λ d h. follows_right width count p1 c.p2.result c.p1.result far old new costs x d (slice_index new (x * count + d)) c.p1.ensures c.p2.ensures
           (omega (arith, c.if-x-width.false)) h c.from_right.ensures.others (c.from_right.ensures.each d h));
     }
 

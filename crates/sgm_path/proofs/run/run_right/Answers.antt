@@ -15,7 +15,7 @@ loop-x-preserved c =
     let count = c.args.count in
     let costs = c.args.costs.now in
     let width : ℕ = length c.args.into.now / count in
-    let near = p1_of c.args.pen in
+    let p1 = p1_of c.args.pen in
     let far : ℕ → ℕ → ℕ = λ _ _. p2_of c.args.pen in
     record {
       bound = elim c.if-x-eq0.branch [
@@ -25,14 +25,14 @@ loop-x-preserved c =
             c.loop-x.invariant.bound (λ d h. omega (arith, ap (λ l. slice_index l (x * count + d)) w.into-is, w.from_left.ensures.bound d h))
       ];
       each = elim c.if-x-eq0.branch [
-        | then-x-eq0 w ↦ right_more width count near far old new costs x (λ k h. ap (λ l. slice_index l k) w.into-is ∙ w.begin_at.ensures.others k h)
+        | then-x-eq0 w ↦ right_more width count p1 far old new costs x (λ k h. ap (λ l. slice_index l k) w.into-is ∙ w.begin_at.ensures.others k h)
             c.loop-x.invariant.each
-            (λ d h. begins_right width count near far new costs x d (slice_index new (x * count + d)) w.if-x-eq0.true
+            (λ d h. begins_right width count p1 far new costs x d (slice_index new (x * count + d)) w.if-x-eq0.true
             (ap (λ l. slice_index l (x * count + d)) w.into-is ∙ w.begin_at.ensures.each d h))
-        | else-x-eq0 w ↦ right_more width count near far old new costs x (λ k h. ap (λ l. slice_index l k) w.into-is ∙ w.from_left.ensures.others k h)
+        | else-x-eq0 w ↦ right_more width count p1 far old new costs x (λ k h. ap (λ l. slice_index l k) w.into-is ∙ w.from_left.ensures.others k h)
             c.loop-x.invariant.each
-            (λ d h. subst (λ v. StepsAt Right width count near far new costs x d v) (sym (ap (λ l. slice_index l (x * count + d)) w.into-is))
-            (follows_left width count near w.p2.result w.p1.result far old new costs x d (slice_index w.from_left.new.into (x * count + d)) w.p1.ensures w.p2.ensures (omega (arith, w.if-x-eq0.false)) c.loop-x-test.true h
+            (λ d h. subst (λ v. StepsAt Right width count p1 far new costs x d v) (sym (ap (λ l. slice_index l (x * count + d)) w.into-is))
+            (follows_left width count p1 w.p2.result w.p1.result far old new costs x d (slice_index w.from_left.new.into (x * count + d)) w.p1.ensures w.p2.ensures (omega (arith, w.if-x-eq0.false)) c.loop-x-test.true h
             (λ k h. ap (λ l. slice_index l k) w.into-is ∙ w.from_left.ensures.others k h)
             (w.from_left.ensures.each d h)))
       ];

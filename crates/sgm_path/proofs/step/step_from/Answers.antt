@@ -28,9 +28,9 @@ loop-x-preserved c =
     let before = c.args.before.now in
     let costs = c.args.costs.now in
     let width : ℕ = length c.args.into.now / count in
-    let near = p1_of c.args.pen in
+    let p1 = p1_of c.args.pen in
     let far : ℕ → ℕ → ℕ = λ _ _. p2_of c.args.pen in
-    let Entry : ℕ → ℕ → ℕ → Type 0 = λ z d v. StepsAt dir width count near far before costs z d v in
+    let Entry : ℕ → ℕ → ℕ → Type 0 = λ z d v. StepsAt dir width count p1 far before costs z d v in
     elim c.match-source.branch [
       | in-Some w ↦ (let z = w.in-Some.z in
           let n : ℕ = z * count + count - z * count in
@@ -43,7 +43,7 @@ loop-x-preserved c =
             bound = bound_more old new count x 4062 others c.loop-x.invariant.bound (λ d h. omega (arith, ap (λ l. slice_index l (x * count + d)) w.into-is, w.from_other.ensures.bound d (omega (arith, el))));
             each = row_keep Entry old new count x others c.loop-x.invariant.each
                 (λ d h. subst (Entry x d) (sym (ap (λ l. slice_index l (x * count + d)) w.into-is))
-                (follows_row dir width count near w.p2.result w.p1.result far prev before costs x z d (slice_index there (x * count + d)) w.p1.ensures w.p2.ensures h w.in-Some.ensures.value el
+                (follows_row dir width count p1 w.p2.result w.p1.result far prev before costs x z d (slice_index there (x * count + d)) w.p1.ensures w.p2.ensures h w.in-Some.ensures.value el
                 (λ a ha. part_at before (z * count) n a (omega arith)) (w.from_other.ensures.each d (omega (arith, el)))));
           })
       | in-None w ↦ (let others : (k : ℕ) → (k < x * count) ⊎ (x * count + count ≤ k) → slice_index new k ≡ slice_index old k =
@@ -51,7 +51,7 @@ loop-x-preserved c =
           record {
             bound = bound_more old new count x 4062 others c.loop-x.invariant.bound (λ d h. omega (arith, ap (λ l. slice_index l (x * count + d)) w.into-is, w.begin_at.ensures.bound d h));
             each = row_keep Entry old new count x others c.loop-x.invariant.each
-                (λ d h. begins_from dir width count near far before costs x d (slice_index new (x * count + d)) w.in-None.ensures.value
+                (λ d h. begins_from dir width count p1 far before costs x d (slice_index new (x * count + d)) w.in-None.ensures.value
                 (ap (λ l. slice_index l (x * count + d)) w.into-is ∙ w.begin_at.ensures.each d h));
           })
     ]

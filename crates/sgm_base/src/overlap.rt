@@ -1,7 +1,7 @@
 ghost use Rattle.std.specs.Prelude.{◌≡◌, ℕ, ◌+◌, ◌-◌, ◌<◌, ◌≤◌, ◌&&◌, nat_le, nat_lt, if◌then◌else◌, Some, None};
-ghost use Rattle.sgm_census.specs.Columns.{left_column};
+ghost use Rattle.sgm_base.specs.Columns.{left_column};
 
-use sgm_base::Span;
+use crate::Span;
 
 /// Which indices give a column of a row a column of the other image: `len` of them after the first
 /// `skipped`, one column after the other from `start` on.
