@@ -1,4 +1,4 @@
-use crate::{DispMap, Image, MAX_IMAGE_BYTES, MAX_VOLUME, Plane, Size, Span, round_div};
+use crate::{DispMap, Image, Plane, Size, Span, limits, round_div};
 use std::test::Fail;
 
 fn size(width: u32, height: u32) -> Result<Size, Fail> {
@@ -82,10 +82,40 @@ fn planes_and_maps_have_rows(rt: HostRuntime) -> Result<(), Fail> {
     let mut plane = Plane::make(size(3, 2)?, ENTRIES.to_vec(alloc)?).ok_or("a plane")?;
     assert_eq!(rt; plane.row(0), [Some(0), None, Some(2)].as_slice());
     assert_eq!(rt; plane.entries(), ENTRIES.as_slice());
-    let row = plane.row_mut(0);
-    assert_eq!(rt; row.len(), 3);
-    let map = DispMap::blank(alloc, size(2, 2)?)?;
-    assert_eq!(rt; map.entries(), [None; 4].as_slice());
+    Ok(())
+}
+
+// No clause says what a plane holds once a row of it was written: that row alone is another.
+#[test]
+fn a_row_that_is_written(rt: HostRuntime) -> Result<(), Fail> {
+    let alloc = rt.alloc();
+    let mut plane = Plane::make(size(2, 3)?, ENTRIES.to_vec(alloc)?).ok_or("a plane")?;
+    assert!(rt; plane.size().height == 3);
+    plane.row_mut(1).fill(Some(9));
+    let written = [Some(0), None, Some(9), Some(9), Some(4), Some(5)];
+    assert_eq!(rt; plane.entries(), written.as_slice());
+    let mut map = DispMap::blank(alloc, size(2, 3)?)?;
+    assert_eq!(rt; map.entries(), [None; 6].as_slice());
+    assert!(rt; map.size().height == 3);
+    map.row_mut(2).fill(Some(16));
+    let written = [None, None, None, None, Some(16), Some(16)];
+    assert_eq!(rt; map.entries(), written.as_slice());
+    Ok(())
+}
+
+fn shared<T: Send + Sync>(value: &T) -> &T {
+    value
+}
+
+#[test]
+fn threads_may_share_images_and_planes(rt: HostRuntime) -> Result<(), Fail> {
+    let alloc = rt.alloc();
+    let image = Image::make(size(1, 1)?, 1, [1].to_vec(alloc)?).ok_or("an image")?;
+    assert_eq!(rt; shared(&image).samples(), [1].as_slice());
+    let plane = Plane::blank(alloc, size(1, 1)?)?;
+    assert_eq!(rt; shared(&plane).entries(), [None].as_slice());
+    let map = DispMap::blank(alloc, size(1, 1)?)?;
+    assert_eq!(rt; shared(&map).entries(), [None].as_slice());
     Ok(())
 }
 
@@ -107,9 +137,22 @@ fn quotients_are_rounded_halves_upwards(rt: HostRuntime) -> Result<(), Fail> {
     Ok(())
 }
 
-/// A volume of 2^28 cells, and a file of 64 MiB.
+// Contracts cite the limits by name, so that no clause says their values.
 #[test]
-fn limits_of_memory(rt: HostRuntime) {
-    assert_eq!(rt; MAX_VOLUME, 268_435_456);
-    assert_eq!(rt; MAX_IMAGE_BYTES, 67_108_864);
+fn limits_as_numbers(rt: HostRuntime) {
+    assert_eq!(rt; (limits::MAX_SIDE, limits::MAX_COUNT), (4096, 256));
+    assert_eq!(rt; (limits::MIN_FIRST, limits::MAX_FIRST), (-1024, 1024));
+    assert_eq!(rt; limits::MAX_VOLUME, 268_435_456);
+    assert_eq!(rt; limits::MIN_WINDOW_SIDE, 3);
+    assert_eq!(rt;
+        (limits::MAX_WINDOW_WIDTH, limits::MAX_WINDOW_HEIGHT),
+        (9, 7)
+    );
+    assert_eq!(rt; (limits::MAX_COST, limits::MAX_PENALTY), (62, 4000));
+    assert_eq!(rt; (limits::MAX_PATH_VALUE, limits::MAX_SUM), (4062, 32_496));
+    assert_eq!(rt; limits::MAX_DISPARITY, 4080);
+    assert_eq!(rt; (limits::MAX_STRIPS, limits::MAX_WORKERS), (64, 16));
+    assert_eq!(rt; (limits::MAX_GRID_LINES, limits::MAX_REGIONS), (4096, 1000));
+    assert_eq!(rt; limits::MAX_IMAGE_BYTES, 67_108_864);
+    assert_eq!(rt; limits::MAX_CALIB_BYTES, 16_777_216);
 }
