@@ -1,6 +1,7 @@
 pub mod Columns
 pub mod Disparities
 pub mod Picture
+pub mod Ranges
 pub mod Rounding
 pub mod Sides
 pub mod Values

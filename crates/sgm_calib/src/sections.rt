@@ -14,10 +14,10 @@ ghost use Rattle.sgm_calib.specs.Judge.{section_fault, held_fault, span_in, wind
 use crate::fields::{check_object, key, whole_among, whole_between};
 use crate::keys::CalibFault;
 use serde_json::Value;
-use sgm_base::Span;
+use sgm_base::{MAX_GRID_LINES, Span};
 use sgm_census::Window;
 use sgm_energy::Pen;
-use sgm_grid::{GridSpec, MAX_CELL, MAX_LINES, MAX_PLACE};
+use sgm_grid::{GridSpec, MAX_CELL, MAX_PLACE};
 use sgm_height::{Camera, MAX_BASELINE, MAX_DEPTH, MAX_FOCAL, MAX_MOUNT, MAX_OFFSET};
 
 const CAMERA_NAMES: [&str; 8] = [
@@ -193,8 +193,8 @@ fn grid_numbers(object: &Value) -> Result<GridSpec, CalibFault>
     let west = whole_between(object, key(37), "west", -MAX_PLACE, MAX_PLACE)?;
     let south = whole_between(object, key(38), "south", -MAX_PLACE, MAX_PLACE)?;
     let cell = whole_between(object, key(39), "cell", 1, MAX_CELL)?;
-    let cols = whole_between(object, key(40), "cols", 1, MAX_LINES as i64)?;
-    let rows = whole_between(object, key(41), "rows", 1, MAX_LINES as i64)?;
+    let cols = whole_between(object, key(40), "cols", 1, MAX_GRID_LINES as i64)?;
+    let rows = whole_between(object, key(41), "rows", 1, MAX_GRID_LINES as i64)?;
     Ok(GridSpec {
         west,
         south,

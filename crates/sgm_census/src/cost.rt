@@ -3,7 +3,6 @@ ghost use Rattle.sgm_base.specs.Columns.{left_column};
 ghost use Rattle.sgm_census.specs.Costs.{cost_between, census_cost};
 ghost use Rattle.sgm_census.specs.Packed.{bits_of, unpacked, HoldsSmall};
 
-
 use crate::code_plane::{CodePlane, CodeRow};
 use sgm_base::{Overlap, Span};
 use sgm_lanes::hamming;

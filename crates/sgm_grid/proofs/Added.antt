@@ -11,7 +11,8 @@ use Rattle.std.proofs.lemmas.Bool.{eqb-true, eq-eqb, ltb-true, cases_order}
 use Rattle.std.proofs.Math.Nat.{mul-le-mul_right}
 use Rattle.sgm_base.specs.declared.point.Point.{Point}
 use Rattle.sgm_grid.specs.declared.grid_spec.GridSpec.{GridSpec}
-use Rattle.sgm_grid.specs.Cells.{Cells, IsCells, IsFromTo, IsHeight, cells_of, height_at, place_of}
+use Rattle.sgm_grid.specs.Cells.{Cells, IsCells, IsHeight, cells_of, height_at, cell_index}
+use Rattle.sgm_base.specs.Ranges.{IsFromTo}
 use Rattle.sgm_grid.specs.Points.{added, cell_after, cell_of, col_of, row_from_south, empty_grid, falls_into, from_north, greatest, higher, index_below, is_that_cell, raised}
 
 -- a cell of the grid
@@ -45,13 +46,13 @@ pub cell_inside : (spec : GridSpec) (p : Point) (cell : ℕ × ℕ) → cell_of 
 cell_inside spec p cell e =
     north_inside spec (col_of spec p) (row_from_south spec p) cell (λ n f. index_inside spec.cols _ n f) (λ n f. index_inside spec.rows _ n f) e
 
-place_inside : (spec : GridSpec) (col row : ℕ) → col < spec.cols → row < spec.rows → place_of spec col row < spec.cols * spec.rows
+place_inside : (spec : GridSpec) (col row : ℕ) → col < spec.cols → row < spec.rows → cell_index spec col row < spec.cols * spec.rows
 place_inside spec col row hc hr =
     let whole : suc row * spec.cols ≤ spec.rows * spec.cols = mul-le-mul_right spec.cols hr in
     omega arith
 
 -- two cells have two places
-places_apart : (spec : GridSpec) (a b c d : ℕ) → a < spec.cols → c < spec.cols → place_of spec a b ≡ place_of spec c d
+places_apart : (spec : GridSpec) (a b c d : ℕ) → a < spec.cols → c < spec.cols → cell_index spec a b ≡ cell_index spec c d
     → (b ≡ d) ⊎ ((b < d) ⊎ (d < b)) → (a ≡ c) × (b ≡ d)
 places_apart spec a b c d ha hc e (inl same) =
     let rows : b * spec.cols ≡ d * spec.cols = ap (λ (n : ℕ). n * spec.cols) same in (omega arith, same)
@@ -60,7 +61,7 @@ places_apart spec a b c d ha hc e (inr (inl low)) =
 places_apart spec a b c d ha hc e (inr (inr high)) =
     let rows : suc d * spec.cols ≤ b * spec.cols = mul-le-mul_right spec.cols high in absurd (omega arith)
 
-place_apart : (spec : GridSpec) (a b c d : ℕ) → a < spec.cols → c < spec.cols → place_of spec a b ≡ place_of spec c d → (a ≡ c) × (b ≡ d)
+place_apart : (spec : GridSpec) (a b c d : ℕ) → a < spec.cols → c < spec.cols → cell_index spec a b ≡ cell_index spec c d → (a ≡ c) × (b ≡ d)
 place_apart spec a b c d ha hc e = places_apart spec a b c d ha hc e (cases_order b d)
 
 not_both : (a b : ℕ) → (a == b) ≡ false → a ≡ b → ⊥
@@ -70,25 +71,25 @@ not_both a b f e = let yes : (a == b) ≡ true = eq-eqb a b e in cc
 read_written : (spec : GridSpec) (hs : List (Option ℤ)) (cell : ℕ × ℕ) (v : Option ℤ) (col row : ℕ)
     → length hs ≡ spec.cols * spec.rows → Inside spec cell → col < spec.cols → row < spec.rows
     → (x y : Bool) → (cell.0 == col) ≡ x → (cell.1 == row) ≡ y
-    → height_at (cells_of spec (slice_set hs (place_of spec cell.0 cell.1) v)) col row ≡ (if x && y then v else height_at (cells_of spec hs) col row)
+    → height_at (cells_of spec (slice_set hs (cell_index spec cell.0 cell.1) v)) col row ≡ (if x && y then v else height_at (cells_of spec hs) col row)
 read_written spec hs cell v col row full inside hc hr true true ex ey =
     let same_col : cell.0 ≡ col = eqb-true _ _ ex in
     let same_row : cell.1 ≡ row = eqb-true _ _ ey in
-    let at : place_of spec cell.0 cell.1 ≡ place_of spec col row = cc in
-    let within : place_of spec col row < length hs = omega (arith, place_inside spec col row hc hr) in
+    let at : cell_index spec cell.0 cell.1 ≡ cell_index spec col row = cc in
+    let within : cell_index spec col row < length hs = omega (arith, place_inside spec col row hc hr) in
     ap (λ (n : ℕ). height_at (cells_of spec (slice_set hs n v)) col row) at
-    ∙ unwrap_or-slice_get (slice_set hs (place_of spec col row) v) (place_of spec col row) None
-    ∙ get_or-set_same hs (place_of spec col row) v None within
+    ∙ unwrap_or-slice_get (slice_set hs (cell_index spec col row) v) (cell_index spec col row) None
+    ∙ get_or-set_same hs (cell_index spec col row) v None within
 read_written spec hs cell v col row full inside hc hr true false ex ey =
-    let other : place_of spec col row ≢ place_of spec cell.0 cell.1 = λ e. not_both cell.1 row ey (sym ((place_apart spec col row cell.0 cell.1 hc inside.0 e).1)) in
-    unwrap_or-slice_get (slice_set hs (place_of spec cell.0 cell.1) v) (place_of spec col row) None
-    ∙ get_or-set_other hs (place_of spec cell.0 cell.1) (place_of spec col row) v None other
-    ∙ sym (unwrap_or-slice_get hs (place_of spec col row) None)
+    let other : cell_index spec col row ≢ cell_index spec cell.0 cell.1 = λ e. not_both cell.1 row ey (sym ((place_apart spec col row cell.0 cell.1 hc inside.0 e).1)) in
+    unwrap_or-slice_get (slice_set hs (cell_index spec cell.0 cell.1) v) (cell_index spec col row) None
+    ∙ get_or-set_other hs (cell_index spec cell.0 cell.1) (cell_index spec col row) v None other
+    ∙ sym (unwrap_or-slice_get hs (cell_index spec col row) None)
 read_written spec hs cell v col row full inside hc hr false y ex ey =
-    let other : place_of spec col row ≢ place_of spec cell.0 cell.1 = λ e. not_both cell.0 col ex (sym ((place_apart spec col row cell.0 cell.1 hc inside.0 e).0)) in
-    unwrap_or-slice_get (slice_set hs (place_of spec cell.0 cell.1) v) (place_of spec col row) None
-    ∙ get_or-set_other hs (place_of spec cell.0 cell.1) (place_of spec col row) v None other
-    ∙ sym (unwrap_or-slice_get hs (place_of spec col row) None)
+    let other : cell_index spec col row ≢ cell_index spec cell.0 cell.1 = λ e. not_both cell.0 col ex (sym ((place_apart spec col row cell.0 cell.1 hc inside.0 e).0)) in
+    unwrap_or-slice_get (slice_set hs (cell_index spec cell.0 cell.1) v) (cell_index spec col row) None
+    ∙ get_or-set_other hs (cell_index spec cell.0 cell.1) (cell_index spec col row) v None other
+    ∙ sym (unwrap_or-slice_get hs (cell_index spec col row) None)
 
 same_held : (grid : Cells) (cell : ℕ × ℕ) (h : ℤ) (col row : ℕ) (x y : Bool) → (cell.0 == col) ≡ x → (cell.1 == row) ≡ y
     → (if x && y then Some (higher (height_at grid cell.0 cell.1) h) else height_at grid col row)
@@ -157,8 +158,8 @@ after_points (p ∷ points) grid col row full hc hr =
 
 empty-height : (spec : GridSpec) (col row : ℕ) → col < spec.cols → row < spec.rows → height_at (empty_grid spec) col row ≡ None
 empty-height spec col row hc hr =
-    unwrap_or-slice_get (replicate (spec.cols * spec.rows) None) (place_of spec col row) None
-    ∙ get_or-replicate (spec.cols * spec.rows) (place_of spec col row) None None (place_inside spec col row hc hr)
+    unwrap_or-slice_get (replicate (spec.cols * spec.rows) None) (cell_index spec col row) None
+    ∙ get_or-replicate (spec.cols * spec.rows) (cell_index spec col row) None None (place_inside spec col row hc hr)
 
 pub highest_of_points : (spec : GridSpec) (points : List Point) (col row : ℕ) → col < spec.cols → row < spec.rows
     → height_at (fold added (empty_grid spec) points) col row ≡ cell_after spec points col row
@@ -173,12 +174,12 @@ added_outside grid spec hs p e none =
 
 -- the code's write is that of the definition
 pub added_inside : (grid : Cells) (spec : GridSpec) (hs : List (Option ℤ)) (p : Point) (cell : ℕ × ℕ) (at : ℕ) (v : ℤ)
-    → cells_of spec hs ≡ grid → cell_of spec p ≡ Some cell → at ≡ place_of spec cell.0 cell.1 → v ≡ higher (height_at grid cell.0 cell.1) p.h
+    → cells_of spec hs ≡ grid → cell_of spec p ≡ Some cell → at ≡ cell_index spec cell.0 cell.1 → v ≡ higher (height_at grid cell.0 cell.1) p.h
     → cells_of spec (slice_set hs at (Some v)) ≡ added grid p
 added_inside grid spec hs p cell at v e some place value =
     let there : v ≡ higher (height_at (cells_of spec hs) cell.0 cell.1) p.h = subst (λ (g : Cells). v ≡ higher (height_at g cell.0 cell.1) p.h) (sym e) value in
     ap (λ (n : ℕ). cells_of spec (slice_set hs n (Some v))) place
-    ∙ ap (λ (z : ℤ). cells_of spec (slice_set hs (place_of spec cell.0 cell.1) (Some z))) there
+    ∙ ap (λ (z : ℤ). cells_of spec (slice_set hs (cell_index spec cell.0 cell.1) (Some z))) there
     ∙ ap (λ (o : Option (ℕ × ℕ)). raised (cells_of spec hs) o p.h) (sym some)
     ∙ ap (λ (g : Cells). added g p) e
 

@@ -3,7 +3,7 @@ use Rattle.std.specs.Prelude.{ℕ, ◌-◌, ◌*◌, ◌==◌, ◌&&◌, Bool, f
 use Rattle.std.specs.Int.{int_div_euclid, int_max}
 use Rattle.sgm_base.specs.declared.point.Point.{Point}
 use Rattle.sgm_grid.specs.declared.grid_spec.GridSpec.{GridSpec}
-use Rattle.sgm_grid.specs.Cells.{Cells, cells_of, height_at, place_of}
+use Rattle.sgm_grid.specs.Cells.{Cells, cells_of, height_at, cell_index}
 
 -- that number, where it is from 0 to below the count
 abbrev pub index_below : ℕ → ℤ → Option ℕ
@@ -57,7 +57,7 @@ higher (Some held) h = int_max held h
 abbrev pub raised : Cells → Option (ℕ × ℕ) → ℤ → Cells
 raised grid None h = grid
 raised grid (Some cell) h =
-    cells_of grid.spec (slice_set grid.heights (place_of grid.spec cell.0 cell.1) (Some (higher (height_at grid cell.0 cell.1) h)))
+    cells_of grid.spec (slice_set grid.heights (cell_index grid.spec cell.0 cell.1) (Some (higher (height_at grid cell.0 cell.1) h)))
 
 -- the grid after a point: its cell keeps the higher, every other cell stays
 abbrev pub added : Cells → Point → Cells

@@ -1,7 +1,8 @@
-ghost use Rattle.std.specs.Prelude.{◌≡◌, ◌++◌, ◌*◌, ◌^◌, ◌<◌, ◌<ℤ◌, pos, neg_ℤ, IfOk, IfSome, OnOk, OnErr, All, length};
+ghost use Rattle.std.specs.Prelude.{◌≡◌, ◌++◌, ◌*◌, ◌^◌, ◌<◌, ◌<ℤ◌, pos, IfOk, IfSome, OnOk, OnErr, All, length};
 ghost use Rattle.std.specs.Option.{ForSome};
 ghost use Rattle.std.specs.Int.{int_div_euclid};
-ghost use Rattle.sgm_grid.specs.Cells.{IsGridSpec, IsCells, IsHeight, IsFromTo, height_at, place_of, row_of};
+ghost use Rattle.sgm_grid.specs.Cells.{IsGridSpec, IsCells, IsHeight, height_at, cell_index, row_of};
+ghost use Rattle.sgm_base.specs.Ranges.{Within};
 ghost use Rattle.sgm_grid.specs.Points.{added, cell_of, empty_grid, higher, index_below};
 ghost use Rattle.sgm_grid.specs.Text.{grid_text};
 
@@ -75,8 +76,8 @@ impl Grid {
     /// point on the west or the south side of a cell falls into it. Takes no memory.
     pub fn add(&mut self, p: Point)
         requires height { IsHeight p.h }
-        requires east { IsFromTo (neg_ℤ (pos (2 ^ 60))) (pos (2 ^ 60)) p.x }
-        requires north { IsFromTo (neg_ℤ (pos (2 ^ 60))) (pos (2 ^ 60)) p.y }
+        requires east { Within (2 ^ 60) p.x }
+        requires north { Within (2 ^ 60) p.y }
         ensures { self.new ≡ added self.old p }
     {
         if let Some((col, row)) = cell_of(self.spec, p) {
@@ -107,7 +108,7 @@ fn place(spec: GridSpec, col: u32, row: u32) -> usize
     requires ranges { IsGridSpec spec }
     requires col_in { col < spec.cols }
     requires row_in { row < spec.rows }
-    ensures value { result ≡ place_of spec col row }
+    ensures value { result ≡ cell_index spec col row }
     ensures within { result < spec.cols * spec.rows }
 {
     row as usize * spec.cols as usize + col as usize
@@ -116,8 +117,8 @@ fn place(spec: GridSpec, col: u32, row: u32) -> usize
 /// The column, and the row from the north, of the cell into which `p` falls; None outside the grid.
 fn cell_of(spec: GridSpec, p: Point) -> Option<(u32, u32)>
     requires ranges { IsGridSpec spec }
-    requires east { IsFromTo (neg_ℤ (pos (2 ^ 60))) (pos (2 ^ 60)) p.x }
-    requires north { IsFromTo (neg_ℤ (pos (2 ^ 60))) (pos (2 ^ 60)) p.y }
+    requires east { Within (2 ^ 60) p.x }
+    requires north { Within (2 ^ 60) p.y }
     ensures value { result ≡ cell_of spec p }
     ensures within { IfSome result (λ cell. (cell.0 < spec.cols) × (cell.1 < spec.rows)) }
 {
@@ -140,13 +141,11 @@ fn line_of(distance: i64, cell: i64, count: u32) -> Option<u32>
     }
 }
 
-/// The greater of what a cell held and a height.
+/// The greater of what was held and a height, or the height where nothing was held.
 #[tactic(auto, using(crate::proofs::Added::higher_in_range))]
-fn higher(held: Option<i32>, height: i32) -> i32
-    requires held { ForSome held IsHeight }
-    requires height { IsHeight height }
+pub fn higher(held: Option<i32>, height: i32) -> i32
     ensures value { result ≡ higher held height }
-    ensures in_range { IsHeight result }
+    ensures in_range { ForSome held IsHeight → IsHeight height → IsHeight result }
 {
     match held {
         Some(held) => held.max(height),

@@ -7,9 +7,9 @@ pub mod laws;
 mod limits;
 mod text;
 
-pub use grid::Grid;
+pub use grid::{Grid, higher};
 pub use grid_spec::GridSpec;
-pub use limits::{MAX_CELL, MAX_HEIGHT, MAX_LINES, MAX_PLACE};
+pub use limits::{MAX_CELL, MAX_HEIGHT, MAX_PLACE};
 
 #[cfg(test)]
 mod tests;

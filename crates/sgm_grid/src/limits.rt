@@ -6,8 +6,5 @@ pub const MAX_PLACE: i64 = 2_000_000_000;
 /// The greatest side of a cell, in micrometres.
 pub const MAX_CELL: i64 = 1_000_000_000;
 
-/// The greatest number of columns and of rows.
-pub const MAX_LINES: u32 = 4096;
-
 /// How far a height lies from 0 at most, in micrometres.
 pub const MAX_HEIGHT: i64 = 2_000_000_000;

@@ -5,7 +5,8 @@ use Rattle.std.proofs.lemmas.Int.{ints, to_z-of_z}
 use Rattle.sgm_base.specs.Rounding.{rounded}
 use Rattle.sgm_base.specs.declared.point.Point.{Point}
 use Rattle.sgm_height.specs.declared.camera.Camera.{Camera}
-use Rattle.sgm_height.specs.Camera.{Within, depth_of, placed, shift_of, point_with, point_of}
+use Rattle.sgm_height.specs.Camera.{depth_of, placed, shift_of, point_with, point_of}
+use Rattle.sgm_base.specs.Ranges.{Within}
 
 -- a point of those coordinates
 abbrev pub point : ℤ → ℤ → ℤ → Point

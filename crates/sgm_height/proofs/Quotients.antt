@@ -4,7 +4,7 @@ use Rattle.std.specs.Int.{int_div_euclid, w128}
 use Rattle.std.proofs.lemmas.Int.{ints, to_z-of_z, unsigned_abs-mul, fits_signed_from_abs, fits_signed_mul}
 use Rattle.std.proofs.Math.Nat.{div-le_self}
 use Rattle.sgm_base.specs.Rounding.{rounded}
-use Rattle.sgm_height.specs.Camera.{Within}
+use Rattle.sgm_base.specs.Ranges.{Within}
 
 pub abs_within : (m : ℕ) (z : ℤ) → Within m z → unsigned_abs z ≤ m
 abs_within m (pos n) h = omega (arith, ints)

@@ -1,17 +1,10 @@
 -- What a camera makes of a pixel and its disparity.
-use Rattle.std.specs.Prelude.{ℕ, ℤ, pos, neg_ℤ, ◌+ℤ◌, ◌-ℤ◌, ◌*ℤ◌, ◌≤ℤ◌, int_lt, int_le, ◌&&◌, Bool, if◌then◌else◌, Option, Some, None}
+use Rattle.std.specs.Prelude.{ℕ, ℤ, pos, neg_ℤ, ◌+ℤ◌, ◌-ℤ◌, ◌*ℤ◌, int_lt, int_le, ◌&&◌, Bool, if◌then◌else◌, Option, Some, None}
+use Rattle.sgm_base.specs.Ranges.{IsFromTo}
 use Rattle.sgm_base.specs.Rounding.{rounded}
 use Rattle.sgm_base.specs.declared.point.Point.{Point}
 use Rattle.sgm_height.specs.declared.camera.Camera.{Camera}
 use Rattle.sgm_height.specs.declared.limits.TheConstants.{MAX_FOCAL, MAX_BASELINE, MAX_OFFSET, MAX_MOUNT, MAX_DEPTH}
-
--- no further from 0 than that
-abbrev pub Within : ℕ → ℤ → Type 0
-Within most z = (neg_ℤ (pos most) ≤ℤ z) × (z ≤ℤ pos most)
-
--- from the one to the other, both among them
-abbrev pub IsFromTo : ℤ → ℤ → ℤ → Type 0
-IsFromTo low high z = (low ≤ℤ z) × (z ≤ℤ high)
 
 -- the ranges of a camera
 pub record IsCamera (camera : Camera) : Type 0 where

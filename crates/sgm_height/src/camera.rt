@@ -1,6 +1,8 @@
 ghost use Rattle.std.specs.Prelude.{◌≡◌, ◌^◌, ◌<◌, pos, ◌*ℤ◌, ◌≤ℤ◌, IfSome};
 ghost use Rattle.sgm_base.specs.Rounding.{rounded};
-ghost use Rattle.sgm_height.specs.Camera.{IsCamera, Within, point_of, point_with};
+ghost use Rattle.sgm_base.specs.declared.limits.TheConstants.{MAX_SIDE};
+ghost use Rattle.sgm_height.specs.Camera.{IsCamera, point_of, point_with};
+ghost use Rattle.sgm_base.specs.Ranges.{Within};
 
 use sgm_base::{Point, round_div};
 
@@ -32,8 +34,8 @@ pub struct Camera {
 /// Takes no memory.
 pub fn point(camera: &Camera, x: u32, y: u32, disparity16: i32) -> Option<Point>
     requires camera { IsCamera camera.now }
-    requires x_in { x < 4096 }
-    requires y_in { y < 4096 }
+    requires x_in { x < MAX_SIDE }
+    requires y_in { y < MAX_SIDE }
     requires disparity { Within 32768 disparity16 }
     ensures exact { result ≡ point_of camera.now x y disparity16 }
     ensures height { IfSome result (λ p. Within 2000000000 p.h) }
@@ -47,8 +49,8 @@ pub fn point(camera: &Camera, x: u32, y: u32, disparity16: i32) -> Option<Point>
 #[tactic(auto, using(std::proofs::lemmas::Int::ints))]
 fn point_at(camera: &Camera, x: u32, y: u32, shift: i64) -> Option<Point>
     requires camera { IsCamera camera.now }
-    requires x_in { x < 4096 }
-    requires y_in { y < 4096 }
+    requires x_in { x < MAX_SIDE }
+    requires y_in { y < MAX_SIDE }
     requires shift { Within (2 ^ 25) shift }
     ensures exact { result ≡ point_with camera.now x y shift }
     ensures height { IfSome result (λ p. Within 2000000000 p.h) }

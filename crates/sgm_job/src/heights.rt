@@ -2,7 +2,8 @@
 
 ghost use Rattle.std.specs.Prelude.{◌≡◌, ◌≤◌, ◌<◌, ◌^◌, pos, negsuc, ◌≤ℤ◌, ◌+ℤ◌, ◌*ℤ◌, IfOk, IfSome, fold, length, Option, option_and_then, slice_index_or, None};
 ghost use Rattle.std.specs.List.{filter_map, range_with_len};
-ghost use Rattle.sgm_height.specs.Camera.{IsCamera, Within};
+ghost use Rattle.sgm_height.specs.Camera.{IsCamera};
+ghost use Rattle.sgm_base.specs.Ranges.{Within};
 ghost use Rattle.sgm_grid.specs.Cells.{IsGridSpec};
 ghost use Rattle.sgm_grid.specs.Points.{added};
 ghost use Rattle.sgm_base.specs.Values.{AtMost};

@@ -36,14 +36,7 @@ pub(crate) fn begin_at(costs: &[u8], count: usize, at: usize, into: &mut [u16])
 
 /// The values of a pixel from those of the pixel on its left.
 #[inline]
-pub(crate) fn from_left(
-    costs: &[u8],
-    count: usize,
-    p1: u16,
-    far: u16,
-    at: usize,
-    into: &mut [u16],
-)
+pub(crate) fn from_left(costs: &[u8], count: usize, p1: u16, far: u16, at: usize, into: &mut [u16])
     requires positive { 0 < count }
     requires room { count ≤ at }
     requires inside { at + count ≤ length into.old }
@@ -62,14 +55,7 @@ pub(crate) fn from_left(
 
 /// The values of a pixel from those of the pixel on its right.
 #[inline]
-pub(crate) fn from_right(
-    costs: &[u8],
-    count: usize,
-    p1: u16,
-    far: u16,
-    at: usize,
-    into: &mut [u16],
-)
+pub(crate) fn from_right(costs: &[u8], count: usize, p1: u16, far: u16, at: usize, into: &mut [u16])
     requires positive { 0 < count }
     requires inside { (at + count) + count ≤ length into.old }
     requires same_length { length costs.now ≡ length into.old }
@@ -87,14 +73,7 @@ pub(crate) fn from_right(
 
 /// The values of a pixel from those of a pixel of another row, `prev`.
 #[inline]
-pub(crate) fn from_other(
-    prev: &[u16],
-    costs: &[u8],
-    p1: u16,
-    far: u16,
-    at: usize,
-    into: &mut [u16],
-)
+pub(crate) fn from_other(prev: &[u16], costs: &[u8], p1: u16, far: u16, at: usize, into: &mut [u16])
     requires some { 0 < length prev.now }
     requires inside { at + length prev.now ≤ length into.old }
     requires same_length { length costs.now ≡ length into.old }

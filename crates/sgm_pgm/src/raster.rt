@@ -99,9 +99,7 @@ fn pairs_of_bytes(alloc: Global, raster: &[u8]) -> Result<Vec<u16>, AllocError>
 {
     let mut samples = vec![in alloc; 0u16; raster.len() / 2]?;
     for index in 0..samples.len() {
-        let high = raster[2 * index];
-        let low = raster[2 * index + 1];
-        samples[index] = u16::from(high) * 256 + u16::from(low);
+        samples[index] = u16::from_be_bytes([raster[2 * index], raster[2 * index + 1]]);
     }
     Ok(samples)
 }

@@ -47,7 +47,6 @@ fn append_samples(into: &mut Vec<u8>, samples: &[u16])
     ensures { into.new.items ≡ into.old.items ++ flat_map two_bytes samples.now }
 {
     for sample in samples {
-        into.push_reserved((*sample / 256) as u8);
-        into.push_reserved((*sample % 256) as u8);
+        append(into, &sample.to_be_bytes());
     }
 }

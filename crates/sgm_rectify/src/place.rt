@@ -4,13 +4,14 @@
 
 ghost use Rattle.std.specs.Prelude.{◌≡◌, ◌+◌, ◌-◌, ◌-ℤ◌, ◌*◌, ◌/◌, ◌<◌, ◌≤◌, ℤ, pos, ◌+ℤ◌, ◌*ℤ◌, ◌≤ℤ◌, ◌<ℤ◌, All, length, map, slice_index_or};
 ghost use Rattle.std.specs.Int.{int_div_euclid};
+ghost use Rattle.sgm_base.specs.declared.limits.TheConstants.{MAX_SIDE};
 ghost use Rattle.sgm_rectify.specs.Places.{affine, entry, denominator, quotient, blended, in_cell};
 ghost use Rattle.sgm_rectify.specs.Warps.{IsEntry, IsCoordinate, IsNode};
 
 /// A matrix entry times a column or row.
 fn times(a: i64, n: u32) -> i64
     requires a { IsEntry a }
-    requires n { n < 4096 }
+    requires n { n < MAX_SIDE }
     ensures value { result ≡ a *ℤ pos n }
     ensures low { (pos 0 -ℤ pos (1099511627776 * 4095)) ≤ℤ result }
     ensures high { result ≤ℤ pos (1099511627776 * 4095) }
@@ -23,8 +24,8 @@ fn affine_of(a: i64, b: i64, c: i64, x: u32, y: u32) -> i64
     requires a { IsEntry a }
     requires b { IsEntry b }
     requires c { IsEntry c }
-    requires x { x < 4096 }
-    requires y { y < 4096 }
+    requires x { x < MAX_SIDE }
+    requires y { y < MAX_SIDE }
     ensures value { result ≡ ((a *ℤ pos x) +ℤ (b *ℤ pos y)) +ℤ c }
     ensures low { (pos 0 -ℤ pos (1099511627776 * 8191)) ≤ℤ result }
     ensures high { result ≤ℤ pos (1099511627776 * 8191) }
@@ -36,8 +37,8 @@ fn affine_of(a: i64, b: i64, c: i64, x: u32, y: u32) -> i64
 pub(crate) fn affine(matrix: &[i64; 9], first: usize, x: u32, y: u32) -> i64
     requires entries { All IsEntry matrix.now }
     requires first { first ≤ 6 }
-    requires x { x < 4096 }
-    requires y { y < 4096 }
+    requires x { x < MAX_SIDE }
+    requires y { y < MAX_SIDE }
     ensures value { result ≡ affine matrix.now first x y }
     ensures low { (pos 0 -ℤ pos (1099511627776 * 8191)) ≤ℤ result }
     ensures high { result ≤ℤ pos (1099511627776 * 8191) }
@@ -58,8 +59,8 @@ fn floor_div(a: i64, b: i64) -> i64
 fn quotient(matrix: &[i64; 9], first: usize, x: u32, y: u32) -> i64
     requires entries { All IsEntry matrix.now }
     requires first { first ≤ 6 }
-    requires x { x < 4096 }
-    requires y { y < 4096 }
+    requires x { x < MAX_SIDE }
+    requires y { y < MAX_SIDE }
     requires positive { pos 0 <ℤ denominator matrix.now x y }
     ensures { result ≡ quotient matrix.now first x y }
 {
@@ -70,8 +71,8 @@ fn quotient(matrix: &[i64; 9], first: usize, x: u32, y: u32) -> i64
 /// The source place of the pixel (x, y) by a projective map.
 pub(crate) fn projected(matrix: &[i64; 9], x: u32, y: u32) -> (i64, i64)
     requires entries { All IsEntry matrix.now }
-    requires x { x < 4096 }
-    requires y { y < 4096 }
+    requires x { x < MAX_SIDE }
+    requires y { y < MAX_SIDE }
     requires positive { pos 0 <ℤ denominator matrix.now x y }
     ensures { result ≡ (quotient matrix.now 0 x y, quotient matrix.now 3 x y) }
 {

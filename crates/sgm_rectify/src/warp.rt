@@ -2,6 +2,7 @@ ghost use Rattle.std.specs.Prelude.{◌≡◌, ◌<◌, pos, int_le, All, None, 
 ghost use Rattle.sgm_base.specs.Sides.{IsSide};
 ghost use Rattle.sgm_rectify.specs.declared.warp.WarpFault.TheVariants.{Denominator};
 ghost use Rattle.sgm_rectify.specs.Faults.{nodes_needed, mesh_fault, bad_corner, warp_fault, SuitsPixel};
+ghost use Rattle.sgm_base.specs.declared.limits.TheConstants.{MAX_SIDE};
 ghost use Rattle.sgm_rectify.specs.Places.{denominator, place_of};
 ghost use Rattle.sgm_rectify.specs.Warps.{IsEntry, IsWarp};
 
@@ -75,8 +76,8 @@ fn mesh_fault(step: u32, cols: u32, rows: u32, size: Size) -> Option<WarpFault>
 /// Whether the denominator is 0 or less at a pixel.
 fn is_bad(matrix: &[i64; 9], x: u32, y: u32) -> bool
     requires entries { All IsEntry matrix.now }
-    requires x { x < 4096 }
-    requires y { y < 4096 }
+    requires x { x < MAX_SIDE }
+    requires y { y < MAX_SIDE }
     ensures { result ≡ int_le (denominator matrix.now x y) (pos 0) }
 {
     affine(matrix, 6, x, y) <= 0

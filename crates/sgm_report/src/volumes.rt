@@ -1,14 +1,14 @@
 ghost use Rattle.std.specs.Prelude.{◌≡◌, ◌+◌, ◌++◌, ◌∷◌, [], ℕ, ℤ, pos, List, Option, All, length};
 ghost use Rattle.std.specs.Option.{ForSome};
-ghost use Rattle.sgm_grid.specs.Cells.{IsFromTo, IsHeight};
-ghost use Rattle.sgm_grid.specs.Points.{higher};
+ghost use Rattle.sgm_grid.specs.Cells.{IsHeight};
+ghost use Rattle.sgm_base.specs.Ranges.{IsFromTo};
 ghost use Rattle.sgm_grid.specs.declared.limits.TheConstants.{MAX_CELL};
 ghost use Rattle.sgm_report.specs.Areas.{LiesIn, IsBase};
 ghost use Rattle.sgm_report.specs.Sums.{HasRoom, lower, sums_over};
 ghost use Rattle.sgm_report.specs.Tallies.{tally_of, tally_over};
 
 use crate::Region;
-use sgm_grid::Grid;
+use sgm_grid::{Grid, higher};
 
 /// What the cells of a region amount to. Heights are in micrometres, volumes in cubic micrometres.
 #[derive(Clone, Copy, Debug, PartialEq, Eq)]
@@ -140,16 +140,6 @@ fn lower(held: Option<i32>, height: i32) -> i32
 {
     match held {
         Some(held) => held.min(height),
-        None => height,
-    }
-}
-
-/// The greater of what was held and a height.
-fn higher(held: Option<i32>, height: i32) -> i32
-    ensures { result ≡ higher held height }
-{
-    match held {
-        Some(held) => held.max(height),
         None => height,
     }
 }

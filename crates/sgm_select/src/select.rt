@@ -3,7 +3,6 @@ ghost use Rattle.sgm_select.specs.Rows.{base_in, matched_in};
 
 use sgm_base::{Overlap, Span};
 
-
 /// The least index at which the sums of a pixel are least.
 fn base_at(sums: &[u16]) -> u16
     requires some { 0 < length sums.now }

@@ -1,7 +1,7 @@
 use Rattle.std.proofs.Common.{◌^◌, ℤ, to_z, of_z, FitsSigned, w64, subst, sym, ◌∙◌, ap}
 use Rattle.std.specs.Int.{w128}
 use Rattle.std.proofs.lemmas.Int.{to_z-of_z}
-use Rattle.sgm_height.specs.Camera.{Within}
+use Rattle.sgm_base.specs.Ranges.{Within}
 use Rattle.sgm_height.proofs.Quotients.{quotient_is, quotient_within, fits_within}
 use Rattle.sgm_height.proofs.camera.scaled.Goals as goal
 

@@ -1,4 +1,4 @@
-use Rattle.std.proofs.Common.{◌≡◌, ℤ, Option, to_z, of_z, w32, w64, arith, ap, sym, subst, ◌∙◌}
+use Rattle.std.proofs.Common.{◌≡◌, ℤ, Option, to_z, of_z, w32, w64, arith, ap, sym, subst, ◌∙◌, rules}
 use Rattle.std.proofs.lemmas.Int.{ints, to_z-of_z}
 use Rattle.sgm_grid.specs.Cells.{IsHeight, height_at}
 use Rattle.sgm_grid.specs.Points.{higher}
@@ -10,7 +10,7 @@ invariant_of-self c =
     let highest = c.higher-highest.result in
     let whole = to_z-of_z w32 highest (record { sfits = c.higher-highest.type_inv }) in
     still_cells c.self.inside.spec c.self.inside.heights.items c.place-at.result (to_z w32 (of_z w32 highest)) c.self.invariant
-    (subst IsHeight (sym whole) c.higher-highest.ensures.in_range)
+    (subst IsHeight (sym whole) (c.higher-highest.ensures.in_range (search rules) (search rules)))
 
 pub returns-in-Some : goal.returns-in-Some
 returns-in-Some c =

@@ -19,7 +19,7 @@ returns-in-Some-clause-value c = λ cells e.
     let low : to_z w32 (of_z w32 c.lower.result) ≡ lower c.args.self.lowest h =
     to_z-of_z w32 c.lower.result (record { sfits = c.lower.type_inv }) ∙ c.lower.ensures ∙ ap (λ (z : ℤ). lower c.args.self.lowest z) same in
     let high : to_z w32 (of_z w32 c.higher.result) ≡ higher c.args.self.highest h =
-    to_z-of_z w32 c.higher.result (record { sfits = c.higher.type_inv }) ∙ c.higher.ensures ∙ ap (λ (z : ℤ). higher c.args.self.highest z) same in
+    to_z-of_z w32 c.higher.result (record { sfits = c.higher.type_inv }) ∙ c.higher.ensures.value ∙ ap (λ (z : ℤ). higher c.args.self.highest z) same in
     rw c.in-Some.is (with_some c.args.base cells c.args.self h _ _ _ _ e over under low high)
 
 pub returns-in-Some-clause-room : goal.returns-in-Some-clause-room
