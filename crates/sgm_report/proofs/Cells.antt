@@ -8,7 +8,7 @@ use Rattle.std.proofs.lemmas.Grind.{flat_map-append}
 use Rattle.std.proofs.lemmas.Option.{unwrap_or-slice_get}
 use Rattle.std.proofs.Math.Nat.{mul-le-mul_right}
 use Rattle.std.proofs.lemmas.Nat.{mul-le}
-use Rattle.sgm_grid.specs.Cells.{Cells, IsCells, height_at, place_of, row_of}
+use Rattle.sgm_grid.specs.Cells.{Cells, IsCells, height_at, cell_index, row_of}
 use Rattle.sgm_report.specs.Areas.{Area, LiesIn}
 use Rattle.sgm_report.specs.Sums.{HasRoom, most_cells, sums_over}
 use Rattle.sgm_report.specs.Tallies.{cols_of}
@@ -56,12 +56,12 @@ part_is grid row col cols many full hr hc same =
     ext_get_or None part (map f (range_with_len col cols)) (part_length ∙ sym (length-map-range_with_len f col cols))
     (λ i lt.
     let within : i < cols = omega (arith, part_length) in
-    let place : row * grid.spec.cols + (col + i) ≡ place_of grid.spec (col + i) row = refl in
+    let place : row * grid.spec.cols + (col + i) ≡ cell_index grid.spec (col + i) row = refl in
     get_or-take many (drop col (row_of grid row)) i None (omega arith)
     ∙ get_or-drop col (row_of grid row) i None
     ∙ get_or-take grid.spec.cols (drop (row * grid.spec.cols) grid.heights) (col + i) None (omega arith)
     ∙ get_or-drop (row * grid.spec.cols) grid.heights (col + i) None
-    ∙ sym (unwrap_or-slice_get grid.heights (place_of grid.spec (col + i) row) None)
+    ∙ sym (unwrap_or-slice_get grid.heights (cell_index grid.spec (col + i) row) None)
     ∙ sym (get_or-map-range_with_len f col cols i (col + i) None within refl))
 
 -- a region has at most the most cells
