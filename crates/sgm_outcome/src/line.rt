@@ -11,6 +11,7 @@ pub const MAX_LINE: usize = 256;
 pub const MAX_DIGITS: usize = 20;
 
 /// A line that is put together, part by part. It takes no memory.
+#[derive(Drop)]
 pub struct Line {
     text: ArrayString<MAX_LINE>,
 }

@@ -5,7 +5,7 @@ ghost use Rattle.sgm_rectify.specs.declared.warp.WarpFault.TheVariants.{MeshSize
 ghost use Rattle.sgm_outcome.specs.Lines.{side_word, image_line, pgm_line, calib_line, warp_line, sizes_line, refusal_line};
 
 use crate::Refusal;
-use crate::line::{MAX_LINE, Line};
+use crate::line::{Line, MAX_LINE};
 use sgm_base::{MAX_VOLUME, Side, Size};
 use sgm_calib::{CalibFault, Key};
 use sgm_pgm::PgmFault;
@@ -52,17 +52,26 @@ fn pgm_line(side: Side, fault: PgmFault) -> Line
     }
 }
 
+// The line with the path of a key more.
+fn with_path(line: Line, key: Key) -> Line
+    requires { length line ≤ 64 }
+    ensures bytes { result ≡ line ++ path_of key }
+    ensures short { length result ≤ length line + 100 }
+{
+    let line = line.text(key.front());
+    if key.has_index() {
+        line.number(key.index as u64).text(key.back())
+    } else {
+        line
+    }
+}
+
 // What is wrong with a key of the calibration.
 fn key_line(key: Key, what: &str) -> Line
     requires { length what.now ≤ 64 }
     ensures { result ≡ codes "sgm: calibration: " ++ path_of key ++ what.now }
 {
-    let line = Line::new().text("sgm: calibration: ").text(key.front());
-    if key.has_index() {
-        line.number(key.index as u64).text(key.back()).text(what)
-    } else {
-        line.text(what)
-    }
+    with_path(Line::new().text("sgm: calibration: "), key).text(what)
 }
 
 fn calib_line(fault: CalibFault) -> Line

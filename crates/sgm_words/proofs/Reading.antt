@@ -77,9 +77,9 @@ so_next command words position settings s so lt sets within free = record {
   after = let le = so.after in omega arith;
   right = first_next (option_fault command words) position (length words) _ lt (fault_is command words position s settings false so sets within free) so.right;
   given =
-    let P : List (List ℕ) → Type 0 = λ ws. AreGiven ws (set settings s.place (Some s.value)) in
-    subst P (before_more command words position so.after lt)
-    (given_set (before command words position) settings (word words position) s so.given so.long within (set_by_for command (word words position) s sets) (none_by _ free));
+      let P : List (List ℕ) → Type 0 = λ ws. AreGiven ws (set settings s.place (Some s.value)) in
+      subst P (before_more command words position so.after lt)
+      (given_set (before command words position) settings (word words position) s so.given so.long within (set_by_for command (word words position) s sets) (none_by _ free));
   long = length-set settings s.place (Some s.value) ∙ so.long;
 }
 

@@ -19,7 +19,7 @@ number_in : (entry : OptionEntry) (text : List ℕ) (v : ℕ) → number_within 
 unfolding number_within
 number_in entry text v e =
     elim (is_number text && (nat_le entry.least (value_of text) && nat_le (value_of text) entry.greatest)) as
-      (λ t. (is_number text && (nat_le entry.least (value_of text) && nat_le (value_of text) entry.greatest)) ≡ t → (if t then Some (value_of text) else None) ≡ Some v → IsWithin entry v) [
+    (λ t. (is_number text && (nat_le entry.least (value_of text) && nat_le (value_of text) entry.greatest)) ≡ t → (if t then Some (value_of text) else None) ≡ Some v → IsWithin entry v) [
       | true ↦ λ right is. let same : value_of text ≡ v = cc in record { low = grind (arith, nat_tests); high = grind (arith, nat_tests) }
       | false ↦ λ wrong is. absurd (cc)
     ] refl e
@@ -57,7 +57,7 @@ of_entry : (place : ℕ) (entries : List OptionEntry) (text : List ℕ) (s : Set
 of_entry place [] text s e = absurd (cc)
 of_entry place (entry ∷ later) text s e =
     elim (value_for text entry) as
-      (λ o. value_for text entry ≡ o → option_or (option_map (λ value. record { place = place; value = value }) o) (set_among (place + 1) later text) ≡ Some s → IsOfEntry place (entry ∷ later) s) [
+    (λ o. value_for text entry ≡ o → option_or (option_map (λ value. record { place = place; value = value }) o) (set_among (place + 1) later text) ≡ Some s → IsOfEntry place (entry ∷ later) s) [
       | (Some v) ↦ λ is m. of_first place entry later s v (value_in entry text v is) (cc) (cc)
       | None ↦ λ is m. of_later place entry later s (of_entry (place + 1) later text s m)
     ] refl e
@@ -79,16 +79,16 @@ unfolding given
 given_within place [] v e = absurd (cc)
 given_within place (text ∷ later) v e =
     elim (set_by text) as
-      (λ o. set_by text ≡ o → option_map (λ s. s.value) (find (λ s. eqb s.place place) (cons_option o (filter_map set_by later))) ≡ Some v → IsWithin (entry_at place) v) [
+    (λ o. set_by text ≡ o → option_map (λ s. s.value) (find (λ s. eqb s.place place) (cons_option o (filter_map set_by later))) ≡ Some v → IsWithin (entry_at place) v) [
       | None ↦ λ is m. given_within place later v m
       | (Some s) ↦ λ is m. elim (eqb s.place place) as
-        (λ t. eqb s.place place ≡ t → option_map (λ s. s.value) (cond t (Some s) (find (λ s. eqb s.place place) (filter_map set_by later))) ≡ Some v → IsWithin (entry_at place) v) [
-          | true ↦ λ at found.
-              let same : s.place ≡ place = grind (arith, nat_tests) in let value : s.value ≡ v = cc in
-              let P : ℕ → Type 0 = λ k. IsWithin (entry_at k) s.value in let Q : ℕ → Type 0 = λ n. IsWithin (entry_at place) n in
-              subst Q value (subst P same (set_within text s is))
-          | false ↦ λ at found. given_within place later v found
-        ] refl m
+          (λ t. eqb s.place place ≡ t → option_map (λ s. s.value) (cond t (Some s) (find (λ s. eqb s.place place) (filter_map set_by later))) ≡ Some v → IsWithin (entry_at place) v) [
+            | true ↦ λ at found.
+                let same : s.place ≡ place = grind (arith, nat_tests) in let value : s.value ≡ v = cc in
+                let P : ℕ → Type 0 = λ k. IsWithin (entry_at k) s.value in let Q : ℕ → Type 0 = λ n. IsWithin (entry_at place) n in
+                subst Q value (subst P same (set_within text s is))
+            | false ↦ λ at found. given_within place later v found
+          ] refl m
     ] refl e
 
 setting_within : (place : ℕ) (words : List (List ℕ)) → IsWithin (entry_at place) (entry_at place).missing → IsWithin (entry_at place) (setting_of place words)

@@ -70,6 +70,9 @@ impl Command {
     pub fn named(name: &[u8]) -> Option<Command>
         ensures { result ≡ command_named name.now }
     {
-        COMMANDS.iter().copied().find(|command| command.is_named(name))
+        COMMANDS
+            .iter()
+            .copied()
+            .find(|command| command.is_named(name))
     }
 }

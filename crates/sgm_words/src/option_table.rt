@@ -18,6 +18,7 @@ pub const OPTION_COUNT: usize = 2;
 
 /// The places of the options in the table.
 pub const STRIPS: usize = 0;
+
 pub const WORKERS: usize = 1;
 
 const OPTION_TABLE: [OptionRow; OPTION_COUNT] = [
