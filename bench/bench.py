@@ -40,9 +40,9 @@ left, right = (cv2.imread(name, cv2.IMREAD_GRAYSCALE) for name in sys.argv[1:3])
 matcher = cv2.StereoSGBM_create(
     minDisparity=0, numDisparities=int(sys.argv[3]), blockSize=3, P1=72, P2=288,
     disp12MaxDiff=1, mode=cv2.STEREO_SGBM_MODE_HH)
-start = time.perf_counter()
+start, busy = time.perf_counter(), time.process_time()
 matcher.compute(left, right)
-print(time.perf_counter() - start)
+print(time.perf_counter() - start, time.process_time() - busy)
 """
 
 
@@ -166,7 +166,7 @@ def samples_of(data):
 
 
 def print_parts(command, folder, title, opencv):
-    """Where a run's time goes, by function, from its samples."""
+    """Where a run's processor time goes, by function, from its samples; beside OpenCV's."""
     data = os.path.join(folder, "samples")
     record = ["perf", "record", "-q", "-e", "cpu-clock", "-F", "5000", "-o", data, "--", *command]
     if subprocess.run(record, stdout=subprocess.DEVNULL, stderr=subprocess.DEVNULL).returncode:
@@ -194,11 +194,12 @@ def row(*words):
 
 
 def beside(python, pair, count, runs):
-    """The seconds and the memory of OpenCV on a pair; nothing where there is none."""
+    """The seconds, the memory and the processor's seconds of OpenCV on a pair; nothing where there is none."""
     if python is None:
         return []
     made = [measured([python, "-c", OPENCV, *pair, str(count)]) for _ in range(runs)]
-    return [min(float(said) for _, _, said in made), max(memory for _, memory, _ in made)]
+    seconds, busy = (min(float(said.split()[at]) for _, _, said in made) for at in (0, 1))
+    return [seconds, max(memory for _, memory, _ in made), busy]
 
 
 def splits(words):
@@ -277,7 +278,7 @@ def main():
         row(*["---"] * len(heads(words, python)))
         done = list(measure(words, cases, programs, python, folder))
         for title, command, opencv in done if words.parts else ():
-            print_parts(command, folder, title, opencv[0] if opencv else None)
+            print_parts(command, folder, title, opencv[2] if opencv else None)
 
 
 if __name__ == "__main__":
