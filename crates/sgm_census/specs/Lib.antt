@@ -1,4 +1,5 @@
 pub mod Codes
 pub mod Costs
+pub mod Matching
 pub mod Packed
 pub mod Windows

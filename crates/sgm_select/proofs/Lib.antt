@@ -1,4 +1,4 @@
 pub mod Examples
+pub mod Keys
 pub mod LeastIndex
-pub mod Matches
 pub mod Rows

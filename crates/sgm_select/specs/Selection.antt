@@ -1,7 +1,6 @@
 -- Which index is chosen for a pixel, and which of them stand the check from left to right.
 use Rattle.std.specs.Prelude.{ℕ, ◌+◌, ◌*◌, Bool, true, ◌&&◌, ◌==◌, nat_le, if◌then◌else◌, map, filter, find, unwrap_or, Option, Some, None, is_some, option_and_then, ℤ}
-use Rattle.sgm_base.specs.Values.{Values}
-use Rattle.sgm_base.specs.Values.{value_at}
+use Rattle.sgm_base.specs.Values.{Values, row_by_row, value_at, values_of}
 use Rattle.sgm_base.specs.Columns.{left_column, right_column}
 use Rattle.sgm_energy.specs.Rays.{Pixel, pixel_at, Problem}
 use Rattle.sgm_energy.specs.Energies.{least, below, path_sum}
@@ -46,3 +45,8 @@ disparity g left right first p =
     let b = base g p in
     option_and_then (λ q. checked b (value_at left p.x p.y) (value_at right q p.y) (matched g first q p.y))
     (right_column g.width first p.x b)
+
+-- the disparity of each pixel, row by row
+abbrev pub disparities_of : Problem → Values → Values → ℤ → Values
+disparities_of g left right first =
+    values_of g.width g.height (row_by_row g.width g.height (λ x y. disparity g left right first (pixel_at x y)))
