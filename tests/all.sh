@@ -199,7 +199,8 @@ while read -r name needs command <&3; do
     chosen "$name" && run "$name" "$needs" "$command"
 done 3< <(table)
 if [ -n "$to_install" ]; then
-    echo "to try what was skipped: apt-get install $(tr ' ' '\n' <<<"$to_install" | sort -u | xargs), or tests/all.sh --install"
+    packages=$(tr ' ' '\n' <<<"$to_install" | sort -u | tr '\n' ' ')
+    echo "to try what was skipped, as root: apt-get install${packages% }, or tests/all.sh --install"
 fi
 echo "$passed passed, $failed failed, $skipped skipped"
 [ "$failed" = 0 ]
