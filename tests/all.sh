@@ -23,7 +23,7 @@ table() {
     cat <<TABLE
 launcher            -           tests/launcher.sh
 scripts             -           tests/scripts.py
-shellcheck          shellcheck  shellcheck -x sgm .ci/run tests/all.sh tests/asc_gdal.sh tests/common.sh tests/compare.sh tests/definitions.sh tests/ends.sh tests/launcher.sh tests/pgm_tools.sh
+shellcheck          shellcheck  shellcheck -x sgm .ci/run $(cd "$top" && echo tests/*.sh)
 reference           -           tests/test_reference.py
 least_energies      -           tests/least_energies.py --check
 cubic_metres        -           tools/test_cubic_metres.py
@@ -61,7 +61,7 @@ need() {
     case $1 in
     -) return ;;
     program)
-        begin_program || printf "the program doesn't run: rt isn't on the PATH, and SGM names no other\t\n"
+        [ -z "$no_program" ] || printf '%s\t\n' "$no_program"
         return
         ;;
     rt)
@@ -81,16 +81,21 @@ need() {
     done
 }
 
-# Whether there is a program, or the toolchain to build one. It is built here, so that its time is no test's.
+# Starts the program, and says in no_program why the tests that need it can't run. It is built here, once, so that
+# its time is no test's. Where it should run and doesn't, that is a failure.
 begin_program() {
-    if [ "$SGM" = "$top/sgm" ] && [ ! -x "$top/crates/sgm_cli/out/sgm_cli" ]; then
-        command -v rt >/dev/null || return 1
+    if [ "$SGM" = "$top/sgm" ] && [ ! -x "$top/crates/sgm_cli/out/sgm_cli" ] && ! command -v rt >/dev/null; then
+        no_program="there is no program: rt isn't on the PATH, and SGM names none"
+        return
     fi
-    [ -n "${begun-}" ] && return
-    begun=yes
-    # Without words it ends with a line and the status 2. Where it doesn't, each test says so and fails.
-    "$SGM" 2> >(grep -vx 'sgm: no command' >&2)
-    return 0
+    # Without words it ends with a line and the status 2.
+    "$SGM" </dev/null >"$work/begin" 2> >(grep -vx 'sgm: no command' >&2)
+    if [ $? != 2 ]; then
+        no_program="the program doesn't run"
+        failed=$((failed + 1))
+        line FAILED program "$SGM doesn't run"
+    fi
+    rm "$work/begin"
 }
 
 install() {
@@ -146,7 +151,7 @@ run() {
     if "${words[@]}" >"$work/$name.txt" 2>&1 </dev/null; then
         passed=$((passed + 1))
         last=$(tail -n 1 "$work/$name.txt")
-        line passed "$name" "$((SECONDS - begin)) s  $last"
+        line passed "$name" "$((SECONDS - begin)) s${last:+  $last}"
         rm "$work/$name.txt"
     else
         failed=$((failed + 1))
@@ -178,16 +183,24 @@ for word; do
 done
 
 cd "$top" || exit 1
+no_program=
 [ $do_install = no ] || install
 work=$(mktemp -d "${TMPDIR:-/tmp}/sgm-all.XXXXXX") || exit 1
 # What failed stays.
 trap 'rmdir "$work" 2>/dev/null' EXIT
 passed=0 failed=0 skipped=0 to_install=
+while read -r name needs _ <&3; do
+    if chosen "$name" && [[ $needs = program* ]]; then
+        begin_program
+        break
+    fi
+done 3< <(table)
 while read -r name needs command <&3; do
     chosen "$name" && run "$name" "$needs" "$command"
 done 3< <(table)
 if [ -n "$to_install" ]; then
-    echo "to try what was skipped: apt-get install $(tr ' ' '\n' <<<"$to_install" | sort -u | xargs), or tests/all.sh --install"
+    packages=$(tr ' ' '\n' <<<"$to_install" | sort -u | tr '\n' ' ')
+    echo "to try what was skipped, as root: apt-get install${packages% }, or tests/all.sh --install"
 fi
 echo "$passed passed, $failed failed, $skipped skipped"
 [ "$failed" = 0 ]
