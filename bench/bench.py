@@ -1,7 +1,7 @@
 #!/usr/bin/env python3
 """Measures the time and the memory of `sgm match`, beside OpenCV's StereoSGBM where that is installed.
 
-    bench/bench.py [--only 640x480] [--workers 1 4] [--runs 3]
+    bench/bench.py [--only 640x480] [--strips 1 7 64] [--workers 1 4] [--builds] [--parts] [--runs 3]
 
 Makes pairs of three sizes, runs the program on each with 64 and, for the two larger sizes, 128
 disparities, and prints a Markdown table: the least seconds of some runs, cells a second (width *
@@ -9,20 +9,28 @@ height * disparities / seconds) and the greatest memory that a run held. The pro
 those of the whole run, with reading and writing files. Where `import cv2` works (Debian:
 python3-opencv, for /usr/bin/python3), StereoSGBM with all eight directions (MODE_HH) and one thread
 matches the same pairs in the same run; its seconds are those of the matching alone. The program is
-the one that the variable SGM names (./sgm of this repository without it).
+the one that the variable SGM names (./sgm of this repository without it). bench/README.md says how
+to read the tables.
 """
 
 import argparse
 import json
 import os
 import random
+import shutil
 import subprocess
 import sys
 import tempfile
 import time
 
 HERE = os.path.dirname(os.path.abspath(__file__))
-SGM = os.environ.get("SGM", os.path.join(HERE, "..", "sgm"))
+SGM = os.path.realpath(os.environ.get("SGM", os.path.join(HERE, "..", "sgm")))
+CRATE = os.path.realpath(os.path.join(HERE, "..", "crates", "sgm_cli"))
+# The processor that the gate builds for, the better one that the launcher takes where it can, and what that needs.
+GATE, BETTER = "x86-64-v2", "x86-64-v3"
+NEEDED = set("avx avx2 bmi1 bmi2 f16c fma abm movbe".split())
+# What the launcher sets, so that programs that are started without it are measured alike.
+TUNABLES = "glibc.malloc.hugetlb=1"
 CASES = [(640, 480, 64), (1280, 720, 64), (1280, 720, 128), (1920, 1080, 64), (1920, 1080, 128)]
 DEEPEST = 60
 OPENCV = """
@@ -32,9 +40,9 @@ left, right = (cv2.imread(name, cv2.IMREAD_GRAYSCALE) for name in sys.argv[1:3])
 matcher = cv2.StereoSGBM_create(
     minDisparity=0, numDisparities=int(sys.argv[3]), blockSize=3, P1=72, P2=288,
     disp12MaxDiff=1, mode=cv2.STEREO_SGBM_MODE_HH)
-start = time.perf_counter()
+start, busy = time.perf_counter(), time.process_time()
 matcher.compute(left, right)
-print(time.perf_counter() - start)
+print(time.perf_counter() - start, time.process_time() - busy)
 """
 
 
@@ -90,60 +98,191 @@ def measured(command):
     return seconds, usage.ru_maxrss * 1024 / 1e6, said
 
 
-def opencv_version():
-    """OpenCV's version, or an empty text where it isn't there."""
-    command = [sys.executable, "-c", "import cv2; print(cv2.__version__)"]
-    return subprocess.run(command, stdout=subprocess.PIPE, stderr=subprocess.DEVNULL).stdout.decode().strip()
+def python_with_opencv():
+    """A Python that has OpenCV, and its version; None and an empty text where there is none."""
+    for python in (sys.executable, "/usr/bin/python3"):
+        command = [python, "-c", "import cv2; print(cv2.__version__)"]
+        try:
+            found = subprocess.run(command, stdout=subprocess.PIPE, stderr=subprocess.DEVNULL).stdout.decode().strip()
+        except OSError:
+            continue
+        if found:
+            return python, found
+    return None, ""
+
+
+def of_processor(name):
+    """The value of a line of /proc/cpuinfo, or an empty text."""
+    with open("/proc/cpuinfo") as file:
+        return next((line.partition(":")[2].strip() for line in file if line.startswith(name)), "")
 
 
 def processor():
-    with open("/proc/cpuinfo") as file:
-        names = [line.partition(":")[2].strip() for line in file if line.startswith("model name")]
-    return f"{len(os.sched_getaffinity(0))} x {names[0] if names else 'unknown processor'}"
+    return f"{len(os.sched_getaffinity(0))} x {of_processor('model name') or 'unknown processor'}"
+
+
+# Builds
+
+
+def build(cpu, folder):
+    """The program as the toolchain builds it for a processor, in the folder."""
+    flags = [] if cpu == GATE else ["--cpu", cpu]
+    done = subprocess.run(["rt", "run", *flags, "--", "demo", "0"], cwd=CRATE, stdout=subprocess.DEVNULL)
+    if done.returncode:
+        sys.exit(f"bench: the program can't be built for {cpu}: see above")
+    made = os.path.join(folder, "sgm-" + cpu)
+    shutil.copy2(os.path.join(CRATE, "out", "sgm_cli"), made)
+    return made
+
+
+def builds(folder):
+    """Pairs of a name and a program: the gate's build, and the launcher's where it is another, which stays."""
+    if shutil.which("rt") is None:
+        sys.exit("bench: --builds takes rt, the toolchain's command")
+    names = [GATE, BETTER] if NEEDED <= set(of_processor("flags").split()) else [GATE]
+    made = [(name, build(name, folder)) for name in names]
+    os.utime(os.path.join(CRATE, "out", "sgm_cli"))
+    return made
+
+
+# Where the time goes
+
+
+def samples_of(data):
+    """Pairs of a count of samples and the function that ran, from perf's file."""
+    command = ["perf", "report", "-i", data, "--stdio", "-F", "sample,dso,sym", "-t", "|"]
+    text = subprocess.run(command, stdout=subprocess.PIPE, stderr=subprocess.DEVNULL, check=True).stdout.decode()
+    for line in text.splitlines():
+        words = [word.strip() for word in line.split("|", 2)]
+        if line.startswith("#") or len(words) < 3 or not words[0].isdigit():
+            continue
+        count, where, function = int(words[0]), words[1], words[2].partition("] ")[2]
+        if where.startswith("[kernel"):
+            function = "the system"
+        elif not where.startswith("sgm"):
+            function = f"{function} ({where})"
+        # What a function was compiled for is no part of its name.
+        yield count, function.partition("::<#")[0]
+
+
+def print_parts(command, folder, title, opencv):
+    """Where a run's processor time goes, by function, from its samples; beside OpenCV's."""
+    data = os.path.join(folder, "samples")
+    record = ["perf", "record", "-q", "-e", "cpu-clock", "-F", "5000", "-o", data, "--", *command]
+    if subprocess.run(record, stdout=subprocess.DEVNULL, stderr=subprocess.DEVNULL).returncode:
+        sys.exit("bench: --parts: perf can't watch a run here (/proc/sys/kernel/perf_event_paranoid)")
+    counts = {}
+    for count, function in samples_of(data):
+        counts[function] = counts.get(function, 0) + count
+    whole = sum(counts.values())
+    beside = f", OpenCV {1000 * opencv:.0f} ms" if opencv else ""
+    print(f"\n{title}: {whole / 5:.0f} ms of processor time in {whole} samples{beside}\n")
+    row("Function", "ms", "Share", *(["Share of OpenCV's time"] if opencv else []))
+    row("---", "---", "---", *(["---"] if opencv else []))
+    few = {function: count for function, count in counts.items() if count >= whole / 100}
+    few["all others"] = whole - sum(few.values())
+    for function, count in sorted(few.items(), key=lambda it: (it[0] == "all others", -it[1])):
+        more = [f"{100 * count / 5000 / opencv:.1f} %"] if opencv else []
+        row(function, f"{count / 5:.1f}", f"{100 * count / whole:.1f} %", *more)
+
+
+# The tables
 
 
 def row(*words):
     print("| " + " | ".join(words) + " |", flush=True)
 
 
-def main():
-    parser = argparse.ArgumentParser(description=__doc__.split("\n\n")[0])
-    most = min(16, len(os.sched_getaffinity(0)))
-    parser.add_argument("--only", metavar="WIDTHxHEIGHT", help="one size instead of all three")
-    parser.add_argument("--workers", type=int, nargs="+", default=sorted({1, most}))
-    parser.add_argument("--runs", type=int, default=3, help="take the least of so many runs (3)")
-    words = parser.parse_args()
-    cases = [case for case in CASES if words.only in (None, f"{case[0]}x{case[1]}")]
-    if not cases:
-        sys.exit(f"bench: no size {words.only}")
-    with_opencv = opencv_version()
-    # What has to be built is built here, outside the measured time.
-    measured([SGM, "demo", "0"])
-    rival = f"OpenCV {with_opencv}, one thread" if with_opencv else "no OpenCV: `import cv2` fails"
-    print(f"Processor: {processor()}. Least of {words.runs} runs. {rival}.\n")
-    heads = ["Size", "Disparities", "Strips, workers", "Seconds", "Million cells/s", "Memory, MB"]
-    heads += ["OpenCV, seconds", "OpenCV, MB", "Seconds / OpenCV's"] if with_opencv else []
-    row(*heads)
-    row(*["---"] * len(heads))
-    with tempfile.TemporaryDirectory() as folder:
-        for width, height, count in cases:
-            pair = write_pair(folder, width, height)
-            opencv = []
-            if with_opencv:
-                runs = [measured([sys.executable, "-c", OPENCV, *pair, str(count)]) for _ in range(words.runs)]
-                opencv = [min(float(said) for _, _, said in runs), max(memory for _, memory, _ in runs)]
-            for workers in words.workers:
-                strips = 1 if workers == 1 else min(64, 4 * workers)
-                command = [SGM, "match", *pair, write_calibration(folder, count), os.path.join(folder, "out")]
-                command += [f"strips={strips}", f"workers={workers}"]
+def beside(python, pair, count, runs):
+    """The seconds, the memory and the processor's seconds of OpenCV on a pair; nothing where there is none."""
+    if python is None:
+        return []
+    made = [measured([python, "-c", OPENCV, *pair, str(count)]) for _ in range(runs)]
+    seconds, busy = (min(float(said.split()[at]) for _, _, said in made) for at in (0, 1))
+    return [seconds, max(memory for _, memory, _ in made), busy]
+
+
+def splits(words):
+    """Pairs of strips and workers: each number of the one with each of the other, or strips that suit the workers."""
+    if words.strips:
+        return [(strips, workers) for strips in words.strips for workers in words.workers]
+    return [(1 if workers == 1 else min(64, 4 * workers), workers) for workers in words.workers]
+
+
+def heads(words, has_opencv):
+    made = ["Size", "Disparities", "Strips, workers", "Seconds", "Million cells/s", "Memory, MB"]
+    made += ["OpenCV, seconds", "OpenCV, MB", "Seconds / OpenCV's"] if has_opencv else []
+    return ["Build", *made] if words.builds else made
+
+
+def measure(words, cases, programs, python, folder):
+    for width, height, count in cases:
+        pair = write_pair(folder, width, height)
+        calibration, out = write_calibration(folder, count), os.path.join(folder, "out")
+        opencv = beside(python, pair, count, words.runs)
+        for build_name, program in programs:
+            for strips, workers in splits(words):
+                command = [program, "match", *pair, calibration, out, f"strips={strips}", f"workers={workers}"]
                 runs = [measured(command) for _ in range(words.runs)]
                 seconds, memory = min(run[0] for run in runs), max(run[1] for run in runs)
                 cells = [f"{width} x {height}", str(count), f"{strips}, {workers}", f"{seconds:.2f}"]
                 cells += [f"{width * height * count / seconds / 1e6:.1f}", f"{memory:.0f}"]
                 if opencv:
                     cells += [f"{opencv[0]:.2f}", f"{opencv[1]:.0f}", f"{seconds / opencv[0]:.2f}"]
-                row(*cells)
+                row(*([build_name] if words.builds else []), *cells)
+                yield f"{width} x {height}, {count} disparities, {strips}, {workers}, {build_name}", command, opencv
+
+
+def within(low, high):
+    """A reader of whole numbers in that range."""
+
+    def read(word):
+        if not word.isdecimal() or not low <= int(word) <= high:
+            raise argparse.ArgumentTypeError(f"{word} isn't a whole number from {low} to {high}")
+        return int(word)
+
+    return read
+
+
+def words_of():
+    epilog = "Example: bench/bench.py --only 1280x720 --strips 1 16 64 --workers 1 2 4 --builds --parts"
+    parser = argparse.ArgumentParser(description=__doc__.split("\n\n")[0], epilog=epilog)
+    most = min(16, len(os.sched_getaffinity(0)))
+    sizes = sorted({f"{width}x{height}" for width, height, _ in CASES}, key=len)
+    parser.add_argument("--only", choices=sizes, help="one size instead of all three")
+    help_strips = "1 to 64; without it 1 for one worker and four for each where there are more"
+    parser.add_argument("--strips", type=within(1, 64), nargs="+", metavar="N", help=help_strips)
+    help_workers = "1 to 16; without it 1, and as many as there are processors"
+    parser.add_argument("--workers", type=within(1, 16), nargs="+", metavar="N", default=sorted({1, most}), help=help_workers)
+    parser.add_argument("--builds", action="store_true", help=f"build and measure the gate's program ({GATE}) and the launcher's")
+    parser.add_argument("--parts", action="store_true", help="print where the time goes too, by functions (needs Linux's perf)")
+    parser.add_argument("--runs", type=within(1, 1000), metavar="N", default=3, help="take the least of so many runs (3)")
+    return parser.parse_args()
+
+
+def main():
+    words = words_of()
+    cases = [case for case in CASES if words.only in (None, f"{case[0]}x{case[1]}")]
+    if words.parts and shutil.which("perf") is None:
+        sys.exit("bench: --parts takes perf (Debian: linux-perf)")
+    python, version = python_with_opencv()
+    with tempfile.TemporaryDirectory(prefix="sgm-bench.") as folder:
+        # What has to be built is built here, outside the measured time.
+        programs = builds(folder) if words.builds else [(os.path.basename(SGM), SGM)]
+        if words.builds:
+            os.environ.setdefault("GLIBC_TUNABLES", TUNABLES)
+        measured([programs[0][1], "demo", "0"])
+        rival = f"OpenCV {version}, one thread" if python else "no OpenCV: `import cv2` fails"
+        print(f"Processor: {processor()}. Least of {words.runs} runs. {rival}.\n")
+        row(*heads(words, python))
+        row(*["---"] * len(heads(words, python)))
+        done = list(measure(words, cases, programs, python, folder))
+        for title, command, opencv in done if words.parts else ():
+            print_parts(command, folder, title, opencv[2] if opencv else None)
 
 
 if __name__ == "__main__":
-    main()
+    try:
+        main()
+    except OSError as error:
+        sys.exit(f"bench: {error}")

@@ -3,21 +3,20 @@
 # and every height, each against the calibration or the text that the program wrote, and the least and
 # greatest height against the report. Skipped where gdalinfo isn't installed (Debian: gdal-bin). The
 # program is the one that the variable SGM names (./sgm of this repository without it).
+#
+#     tests/asc_gdal.sh
 set -u
-here=$(cd "$(dirname "$0")" && pwd)
-SGM=$(realpath -- "${SGM:-$here/../sgm}")
-if ! command -v gdalinfo gdallocationinfo >/dev/null; then
-    echo "asc_gdal: skipped, gdalinfo isn't installed"
-    exit 0
-fi
-work=$(mktemp -d) || exit 1
-trap 'rm -rf "$work"' EXIT
+# shellcheck source-path=SCRIPTDIR source=common.sh
+. "$(dirname "$0")/common.sh"
+has gdalinfo gdallocationinfo || skip gdalinfo gdal-bin
+need_program
 failed=0
 
+# same WHAT WANTED FOUND
 same() {
     [ "$2" = "$3" ] && return
     failed=$((failed + 1))
-    echo "asc_gdal: $name: $1 is '$3', not '$2'"
+    echo "asc_gdal: $case: $1 is '$3', not '$2'"
 }
 
 of_grid() { python3 -c "import json; grid = json.load(open('$calibration'))['grid']; print($1)"; }
@@ -25,8 +24,8 @@ of_info() { sed -n "s/^ *$1//p" info; }
 
 # check NAME LEFT RIGHT CALIBRATION: runs the program in the folder at hand and asks GDAL about its grid.
 check() {
-    name=$1 calibration=$4
-    "$SGM" match "$2" "$3" "$4" o >/dev/null || { echo "asc_gdal: $SGM failed"; exit 1; }
+    case=$1 calibration=$4
+    "$SGM" match "$2" "$3" "$4" o >/dev/null || { echo "asc_gdal: $case: $SGM failed" >&2; exit 1; }
     gdalinfo -mm o.asc >info || exit 1
     same driver "AAIGrid/Arc/Info ASCII Grid" "$(of_info 'Driver: ')"
     same size "$(of_grid "f\"{grid['cols']}, {grid['rows']}\"")" "$(of_info 'Size is ')"
@@ -41,15 +40,16 @@ check() {
     for ((row = 0; row < rows; row++)); do
         for ((col = 0; col < cols; col++)); do echo "$col $row"; done
     done | gdallocationinfo -valonly o.asc >found
-    tail -n +7 o.asc | tr ' ' '\n' | cmp -s - found || { failed=$((failed + 1)); echo "asc_gdal: $name: heights differ"; }
+    tail -n +7 o.asc | tr ' ' '\n' | cmp -s - found || { failed=$((failed + 1)); echo "asc_gdal: $case: heights differ"; }
     if ! grep -qx -- -2147483648 found || ! grep -qvx -- -2147483648 found; then
         failed=$((failed + 1))
-        echo "asc_gdal: $name: the grid has no filled or no empty cell"
+        echo "asc_gdal: $case: the grid has no filled or no empty cell"
     fi
-    local ends
-    ends=$(grep -vx -- -2147483648 found | sort -n | sed -n '1p;$p' | tr '\n' ' ')
-    same "least and greatest" "$(printf '%d.000,%d.000' $ends)" "$(of_info 'Computed Min\/Max=')"
-    echo "asc_gdal: $name: $(wc -l <found) heights asked of GDAL"
+    local least greatest
+    least=$(grep -vx -- -2147483648 found | sort -n | head -n 1)
+    greatest=$(grep -vx -- -2147483648 found | sort -n | tail -n 1)
+    same "least and greatest" "$least.000,$greatest.000" "$(of_info 'Computed Min\/Max=')"
+    echo "asc_gdal: $case: $(wc -l <found) heights asked of GDAL"
 }
 
 # The case of make_cases.py in which the first region covers the grid: its lowest and highest are those of all cells.

@@ -1,7 +1,7 @@
 #!/usr/bin/env python3
 """Calibrations with one fault each and the line that the program owes for it, written out by hand.
 
-    calibration_cases.py FOLDER
+    tests/calibration_cases.py FOLDER
 
 writes NAME.json and NAME.line for each. They go over the keys of the warps, the camera, the grid and the
 regions: each one missing, of a wrong type, just outside its range on either side, and beside a name that
@@ -9,6 +9,7 @@ isn't known; and over the order of the faults where several stand together. `BOU
 the very ends of the ranges, which have no fault. The pictures are those of 5 x 3 pixels of ends.sh.
 """
 
+import argparse
 import copy
 import itertools
 import json
@@ -241,7 +242,7 @@ def bounds():
     yield "bound-step", warped("left", large)
 
 
-def main(folder):
+def write_cases(folder):
     os.makedirs(folder)
     for name, made, line in faults():
         for ending, text in (("json", json.dumps(made)), ("line", line)):
@@ -249,5 +250,16 @@ def main(folder):
                 file.write(text)
 
 
+def main():
+    epilog = "Example: tests/calibration_cases.py /tmp/calibrations"
+    parser = argparse.ArgumentParser(description=__doc__.split("\n\n")[0], epilog=epilog)
+    parser.add_argument("folder", metavar="FOLDER", help="where the files go; it must not be there")
+    words = parser.parse_args()
+    try:
+        write_cases(words.folder)
+    except OSError as error:
+        sys.exit(f"calibration_cases: {error}")
+
+
 if __name__ == "__main__":
-    main(sys.argv[1])
+    main()

@@ -1,14 +1,15 @@
 #!/usr/bin/env python3
 """Equations that hold the definitions in specs/ against plain Python.
 
-    definitions.py FOLDER [wrong]
+    tests/definitions.py FOLDER [--wrong]
 
 writes into FOLDER a page of lemmas for each layer. The left side of each is a definition over small
 arguments, the right side what the reference gives for them or, for path values, a trial of every sequence.
-`rt check` proves each by computing alone, so it takes part in neither side: see definitions.sh. With `wrong`
+`rt check` proves each by computing alone, so it takes part in neither side: see definitions.sh. With --wrong
 one right side on each page is false, and no page may be proved.
 """
 
+import argparse
 import itertools
 import json
 import os
@@ -571,16 +572,27 @@ def surveys(draw):
 PAGES = [energies, codes, selection, rectification, points, grids, reports, calibrations, words, texts, surveys]
 
 
-def main(folder, *options):
+def write_pages(folder, is_wrong):
     titles, count = [], 0
     for make in PAGES:
         page = make(random.Random(20261127))
-        count += page.write(folder, "wrong" in options)
+        count += page.write(folder, is_wrong)
         titles.append(page.title.capitalize())
     with open(os.path.join(folder, "Lib.antt"), "w", encoding="utf-8") as file:
         file.write("".join(f"pub mod {title}\n" for title in titles))
     print(f"definitions: {count} equations on {len(titles)} pages")
 
 
+def main():
+    parser = argparse.ArgumentParser(description=__doc__.split("\n\n")[0], epilog="Example: tests/definitions.py proofs")
+    parser.add_argument("folder", metavar="FOLDER", help="where the pages go; it has to be there")
+    parser.add_argument("--wrong", action="store_true", help="make one right side on each page false")
+    words = parser.parse_args()
+    try:
+        write_pages(words.folder, words.wrong)
+    except OSError as error:
+        sys.exit(f"definitions: {error}")
+
+
 if __name__ == "__main__":
-    main(*sys.argv[1:])
+    main()

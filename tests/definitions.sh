@@ -1,15 +1,18 @@
 #!/usr/bin/env bash
 # Computes the definitions of specs/ on small arguments, by proofs that only compute, and compares them with
 # plain Python (definitions.py). Every page has to be proved; and with one false value on each page none may be.
-# Needs the toolchain. The program takes no part. Takes many minutes where nothing is proved yet.
+# Skipped where the toolchain (rt) isn't there. The program takes no part. Takes many minutes where nothing is
+# proved yet.
+#
+#     tests/definitions.sh
 set -u
-here=$(cd "$(dirname "$0")" && pwd)
-work=$(mktemp -d) || exit 1
-trap 'rm -rf "$work"' EXIT
+# shellcheck source-path=SCRIPTDIR source=common.sh
+. "$(dirname "$0")/common.sh"
+has rt || { echo "definitions: skipped: the toolchain's command rt isn't on the PATH"; exit 0; }
 crate=$work/crates/sgm_cases
 
 # A copy of the workspace, with one crate more: the pages.
-tar -C "$here/.." --exclude=out --exclude=must-fail -c crates crates.txt HANDLES | tar -C "$work" -x || exit 1
+tar -C "$top" --exclude=out --exclude=must-fail -c crates crates.txt HANDLES | tar -C "$work" -x || exit 1
 mkdir -p "$crate/src" "$crate/specs" "$crate/proofs" || exit 1
 printf '%s\n' '//! Cases of the definitions.' '#![tactic(auto)]' >"$crate/src/lib.rt"
 : >"$crate/specs/Lib.antt"
@@ -23,13 +26,13 @@ check() {
 }
 
 python3 "$here/definitions.py" "$crate/proofs" || exit 1
-differ=$(check)
+differ=$(check | tr '\n' ' ')
 if [ -n "$differ" ] || ! grep -q '^crate sgm_cases: ' "$work/log" || ! tail -n 1 "$work/log" | grep -q '^logic=proved'; then
     tail -n 40 "$work/log"
-    echo "definitions: not proved:" $differ
+    echo "definitions: not proved: $differ"
     exit 1
 fi
-python3 "$here/definitions.py" "$crate/proofs" wrong >/dev/null || exit 1
-missed=$(check | comm -13 - <(sed 's/pub mod //' "$crate/proofs/Lib.antt" | sort))
-[ -z "$missed" ] || { echo "definitions: a false value is proved on:" $missed; exit 1; }
+python3 "$here/definitions.py" "$crate/proofs" --wrong >/dev/null || exit 1
+missed=$(check | comm -13 - <(sed 's/pub mod //' "$crate/proofs/Lib.antt" | sort) | tr '\n' ' ')
+[ -z "$missed" ] || { echo "definitions: a false value is proved on: $missed"; exit 1; }
 echo "definitions: all hold, and no page with a false value"

@@ -3,11 +3,11 @@
 # calibration and one thing that is wrong, and asks for the status, the line on standard error, what
 # is on standard output, and exactly the files that stand afterwards, each output whole. The program is
 # the one that the variable SGM names (./sgm of this repository without it).
+#
+#     tests/ends.sh
 set -u
-here=$(cd "$(dirname "$0")" && pwd)
-SGM=$(realpath -- "${SGM:-$here/../sgm}")
-work=$(mktemp -d) || exit 1
-trap 'chmod -R u+rwx "$work"; rm -rf "$work"' EXIT
+# shellcheck source-path=SCRIPTDIR source=common.sh
+. "$(dirname "$0")/common.sh"
 passed=0 failed=0
 outputs=(o.pgm o.asc o.csv)
 
@@ -22,8 +22,8 @@ regions='"regions":[{"name":"all","col":0,"row":0,"cols":4,"rows":3,"base":40000
 
 # A new folder with the pair and its calibration; the words are those of a good run.
 begin() {
-    name=$1
-    folder=$work/${name//[^a-z0-9]/-}
+    case=$1
+    local folder=$work/${case//[^a-z0-9]/-}
     words=(match l.pgm r.pgm c.json o)
     mkdir "$folder" && cd "$folder" || exit 1
     printf 'P5\n5 3\n255\n\132\12\62\24\50\132\12\62\24\50\132\12\62\24\50' >l.pgm
@@ -54,7 +54,7 @@ ends() {
         wrong+=("standard error has '$(cat "$work/err")', not '$line'")
     if [ "$summary" = - ]; then printf ''; else printf '%s\n' "$summary"; fi | cmp -s - "$work/out" ||
         wrong+=("standard output has '$(cat "$work/out")', not '$summary'")
-    [ "$(ls -A)" = "$(printf '%s\n' "$before" "$@" | sort -u)" ] || wrong+=("the files are $(echo *)")
+    [ "$(ls -A)" = "$(printf '%s\n' "$before" "$@" | sort -u)" ] || wrong+=("the files are $(find . -mindepth 1 -printf '%P ')")
     for file in "$@"; do
         cmp -s "$file" "$whole/$file" || wrong+=("$file isn't whole")
     done
@@ -62,7 +62,7 @@ ends() {
         passed=$((passed + 1))
     else
         failed=$((failed + 1))
-        printf "wrong: $name: %s\n" "${wrong[@]}"
+        printf "wrong: $case: %s\n" "${wrong[@]}"
     fi
     cd "$work" || exit 1
 }
@@ -89,8 +89,7 @@ all,9,3,90000000000,0,50000,50000
 east,0,1,0,0,,
 CSV
 
-# What has to be built is built here, so that its messages come into no case.
-"$SGM" demo 0 >/dev/null || { echo "ends: $SGM doesn't run" >&2; exit 1; }
+need_program
 
 begin "done"
 ends 0 - 'valid 15 of 15' "${outputs[@]}"
@@ -224,7 +223,8 @@ corner=0
 for below in "1 1 0" "-1 0 4" "0 -1 2" "-1 -1 6" "-1 -1 5"; do
     for side in left right; do
         begin "a denominator $side $below"
-        bad=$(matrix 1 0 0 0 1 0 $below)
+        read -ra last <<<"$below"
+        bad=$(matrix 1 0 0 0 1 0 "${last[@]}")
         if [ $side = left ]; then warped "$bad" "$identity"; else warped "$identity" "$bad"; fi
         ends 3 "sgm: $side warp: denominator not positive at corner $((corner < 3 ? corner : 3))" -
     done
@@ -275,7 +275,7 @@ begin "a full standard error"
 rm l.pgm
 err=/dev/full ends 4 - -
 
-# The reference knows no want of memory.
+# The reference never runs out of memory.
 if [ "$(basename "$SGM")" != reference.py ]; then
     begin "no memory"
     words=(match large.pgm large.pgm - o)

@@ -1,11 +1,22 @@
 #!/usr/bin/env python3
 """Path values of tiny problems, by trying every sequence of indices along whole rays.
 
+    tests/least_energies.py [--check]
+
 It knows nothing of a recurrence: the least energy is the least over all sequences, and a path value is
 the least energy of the ray among the sequences that end in an index, less the least energy of the ray
-without its last pixel. The tables that it prints stand in the tests of sgm_path.
+without its last pixel. It prints tables, which stand in the tests of sgm_path. With --check it looks
+through these tests and tries each row that stands there.
 """
+
+import argparse
+import glob
+import os
+import re
+import sys
 from itertools import product
+
+TESTS = os.path.join(os.path.dirname(os.path.abspath(__file__)), "..", "crates", "sgm_path", "src", "*.rt")
 
 OFFSETS = {
     "Right": (1, 0),
@@ -83,7 +94,45 @@ IMAGE = [
 ]
 IMAGE_PENALTIES = (2, 5)
 
-if __name__ == "__main__":
+NUMBERS = r"&?\[([0-9, ]*)\]"
+ROW = re.compile(rf"\(\((\d+), (\d+)\), (\d+), {NUMBERS}, {NUMBERS}, {NUMBERS}\)")
+ROW_OF_THREE = rf"\[{NUMBERS}, {NUMBERS}, {NUMBERS}\]"
+TABLE = re.compile(rf"\(Dir::(\w+), {ROW_OF_THREE}\)")
+
+
+def numbers_of(text):
+    return [int(word) for word in text.split(",")]
+
+
+def tests_text():
+    """The tests with single spaces between words and no comma before a bracket that closes."""
+    text = ""
+    for name in sorted(glob.glob(TESTS)):
+        with open(name, encoding="utf-8") as file:
+            text += file.read()
+    text = re.sub(r"\s+", " ", text)
+    return re.sub(r",? ([)\]])", r"\1", re.sub(r"([(\[]) ", r"\1", text))
+
+
+def check():
+    """Tries the rows and tables that stand in the tests, and says how many are right."""
+    right, wrong = 0, 0
+    text = tests_text()
+    for found in ROW.finditer(text):
+        p1, p2, count = map(int, found.groups()[:3])
+        costs, *values = map(numbers_of, found.groups()[3:])
+        row = [costs[at : at + count] for at in range(0, len(costs), count)]
+        tried = [flat(path_values([row], dir, p1, p2)[0]) for dir in ("Right", "Left")]
+        right, wrong = right + (values == tried), wrong + (values != tried)
+    for found in TABLE.finditer(text):
+        tried = path_values(IMAGE, found[1], *IMAGE_PENALTIES)
+        is_right = list(map(numbers_of, found.groups()[1:])) == [flat(row) for row in tried]
+        right, wrong = right + is_right, wrong + (not is_right)
+    print(f"least_energies: {right} rows and tables of sgm_path's tests are right, {wrong} wrong")
+    return 0 if right and not wrong else 1
+
+
+def print_tables():
     print("rows: penalties, count, costs, values to the right, values to the left")
     for p1, p2, row in ROWS:
         right = path_values([row], "Right", p1, p2)[0]
@@ -93,3 +142,14 @@ if __name__ == "__main__":
     for dir in OFFSETS:
         rows = path_values(IMAGE, dir, *IMAGE_PENALTIES)
         print(f"(Dir::{dir}, [{', '.join(str(flat(row)) for row in rows)}]),")
+
+
+def main():
+    parser = argparse.ArgumentParser(description=__doc__.split("\n\n")[0], epilog="Example: tests/least_energies.py --check")
+    parser.add_argument("--check", action="store_true", help="try the rows that stand in the tests of sgm_path")
+    words = parser.parse_args()
+    return check() if words.check else print_tables()
+
+
+if __name__ == "__main__":
+    sys.exit(main())

@@ -1,5 +1,7 @@
 #!/usr/bin/env python3
-"""Makes the cases of compare.sh: `make_cases.py FOLDER` writes one folder for each case.
+"""Makes the cases of compare.sh: one folder for each, in a new folder.
+
+    tests/make_cases.py FOLDER
 
 A case has the file `words`, one word a line, and the files that the words name. The pictures are
 small and drawn from fixed numbers, so the cases are the same each time. They go over sizes, spans,
@@ -7,6 +9,7 @@ windows, penalties, options, warps, cameras, grids, regions, and the refusals. T
 example with the heap.
 """
 
+import argparse
 import json
 import os
 import sys
@@ -270,7 +273,7 @@ def refusals(left, right):
     yield bad("output-is-input", "match l.pgm o.pgm c.json o")
 
 
-def main(folder):
+def write_cases(folder):
     for name, files in cases():
         os.makedirs(os.path.join(folder, name))
         for file_name, data in files.items():
@@ -280,5 +283,15 @@ def main(folder):
                 file.write(data if isinstance(data, bytes) else data.encode())
 
 
+def main():
+    parser = argparse.ArgumentParser(description=__doc__.split("\n\n")[0], epilog="Example: tests/make_cases.py /tmp/cases")
+    parser.add_argument("folder", metavar="FOLDER", help="where the cases go; none of them may be there")
+    words = parser.parse_args()
+    try:
+        write_cases(words.folder)
+    except OSError as error:
+        sys.exit(f"make_cases: {error}")
+
+
 if __name__ == "__main__":
-    main(sys.argv[1])
+    main()

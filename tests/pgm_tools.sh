@@ -1,32 +1,30 @@
 #!/usr/bin/env bash
-# Lets the built program read PGM files that Netpbm's tools have made: as one byte and as two bytes a
-# sample, and through PNG. SGM names the program, ./sgm if unset. What isn't installed is skipped.
+# Lets the program read PGM files that Netpbm's tools have made: as one byte and as two bytes a sample,
+# and through PNG. Skipped where they aren't installed (Debian: netpbm). The program is the one that the
+# variable SGM names (./sgm of this repository without it).
+#
+#     tests/pgm_tools.sh
 set -u -o pipefail
-sgm=${SGM:-./sgm}
-[ -x "$sgm" ] || { echo "there is no program $sgm: set SGM"; exit 1; }
-folder=$(mktemp -d)
-trap 'rm -rf "$folder"' EXIT
+# shellcheck source-path=SCRIPTDIR source=common.sh
+. "$(dirname "$0")/common.sh"
+has pgmmake pamdepth pnmtopng pngtopnm || skip Netpbm netpbm
+need_program
 failed=0
 
-has() {
-    for tool; do
-        command -v "$tool" >/dev/null || { echo "skipped: $tool isn't installed"; return 1; }
-    done
-}
-
-# The file of 20 x 10 pixels, matched with itself, gives disparities of the same size.
+# reads FILE: the file of 20 x 10 pixels, matched with itself, gives disparities of the same size.
 reads() {
-    if "$sgm" match "$1" "$1" - "$folder/out" >/dev/null &&
-        head -n 3 "$folder/out.pgm" | tr '\n' ' ' | grep -aqx 'P5 20 10 65535 '; then
-        echo "ok: ${1##*/}"
+    if "$SGM" match "$work/$1" "$work/$1" - "$work/out" >/dev/null &&
+        head -n 3 "$work/out.pgm" | tr '\n' ' ' | grep -aqx 'P5 20 10 65535 '; then
+        echo "pgm_tools: $1 is read"
     else
-        echo "FAILED: ${1##*/}"
+        echo "pgm_tools: $1 isn't read"
         failed=1
     fi
-    rm -f "$folder/out.pgm"
+    rm -f "$work/out.pgm"
 }
 
-has pgmmake && pgmmake 0.5 20 10 >"$folder/single.pgm" && reads "$folder/single.pgm"
-has pgmmake pamdepth && pgmmake 0.5 20 10 | pamdepth 65535 >"$folder/double.pgm" && reads "$folder/double.pgm"
-has pgmmake pnmtopng pngtopnm && pgmmake 0.5 20 10 | pnmtopng | pngtopnm >"$folder/png.pgm" && reads "$folder/png.pgm"
-exit $failed
+pgmmake 0.5 20 10 >"$work/single.pgm" && reads single.pgm || failed=1
+pgmmake 0.5 20 10 | pamdepth 65535 >"$work/double.pgm" && reads double.pgm || failed=1
+pgmmake 0.5 20 10 | pnmtopng | pngtopnm >"$work/png.pgm" && reads png.pgm || failed=1
+[ "$failed" = 0 ] && echo "pgm_tools: all three are read"
+[ "$failed" = 0 ]

@@ -3,7 +3,7 @@
 
 It takes the words of `sgm match` and `sgm demo` and is meant for small pictures: it goes pixel by
 pixel, needs some microseconds for each pixel and disparity, and hundreds of bytes. compare.sh sets
-the program against it, byte for byte. It knows no want of memory (status 6).
+the program against it, byte for byte. It never runs out of memory (status 6).
 """
 
 import os

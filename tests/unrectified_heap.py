@@ -1,6 +1,8 @@
 #!/usr/bin/env python3
 """Measures the heap of examples/stockpile through two cameras as they are, from their OpenCV calibration on.
 
+    tests/unrectified_heap.py
+
 The heap is photographed anew by two made-up cameras of unequal focal lengths, whose lenses bend and which
 are turned a little out of level. tools/opencv_calibration.py makes meshes of their calibration, the program
 rectifies and measures, and the volume and the height have to be near those of the cone. So a mesh that led
@@ -8,6 +10,7 @@ the wrong way, exchanged cameras or a wrong unit would show. The program is the 
 names (./sgm of this repository without it). Takes a minute.
 """
 
+import argparse
 import json
 import os
 import subprocess
@@ -78,11 +81,14 @@ def survey(folder):
 
 
 def main():
-    with tempfile.TemporaryDirectory() as folder:
-        _, cells, empty, fill, cut, _, highest = survey(folder)
-        # Prints the comparison, and stops where the report isn't the sum of the cells.
-        sys.argv = [sys.argv[0], os.path.join(folder, "o")]
-        compare_truth.main()
+    argparse.ArgumentParser(description=__doc__.split("\n\n")[0], epilog="Example: tests/unrectified_heap.py").parse_args()
+    with tempfile.TemporaryDirectory(prefix="sgm-unrectified_heap.") as folder:
+        try:
+            _, cells, empty, fill, cut, _, highest = survey(folder)
+            # Prints the comparison, and stops where the report isn't the sum of the cells.
+            compare_truth.compare(os.path.join(folder, "o"))
+        except (OSError, subprocess.CalledProcessError, compare_truth.NotASurvey) as error:
+            sys.exit(f"unrectified_heap: {error}")
     volume = compare_truth.true_volume()
     is_near = abs(int(fill) - int(cut) - volume) < volume / 50 and abs(int(highest) - heap.CONE_HEIGHT) < 100_000
     is_filled = int(empty) < int(cells) // 20

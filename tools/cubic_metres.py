@@ -16,8 +16,11 @@ the numbers are rounded to so many decimals, halves away from 0. The table goes 
 
 import argparse
 import csv
+import os
 import re
 import sys
+
+from rasters import fault
 
 HEAD = ["region", "cells", "empty", "fill", "cut", "lowest", "highest"]
 NEW_HEAD = ["region", "cells", "empty", "fill_m3", "cut_m3", "net_m3", "lowest_m", "highest_m"]
@@ -59,21 +62,27 @@ def table(lines, digits):
 
 
 def main():
-    parser = argparse.ArgumentParser(description=__doc__.split("\n\n")[0])
-    parser.add_argument("file", metavar="OUT.csv")
-    parser.add_argument("--out", metavar="FILE.csv")
-    parser.add_argument("--digits", type=int, choices=range(19), metavar="N", help="decimals, 0 to 18")
+    epilog = "Example: tools/cubic_metres.py heap.csv --digits 3"
+    parser = argparse.ArgumentParser(description=__doc__.split("\n\n")[0], epilog=epilog)
+    parser.add_argument("file", metavar="OUT.csv", help="the report that sgm has written")
+    parser.add_argument("--out", metavar="FILE.csv", help="the new table (standard output if not given)")
+    parser.add_argument("--digits", type=int, choices=range(19), metavar="N", help="decimals, 0 to 18 (all if not given)")
     words = parser.parse_args()
     try:
-        with open(words.file, newline="") as file:
+        with open(words.file, newline="", encoding="ascii", errors="replace") as file:
             made = list(table(list(csv.reader(file)), words.digits))
         if words.out is None:
             csv.writer(sys.stdout, lineterminator="\n").writerows(made)
+            sys.stdout.flush()
         else:
             with open(words.out, "w", newline="") as file:
                 csv.writer(file, lineterminator="\n").writerows(made)
-    except (OSError, ValueError) as error:
-        sys.exit(f"cubic_metres: {words.file}: {error}")
+    except BrokenPipeError:
+        # Nobody reads on. What is still to be written would fail once more at the end.
+        os.dup2(os.open(os.devnull, os.O_WRONLY), sys.stdout.fileno())
+        sys.exit("cubic_metres: standard output was closed")
+    except (OSError, ValueError, csv.Error) as error:
+        sys.exit(f"cubic_metres: {fault(error, words.file)}")
 
 
 if __name__ == "__main__":

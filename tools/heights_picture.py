@@ -10,26 +10,13 @@ becomes a square of --zoom pixels. It is a display, not a measurement. Needs Pyt
 """
 
 import argparse
-import struct
 import sys
-import zlib
+
+from rasters import COLOUR, fault, png, read_heights
 
 # Colours from low to high, between which the others lie in proportion.
 SCALE = [(70, 130, 80), (150, 180, 95), (225, 205, 125), (175, 120, 75), (150, 100, 85), (250, 250, 250)]
 EMPTY = (0, 0, 0)
-NAMES = ["ncols", "nrows", "xllcorner", "yllcorner", "cellsize", "nodata_value"]
-
-
-def read_heights(text):
-    """The cell's size, and the rows of heights from the north, None where a cell is empty."""
-    words = text.split()
-    if [word.lower() for word in words[0:12:2]] != NAMES:
-        raise ValueError("not a height grid of sgm")
-    cols, rows, size, nothing = int(words[1]), int(words[3]), int(words[9]), words[11]
-    cells = [None if word == nothing else int(word) for word in words[12:]]
-    if len(cells) != cols * rows or not cells:
-        raise ValueError(f"{len(cells)} heights, {cols * rows} needed")
-    return size, [cells[at : at + cols] for at in range(0, len(cells), cols)]
 
 
 def colour_of(height, low, high):
@@ -66,35 +53,28 @@ def shaded(rows, size, low, high):
         yield colours
 
 
-def png(rows, zoom):
-    """The bytes of a PNG of 8 bits a channel, each colour becoming a square of zoom pixels."""
-
-    def chunk(kind, body):
-        return struct.pack(">I", len(body)) + kind + body + struct.pack(">I", zlib.crc32(kind + body))
-
-    head = struct.pack(">IIBBBBB", len(rows[0]) * zoom, len(rows) * zoom, 8, 2, 0, 0, 0)
-    # Each row begins with the number of its filter, 0 for none.
-    lines = [b"\0" + b"".join(bytes(colour) * zoom for colour in row) for row in rows]
-    raster = zlib.compress(b"".join(line * zoom for line in lines), 9)
-    chunks = [(b"IHDR", head), (b"IDAT", raster), (b"IEND", b"")]
-    return b"\x89PNG\r\n\x1a\n" + b"".join(chunk(*it) for it in chunks)
+def picture(rows, zoom):
+    """The bytes of a PNG, each colour becoming a square of zoom pixels."""
+    lines = [b"".join(bytes(colour) * zoom for colour in row) for row in rows for _ in range(zoom)]
+    return png(len(rows[0]) * zoom, len(rows) * zoom, COLOUR, lines)
 
 
 def main():
-    parser = argparse.ArgumentParser(description=__doc__.split("\n\n")[0])
-    parser.add_argument("file", metavar="OUT.asc")
-    parser.add_argument("--out", required=True, metavar="FILE.png")
-    parser.add_argument("--zoom", type=int, default=4, choices=range(1, 17), metavar="PIXELS")
+    epilog = "Example: tools/heights_picture.py heap.asc --out heap.png --zoom 2"
+    parser = argparse.ArgumentParser(description=__doc__.split("\n\n")[0], epilog=epilog)
+    parser.add_argument("file", metavar="OUT.asc", help="the heights that sgm has written")
+    parser.add_argument("--out", required=True, metavar="FILE.png", help="the picture")
+    parser.add_argument("--zoom", type=int, default=4, choices=range(1, 17), metavar="PIXELS", help="side of a cell, 1 to 16 (4)")
     words = parser.parse_args()
     try:
-        with open(words.file) as file:
+        with open(words.file, encoding="ascii", errors="replace") as file:
             size, rows = read_heights(file.read())
         filled = sorted(height for row in rows for height in row if height is not None)
         low, high = (filled[len(filled) // 100], filled[-1 - len(filled) // 100]) if filled else (0, 0)
         with open(words.out, "wb") as file:
-            file.write(png(list(shaded(rows, size, low, high)), words.zoom))
+            file.write(picture(list(shaded(rows, size, low, high)), words.zoom))
     except (OSError, ValueError) as error:
-        sys.exit(f"heights_picture: {words.file}: {error}")
+        sys.exit(f"heights_picture: {fault(error, words.file)}")
     print(f"{low} (green) to {high} (white) micrometres of height" if filled else "every cell is empty")
 
 

@@ -4,7 +4,7 @@
     tools/opencv_calibration.py FILE.. --unit mm --near N --far N --mount N --out calibration.json
 
 FILE is JSON, or YAML or XML as cv2.FileStorage writes it; several files are taken together. They have
-the camera matrices, the distortions, R and T as cv2.stereoCalibrate gives them, the first camera being
+the camera matrices, the distortions (4, 5, 8, 12 or 14 numbers, the tilt of the sensor being 0), R and T as cv2.stereoCalibrate gives them, the first camera being
 the left one, under the names M1 D1 M2 D2 (or K1 K2, or cameraMatrix1 distCoeffs1 and so on), R, T, and
 the size of the pictures as imageSize (or image_width and image_height, or --size WxH). In JSON a matrix
 is a list of rows or of numbers. Where R1 R2 P1 P2 of cv2.stereoRectify are there too, they are used as
@@ -20,7 +20,10 @@ Needs Python alone, but OpenCV's package (cv2) for YAML, for XML and for --alpha
 import argparse
 import json
 import math
+import re
 import sys
+
+from rasters import fault
 
 MICROMETRES = {"um": 1, "mm": 1000, "cm": 10000, "m": 1000000}
 NAMES = {
@@ -37,12 +40,16 @@ NAMES = {
 }
 COUNTS = {"K1": [9], "K2": [9], "D1": [4, 5, 8, 12, 14], "D2": [4, 5, 8, 12, 14], "R": [9], "T": [3]}
 COUNTS |= {"R1": [9], "R2": [9], "P1": [12], "P2": [12]}
+# The ranges of a grid's numbers: west, south, cell, cols, rows.
+GRID = [(-2000000000, 2000000000), (-2000000000, 2000000000), (1, 1000000000), (1, 4096), (1, 4096)]
 # Meshes: the steps that are tried, how close one has to be to the map in pixels, the range of a node's
 # numbers, and how long a calibration may be in bytes.
 STEPS = (64, 32, 16, 8, 4)
 CLOSE_ENOUGH = 1 / 32
 FARTHEST = 16777216
 LONGEST = 16777216
+# No number of a camera is greater. NaN and infinity aren't up to it either.
+MOST = 1e18
 
 
 class Wrong(Exception):
@@ -53,8 +60,11 @@ class Wrong(Exception):
 
 
 def read_json(name):
-    with open(name) as file:
-        top = json.load(file)
+    try:
+        with open(name, encoding="utf-8") as file:
+            top = json.load(file)
+    except (ValueError, RecursionError) as error:
+        raise Wrong(f"{name}: not JSON: {error}")
     if not isinstance(top, dict):
         raise Wrong(f"{name}: not a JSON object")
     # A matrix as cv2.FileStorage writes it has its numbers under `data`.
@@ -63,13 +73,22 @@ def read_json(name):
 
 def read_storage(name):
     """The matrices and numbers of a YAML or XML file."""
+    # A missing file is told first, and without OpenCV's messages.
+    with open(name, "rb"):
+        pass
     try:
         import cv2
     except ImportError:
         raise Wrong(f"{name}: OpenCV's package (cv2) is needed for YAML and XML; JSON is read without it")
-    storage = cv2.FileStorage(name, cv2.FILE_STORAGE_READ)
+    try:
+        return found_in(cv2.FileStorage(name, cv2.FILE_STORAGE_READ), name)
+    except (cv2.error, SystemError):
+        raise Wrong(f"{name}: OpenCV can't read it")
+
+
+def found_in(storage, name):
     if not storage.isOpened():
-        raise Wrong(f"{name}: can't be opened")
+        raise Wrong(f"{name}: OpenCV can't read it")
     found = {}
     for key in storage.root().keys():
         node = storage.getNode(key)
@@ -86,8 +105,8 @@ def flat(value):
     """The numbers of a list of rows, or of a list."""
     if isinstance(value, list):
         return [number for part in value for number in flat(part)]
-    if isinstance(value, bool) or not isinstance(value, (int, float)):
-        raise Wrong(f"{value!r} isn't a number")
+    if isinstance(value, bool) or not isinstance(value, (int, float)) or not abs(value) <= MOST:
+        raise Wrong(f"{value!r:.60} isn't a number")
     return [float(value)]
 
 
@@ -124,12 +143,14 @@ def read_calibration(files, size):
 
 def size_in(found):
     if "imageSize" in found:
-        width, height = flat(found["imageSize"])
+        sides = flat(found["imageSize"])
     elif "image_width" in found and "image_height" in found:
-        width, height = found["image_width"], found["image_height"]
+        sides = flat([found["image_width"], found["image_height"]])
     else:
         raise Wrong("the size of the pictures is missing: --size WxH")
-    return int(width), int(height)
+    if len(sides) != 2 or not all(side.is_integer() for side in sides):
+        raise Wrong("the size of the pictures isn't two whole numbers")
+    return int(sides[0]), int(sides[1])
 
 
 # Rectifying: both cameras are turned halfway towards each other, and then so that the baseline is level
@@ -394,40 +415,96 @@ def text_of(whole):
     return "{" + ",\n ".join(lines) + "}\n"
 
 
-def size_word(word):
-    width, height = word.lower().split("x")
-    return int(width), int(height)
+# Words
 
 
-def main():
-    parser = argparse.ArgumentParser(description=__doc__.split("\n\n")[0])
+def whole_word(low, high):
+    """A reader of whole numbers in that range."""
+
+    def read(word):
+        if not re.fullmatch("-?[0-9]+", word) or not low <= int(word) <= high:
+            raise argparse.ArgumentTypeError(f"{word} isn't a whole number from {low} to {high}")
+        return int(word)
+
+    return read
+
+
+def sides_word(widths, heights):
+    """A reader of WxH, each among so many."""
+
+    def read(word):
+        found = re.fullmatch("([0-9]+)[xX]([0-9]+)", word)
+        if not found or int(found[1]) not in widths or int(found[2]) not in heights:
+            raise argparse.ArgumentTypeError(f"{word} isn't a width x height in range")
+        return int(found[1]), int(found[2])
+
+    return read
+
+
+def part_word(word):
+    try:
+        if 0 <= float(word) <= 1:
+            return float(word)
+    except ValueError:
+        pass
+    raise argparse.ArgumentTypeError(f"{word} isn't a number from 0 to 1")
+
+
+def words_of():
+    """The words, in their ranges: what the program would refuse in its calibration is refused here."""
+    epilog = """example:
+  tools/opencv_calibration.py intrinsics.yml extrinsics.yml --size 1280x960 --unit mm \\
+      --near 6000000 --far 9000000 --mount 8500000 --out calibration.json"""
+    layout = argparse.RawDescriptionHelpFormatter
+    parser = argparse.ArgumentParser(description=__doc__.split("\n\n")[0], epilog=epilog, formatter_class=layout)
     option = parser.add_argument
     option("files", nargs="+", metavar="FILE", help="JSON, or YAML or XML of cv2.FileStorage")
     option("--out", required=True, metavar="FILE.json")
     option("--unit", required=True, choices=MICROMETRES, help="the unit of T")
-    for name in ("near", "far", "mount"):
-        option(f"--{name}", required=True, type=int, metavar="MICROMETRES")
-    option("--size", type=size_word, metavar="WxH", help="of the pictures, where the files don't have it")
-    option("--first", type=int, help="the first disparity, in place of that of --far")
-    option("--count", type=int, help="how many disparities, in place of those up to --near")
-    option("--census", type=size_word, default=(9, 7), metavar="WxH", help="9x7 if not given")
-    option("--penalties", type=int, nargs=2, default=(10, 120), metavar=("P1", "P2"), help="10 120 if not given")
-    option("--grid", type=int, nargs=5, metavar=("WEST", "SOUTH", "CELL", "COLS", "ROWS"))
-    option("--step", type=int, choices=range(2, 1025), metavar="PIXELS", help="of the meshes; chosen if not given")
+    distance, least = whole_word(1, 2000000000), "the least distance that is measured"
+    option("--near", required=True, type=distance, metavar="MICROMETRES", help=least)
+    option("--far", required=True, type=distance, metavar="MICROMETRES", help="the greatest one")
+    height = "the left camera's height above the place where heights are 0"
+    option("--mount", required=True, type=whole_word(0, 2000000000), metavar="MICROMETRES", help=height)
+    sides = sides_word(range(1, 4097), range(1, 4097))
+    option("--size", type=sides, metavar="WxH", help="of the pictures, where the files don't have it")
+    option("--first", type=whole_word(-1024, 1024), help="the first disparity, in place of that of --far")
+    option("--count", type=whole_word(1, 256), help="how many disparities, in place of those up to --near")
+    window = sides_word((3, 5, 7, 9), (3, 5, 7))
+    option("--census", type=window, default=(9, 7), metavar="WxH", help="the window: 3, 5, 7, 9 by 3, 5, 7 (9x7)")
+    penalty = whole_word(1, 4000)
+    option("--penalties", type=penalty, nargs=2, default=(10, 120), metavar=("P1", "P2"), help="1 to 4000 each (10 120)")
+    names = ("WEST", "SOUTH", "CELL", "COLS", "ROWS")
+    option("--grid", type=int, nargs=5, metavar=names, help="of heights: lower left corner and cell in micrometres")
+    option("--step", type=whole_word(2, 1024), metavar="PIXELS", help="of the meshes; chosen if not given")
     option("--centred", action="store_true", help="each picture about its own middle, so that doffs isn't 0")
-    option("--alpha", type=float, help="of cv2.stereoRectify: 0 fills the picture, 1 loses nothing; needs cv2")
+    option("--alpha", type=part_word, help="of cv2.stereoRectify: 0 fills the picture, 1 loses nothing; needs cv2")
     words = parser.parse_args()
+    if words.near > words.far:
+        parser.error("--near is above --far")
+    if words.penalties[0] > words.penalties[1]:
+        parser.error("--penalties: P1 is above P2")
+    for name, value, (low, high) in zip(names, words.grid or (), GRID):
+        if not low <= value <= high:
+            parser.error(f"--grid: {name} {value} isn't from {low} to {high}")
+    return words
+
+
+def main():
+    words = words_of()
     try:
-        if not (1 <= words.near <= words.far <= 2000000000 and 0 <= words.mount <= 2000000000):
-            raise Wrong("near is 1 to far, far up to 2000000000, mount 0 to 2000000000")
         whole, line = calibration(read_calibration(words.files, words.size), words)
         text = text_of(whole)
         if len(text) > LONGEST:
             raise Wrong(f"the file would be too long, {len(text)} bytes: give a larger --step")
         with open(words.out, "w") as file:
             file.write(text)
-    except (OSError, ValueError, Wrong) as error:
+    except OSError as error:
+        sys.exit(f"opencv_calibration: {fault(error, words.out)}")
+    except Wrong as error:
         sys.exit(f"opencv_calibration: {error}")
+    except (ArithmeticError, ValueError) as error:
+        sys.exit(f"opencv_calibration: no cameras have these numbers: {error}")
     print(line)
 
 

@@ -12,38 +12,31 @@ printed. Needs Python alone.
 """
 
 import argparse
+import re
 import struct
 import sys
-import zlib
+
+import rasters
 
 MAGENTA = (200, 0, 120)
 # Entry 0 of the palette is for no value, the others are the greys from dark to light.
 PALETTE = [MAGENTA] + [(level,) * 3 for level in range(1, 256)]
 DARKEST, LIGHTEST = 16, 255
+HEAD = re.compile(rb"P5\n([0-9]+) ([0-9]+)\n65535\n")
 
 
 def read_disparities(data):
     """Rows of values in sixteenths of a pixel above the first disparity, None where there is none."""
-    magic, size, maxval, raster = data.split(b"\n", 3)
-    width, height = map(int, size.split())
-    if magic != b"P5" or maxval != b"65535" or len(raster) < 2 * width * height:
+    head = HEAD.match(data)
+    if not head:
         raise ValueError("not a disparity picture of sgm")
-    samples = struct.unpack(f">{width * height}H", raster[: 2 * width * height])
+    width, height = int(head[1]), int(head[2])
+    raster = data[head.end() :]
+    if not width * height or len(raster) != 2 * width * height:
+        raise ValueError(f"{len(raster)} bytes of disparities, {2 * width * height} needed")
+    samples = struct.unpack(f">{width * height}H", raster)
     values = [sample - 16 if sample else None for sample in samples]
     return [values[y * width : (y + 1) * width] for y in range(height)]
-
-
-def read_heights(data):
-    """Rows of values of an ESRI ASCII grid of whole numbers, None for its NODATA value."""
-    words = data.split()
-    names = [word.lower() for word in words[0:12:2]]
-    if names != [b"ncols", b"nrows", b"xllcorner", b"yllcorner", b"cellsize", b"nodata_value"]:
-        raise ValueError("not a height grid of sgm")
-    cols, rows, nothing = int(words[1]), int(words[3]), words[11]
-    values = [None if word == nothing else int(word) for word in words[12:]]
-    if len(values) != cols * rows:
-        raise ValueError(f"{len(values)} heights, {cols * rows} needed")
-    return [values[y * cols : (y + 1) * cols] for y in range(rows)]
 
 
 def stretched(rows):
@@ -61,34 +54,22 @@ def stretched(rows):
     return [bytes(greys[value] for value in row) for row in rows], low, high
 
 
-def png(rows):
-    """The bytes of a PNG of 8 bits a pixel, from rows of palette numbers."""
-
-    def chunk(kind, body):
-        return struct.pack(">I", len(body)) + kind + body + struct.pack(">I", zlib.crc32(kind + body))
-
-    head = struct.pack(">IIBBBBB", len(rows[0]), len(rows), 8, 3, 0, 0, 0)
-    palette = bytes(channel for colour in PALETTE for channel in colour)
-    # Each row begins with the number of its filter, 0 for none.
-    raster = zlib.compress(b"".join(b"\0" + row for row in rows), 9)
-    chunks = [(b"IHDR", head), (b"PLTE", palette), (b"IDAT", raster), (b"IEND", b"")]
-    return b"\x89PNG\r\n\x1a\n" + b"".join(chunk(*it) for it in chunks)
-
-
 def main():
-    parser = argparse.ArgumentParser(description=__doc__.split("\n\n")[0])
-    parser.add_argument("file", help="OUT.pgm or OUT.asc")
-    parser.add_argument("--out", required=True, metavar="FILE.png")
+    epilog = "Example: tools/stretch.py heap.pgm --out heap.png"
+    parser = argparse.ArgumentParser(description=__doc__.split("\n\n")[0], epilog=epilog)
+    parser.add_argument("file", metavar="OUT", help="OUT.pgm or OUT.asc, as sgm has written it")
+    parser.add_argument("--out", required=True, metavar="FILE.png", help="the picture")
     words = parser.parse_args()
     try:
         with open(words.file, "rb") as file:
             data = file.read()
         is_disparity = data[:2] == b"P5"
-        rows, low, high = stretched(read_disparities(data) if is_disparity else read_heights(data))
+        values = read_disparities(data) if is_disparity else rasters.read_heights(data.decode("ascii", "replace"))[1]
+        rows, low, high = stretched(values)
         with open(words.out, "wb") as file:
-            file.write(png(rows))
+            file.write(rasters.png(len(rows[0]), len(rows), rasters.PALETTE, rows, PALETTE))
     except (OSError, ValueError) as error:
-        sys.exit(f"stretch: {words.file}: {error}")
+        sys.exit(f"stretch: {rasters.fault(error, words.file)}")
     unit = "sixteenths of a pixel above the first disparity" if is_disparity else "micrometres of height"
     print("no value anywhere" if low is None else f"{low} (dark) to {high} (light) {unit}")
 

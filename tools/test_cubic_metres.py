@@ -100,6 +100,7 @@ class Tables(unittest.TestCase):
             (HEAD + "a,1,0,5,0,5\n", "line 2 isn't one of a report"),
             (HEAD + "a,1,0,5,0,5,5\nb,1,0,5.0,0,5,5\n", "line 3 isn't one of a report"),
             (HEAD + "a,1,0,5,0,5,x\n", "line 2 isn't one of a report"),
+            ("\u00ff" + HEAD, "not a report of sgm"),
         ]:
             self.assertEqual(run(text), (1, "", f"cubic_metres: o.csv: {line}\n", None))
 

@@ -9,7 +9,8 @@ import tempfile
 import unittest
 import zlib
 
-from heights_picture import colour_of, read_heights, shaded
+from heights_picture import colour_of, shaded
+from rasters import read_heights
 
 TOOL = os.path.join(os.path.dirname(os.path.abspath(__file__)), "heights_picture.py")
 HEAD = "ncols {}\nnrows {}\nxllcorner 0\nyllcorner 0\ncellsize 1000\nNODATA_value -2147483648\n"
@@ -82,6 +83,12 @@ class Grids(unittest.TestCase):
             ("P5 1 1 255", "not a height grid of sgm"),
             (HEAD.format(2, 2) + "1 2 3\n", "3 heights, 4 needed"),
             (HEAD.format(0, 0), "0 heights, 0 needed"),
+            (HEAD.format(-1, -1) + "5\n", "not a height grid of sgm"),
+            (HEAD.format(1, 1).replace("cellsize 1000", "cellsize 0") + "5\n", "not a height grid of sgm"),
+            (HEAD.format(1, 1) + "5.0\n", "not a height grid of sgm"),
+            (HEAD.format(1, 1)[: -len(" -2147483648\n")], "0 heights, 1 needed"),
+            ("", "not a height grid of sgm"),
+            ("\x00\u00ff", "not a height grid of sgm"),
         ]:
             self.assertEqual(run(text), (1, "", f"heights_picture: o.asc: {line}\n", None))
 

@@ -149,14 +149,52 @@ class WithoutDistortion(unittest.TestCase):
                 # From 128 * 0.5 / 4 = 16 to 128 * 0.5 / 0.1 = 640.
                 "first 16 and count 625: the first disparity is -1024 to 1024, the count 1 to 256",
             ),
-            (
-                PLAIN,
-                LIMITS.replace("far 4", "far 1"),
-                "near is 1 to far, far up to 2000000000, mount 0 to 2000000000",
-            ),
+            ({**PLAIN, "imageSize": [100]}, LIMITS, "the size of the pictures isn't two whole numbers"),
+            ({**PLAIN, "imageSize": [100, 60.5]}, LIMITS, "the size of the pictures isn't two whole numbers"),
+            ({**PLAIN, "imageSize": [100, 5000]}, LIMITS, "sides of the pictures are 1 to 4096"),
+            ({**without("imageSize"), "image_width": None, "image_height": 1}, LIMITS, "None isn't a number"),
+            ({**PLAIN, "T": [math.nan, 0, 0]}, LIMITS, "nan isn't a number"),
+            ({**PLAIN, "T": [-math.inf, 0, 0]}, LIMITS, "-inf isn't a number"),
+            ({**PLAIN, "M1": 9 * [0]}, LIMITS, "no cameras have these numbers: float division by zero"),
+            ({**PLAIN, "R": {"a": 1}}, LIMITS, "{'a': 1} isn't a number"),
+            ("", LIMITS, "given.json: not JSON: Expecting value: line 1 column 1 (char 0)"),
         ]:
             status, errors, made = run(given, options)
             self.assertEqual((status, errors, made), (1, f"opencv_calibration: {line}\n", None))
+
+    def test_missing_files(self):
+        for name in ("none.json", "none.yml"):
+            command = [sys.executable, TOOL, name, "--out", "made.json", *LIMITS.split()]
+            done = subprocess.run(command, capture_output=True, text=True)
+            line = f"opencv_calibration: {name}: No such file or directory\n"
+            self.assertEqual((done.returncode, done.stderr), (1, line))
+
+    def test_deep_and_damaged_files(self):
+        for given in ("[" * 100000, '{"M1": ' + 5000 * "[" + 5000 * "]" + "}", '{"M1": 1e400}', '{"M1": [1,]}', "\x00"):
+            status, errors, made = run(given, LIMITS)
+            self.assertEqual((status, made, "Traceback" in errors, errors.count("\n")), (1, None, False, 1), given[:20])
+
+    def test_wrong_words(self):
+        for options, line in [
+            ("--near 2000001 --far 2000000", "--near is above --far"),
+            ("--far 2000000001", "argument --far: 2000000001 isn't a whole number from 1 to 2000000000"),
+            ("--near 0", "argument --near: 0 isn't a whole number from 1 to 2000000000"),
+            ("--mount -1", "argument --mount: -1 isn't a whole number from 0 to 2000000000"),
+            ("--size 100", "argument --size: 100 isn't a width x height in range"),
+            ("--size 4097x1", "argument --size: 4097x1 isn't a width x height in range"),
+            ("--census 4x4", "argument --census: 4x4 isn't a width x height in range"),
+            ("--penalties 5 4", "--penalties: P1 is above P2"),
+            ("--penalties 5 4001", "argument --penalties: 4001 isn't a whole number from 1 to 4000"),
+            ("--first 1025", "argument --first: 1025 isn't a whole number from -1024 to 1024"),
+            ("--count 0", "argument --count: 0 isn't a whole number from 1 to 256"),
+            ("--step 1.5", "argument --step: 1.5 isn't a whole number from 2 to 1024"),
+            ("--alpha nan", "argument --alpha: nan isn't a number from 0 to 1"),
+            ("--grid 0 0 0 1 1", "--grid: CELL 0 isn't from 1 to 1000000000"),
+            ("--grid 0 0 1 1 4097", "--grid: ROWS 4097 isn't from 1 to 4096"),
+        ]:
+            status, errors, made = run(PLAIN, LIMITS + " " + options)
+            self.assertEqual((status, made), (2, None), options)
+            self.assertEqual(errors.splitlines()[-1], "opencv_calibration.py: error: " + line)
 
 
 class Distortion(unittest.TestCase):
@@ -309,6 +347,16 @@ class BesideOpenCV(unittest.TestCase):
                 point = numpy.array([[[x, y, 1.0]]])
                 seen, _ = cv2.projectPoints(point, numpy.zeros(3), numpy.zeros(3), one, numpy.array(lens[:count]))
                 self.assertLess(math.dist(tool.distorted(lens[:count], x, y), seen.ravel()), 1e-12)
+
+    def test_damaged_files(self):
+        for name, text in (
+            ("given.yml", "%YAML:1.0\n---\nM1: !!opencv-matrix\n   rows: 3\n   data: [ 1., 2.\n"),
+            ("given.yml", ""),
+            ("given.xml", '<?xml version="1.0"?><opencv_storage><M1>'),
+            ("given.xml", "\0\1\2"),
+        ):
+            line = f"opencv_calibration: {name}: OpenCV can't read it\n"
+            self.assertEqual(run(text, LIMITS, name), (1, line, None), text)
 
     def test_files_of_opencv(self):
         plain = run(MADE, MADE_LIMITS)[2]

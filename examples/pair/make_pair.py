@@ -10,7 +10,9 @@ only: the bytes are the same each time. All disparities lie within 0 to 63, the 
     ./sgm match examples/pair/left.pgm examples/pair/right.pgm - out
 """
 
+import argparse
 import os
+import sys
 
 WIDTH, HEIGHT = 320, 240
 
@@ -46,12 +48,21 @@ def sample(x, y, eye):
     raise AssertionError("the ground is everywhere")
 
 
-def main():
+def write_pair():
     here = os.path.dirname(os.path.abspath(__file__))
     for eye, name in enumerate(("left.pgm", "right.pgm")):
         samples = bytes(sample(x, y, eye) for y in range(HEIGHT) for x in range(WIDTH))
         with open(os.path.join(here, name), "wb") as file:
             file.write(f"P5\n{WIDTH} {HEIGHT}\n255\n".encode() + samples)
+
+
+def main():
+    epilog = "Example: examples/pair/make_pair.py"
+    argparse.ArgumentParser(description=__doc__.split("\n\n")[0], epilog=epilog).parse_args()
+    try:
+        write_pair()
+    except OSError as error:
+        sys.exit(f"make_pair: {error}")
 
 
 if __name__ == "__main__":

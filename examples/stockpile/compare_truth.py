@@ -1,12 +1,15 @@
 #!/usr/bin/env python3
-"""Compares a survey of the stockpile with the truth: `compare_truth.py OUT` reads OUT.asc and OUT.csv.
+"""Compares a survey of the stockpile with the truth.
 
-The truth is the cone of make_stockpile.py: its volume is pi * radius * radius * height / 3, and the height
-of a place is the height of the tip less its distance from the axis times the slope. Prints the true and
-the measured numbers with their errors, and fails where OUT.csv isn't the sum of the cells of OUT.asc.
-The program decides nothing here: these numbers are for people, and use floating point.
+    examples/stockpile/compare_truth.py OUT
+
+reads OUT.asc and OUT.csv. The truth is the cone of make_stockpile.py: its volume is pi * radius * radius *
+height / 3, and the height of a place is the height of the tip less its distance from the axis times the
+slope. Prints the true and the measured numbers with their errors, and fails where OUT.csv isn't the sum of
+the cells of OUT.asc. The program decides nothing here: these numbers are for people, and use floating point.
 """
 
+import argparse
 import csv
 import json
 import math
@@ -19,14 +22,27 @@ HERE = os.path.dirname(os.path.abspath(__file__))
 METRE = 1_000_000
 
 
+class NotASurvey(Exception):
+    """What is wrong with the files, in words."""
+
+
 def read_heights(name):
     """The grid's head as numbers, and its rows of heights from the north, None where a cell is empty."""
-    with open(name) as file:
+    with open(name, encoding="ascii") as file:
         words = file.read().split()
+    if words[0:12:2] != ["ncols", "nrows", "xllcorner", "yllcorner", "cellsize", "NODATA_value"] or len(words) < 13:
+        raise NotASurvey(f"{name}: not a height grid of sgm")
     head = dict(zip(words[0:12:2], map(int, words[1:12:2])))
     cells = [None if word == words[11] else int(word) for word in words[12:]]
     cols = head["ncols"]
+    if cols < 1 or len(cells) != cols * head["nrows"]:
+        raise NotASurvey(f"{name}: {len(cells)} heights, {cols} x {head['nrows']} needed")
     return head, [cells[at : at + cols] for at in range(0, len(cells), cols)]
+
+
+def read_report(name):
+    with open(name, encoding="ascii", newline="") as file:
+        return list(csv.DictReader(file))
 
 
 def true_height(x, y):
@@ -71,18 +87,21 @@ def percent(measured, true):
     return f"{100 * (measured / true - 1):+.2f} %"
 
 
-def main():
-    if len(sys.argv) != 2:
-        sys.exit("compare_truth: OUT is needed, the last word of the match")
-    with open(os.path.join(HERE, "calibration.json")) as file:
-        regions = json.load(file)["regions"]
-    head, rows = read_heights(sys.argv[1] + ".asc")
-    with open(sys.argv[1] + ".csv", newline="") as file:
-        lines = list(csv.DictReader(file))
-    for region, line in zip(regions, lines, strict=True):
+def compare(out):
+    """Prints the comparison of OUT.asc and OUT.csv."""
+    with open(os.path.join(HERE, "calibration.json"), encoding="utf-8") as file:
+        calibration = json.load(file)
+    regions, grid = calibration["regions"], calibration["grid"]
+    head, rows = read_heights(out + ".asc")
+    if (head["ncols"], head["nrows"]) != (grid["cols"], grid["rows"]):
+        raise NotASurvey(f"{out}.asc: not a survey of this example, whose grid is {grid['cols']} x {grid['rows']}")
+    lines = read_report(out + ".csv")
+    if len(lines) != len(regions):
+        raise NotASurvey(f"{out}.csv: {len(lines)} regions, {len(regions)} needed")
+    for region, line in zip(regions, lines):
         pairs = list(cells_of(region, head, rows))
         if not is_sum_of_cells(line, region, [height for _, height in pairs], head["cellsize"]):
-            sys.exit(f"compare_truth: region {region['name']}: the report isn't the sum of the cells")
+            raise NotASurvey(f"{out}.csv: region {region['name']}: the report isn't the sum of the cells")
 
     pile, ground = lines
     volume = true_volume()
@@ -94,6 +113,17 @@ def main():
     print(f"height  true {height / METRE:.3f} m     measured {highest / METRE:.3f} m     {percent(highest, height)}")
     print(f"ground  true 0.000 m     measured {low / METRE:.3f} to {high / METRE:.3f} m")
     print_parts(list(cells_of(regions[0], head, rows)), head["cellsize"])
+
+
+def main():
+    epilog = "Example, after the match of examples/stockpile into /tmp/heap: examples/stockpile/compare_truth.py /tmp/heap"
+    parser = argparse.ArgumentParser(description=__doc__.split("\n\n")[0], epilog=epilog)
+    parser.add_argument("out", metavar="OUT", help="the last word of the match")
+    words = parser.parse_args()
+    try:
+        compare(words.out)
+    except (OSError, ValueError, NotASurvey) as error:
+        sys.exit(f"compare_truth: {error}")
 
 
 if __name__ == "__main__":

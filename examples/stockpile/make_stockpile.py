@@ -12,8 +12,10 @@ Lengths are whole micrometres. Nothing is rounded by a floating point unit, so t
 on every machine. The numbers below are the truth that compare_truth.py measures against.
 """
 
+import argparse
 import math
 import os
+import sys
 
 WIDTH, HEIGHT = 320, 240
 
@@ -141,12 +143,21 @@ def right_sample(x, y):
     return surface(through_pixel(BASELINE, x, y)) * 4 // 5 + 6 + noise(x, y, 32) % 5
 
 
-def main():
+def write_pair():
     here = os.path.dirname(os.path.abspath(__file__))
     for name, sample in (("left.pgm", left_sample), ("right.pgm", right_sample)):
         samples = bytes(sample(x, y) for y in range(HEIGHT) for x in range(WIDTH))
         with open(os.path.join(here, name), "wb") as file:
             file.write(f"P5\n{WIDTH} {HEIGHT}\n255\n".encode() + samples)
+
+
+def main():
+    epilog = "Example: examples/stockpile/make_stockpile.py"
+    argparse.ArgumentParser(description=__doc__.split("\n\n")[0], epilog=epilog).parse_args()
+    try:
+        write_pair()
+    except OSError as error:
+        sys.exit(f"make_stockpile: {error}")
 
 
 if __name__ == "__main__":

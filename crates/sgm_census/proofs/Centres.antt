@@ -4,10 +4,9 @@ use Rattle.std.proofs.lemmas.Bool.{cases_lt}
 use Rattle.std.proofs.lemmas.List.{take_at, drop_at, length-take, length-drop, take-append-drop, drop_more}
 use Rattle.std.proofs.lemmas.Nat.{mul-add-lt}
 use Rattle.std.specs.List.{remove}
-use Rattle.sgm_base.specs.Values.{Values}
+use Rattle.sgm_base.specs.Values.{Values, value_at}
 use Rattle.sgm_census.specs.Windows.{WindowSides, IsWindow, greatest_of}
 use Rattle.sgm_census.specs.Codes.{value_near, window_values, less_than, code_at}
-use Rattle.sgm_base.specs.Values.{value_at}
 use Rattle.sgm_census.proofs.InWindow.{length-window_values, get_or-window_values, value_near-inside, value_near-left, value_near-right, value_near-top, value_near-bottom}
 use Rattle.sgm_census.proofs.LessThan.{joined, less_than-append, less_than-one, less_than_none, length-less_than}
 

@@ -5,11 +5,10 @@ use Rattle.std.proofs.lemmas.List.{get_or-take, get_or-drop, length-take, length
 use Rattle.std.proofs.lemmas.List.FromFn.{fill_by_all, length-map-range_with_len, get_or-map-range_with_len}
 use Rattle.std.proofs.lemmas.Nat.{mul-add-lt, div-mul-add, mod-mul-add, mod_below, div_below, row_fits, pow_pos}
 use Rattle.std.specs.List.{range_with_len}
-use Rattle.sgm_base.specs.Values.{Values, IsValues}
+use Rattle.sgm_base.specs.Values.{Values, IsValues, row_by_row}
 use Rattle.sgm_census.specs.Windows.{WindowSides, IsWindow, greatest_of}
 use Rattle.sgm_census.specs.Codes.{Codes, IsCodes, codes_of, code_in, code_at}
-use Rattle.sgm_base.specs.Values.{row_by_row}
-use Rattle.sgm_census.specs.Packed.{bits_of, place_of, unpacked, codes_in, IsPacked, HoldsCodes}
+use Rattle.sgm_census.specs.Packed.{bits_of, word_place, unpacked, codes_in, IsPacked, HoldsCodes}
 use Rattle.sgm_census.proofs.Bits.{length-bits_of}
 use Rattle.sgm_census.proofs.Centres.{code_at-void, length-code_at}
 use Rattle.sgm_census.proofs.InWindow.{allowed, refused, value_at-outside}
@@ -34,12 +33,12 @@ row_by_row-same width height f g d p h =
 
 -- the plane in these words is that of the codes
 pub codes_in-is : (plane : Values) (window : WindowSides) (width height : ℕ) (words : List ℕ) (present : List Bool) → width ≡ plane.width → height ≡ plane.height → 0 < plane.width
-    → ((x y : ℕ) → x < plane.width → y < plane.height → unpacked (greatest_of window) words present (place_of plane.width x y) ≡ code_at plane window x y)
+    → ((x y : ℕ) → x < plane.width → y < plane.height → unpacked (greatest_of window) words present (word_place plane.width x y) ≡ code_at plane window x y)
     → codes_in width height window words present ≡ codes_of plane window
 codes_in-is plane window width height words present ew eh p h =
     ap (λ w. codes_in w height window words present) ew ∙ ap (λ k. codes_in plane.width k window words present) eh
     ∙ ap (λ cs. let c : Codes = record { width = plane.width; height = plane.height; window = window; codes = cs } in c)
-    (row_by_row-same plane.width plane.height (λ x y. unpacked (greatest_of window) words present (place_of plane.width x y)) (code_at plane window) None p h)
+    (row_by_row-same plane.width plane.height (λ x y. unpacked (greatest_of window) words present (word_place plane.width x y)) (code_at plane window) None p h)
 
 pub code_in-inside : (plane : Codes) (x y : ℕ) → x < plane.width → y < plane.height → code_in plane x y ≡ get_or plane.codes (y * plane.width + x) None
 unfolding code_in
@@ -51,10 +50,10 @@ code_in-outside plane x y (inl h) = refused (ltb x plane.width) (ltb y plane.hei
 code_in-outside plane x y (inr h) = refused (ltb x plane.width) (ltb y plane.height) (get_or plane.codes (y * plane.width + x) None) None (inr (le-ltb _ _ h))
 
 code_in-codes_in : (width height : ℕ) (window : WindowSides) (words : List ℕ) (present : List Bool) (x y : ℕ) → x < width → y < height
-    → code_in (codes_in width height window words present) x y ≡ unpacked (greatest_of window) words present (place_of width x y)
+    → code_in (codes_in width height window words present) x y ≡ unpacked (greatest_of window) words present (word_place width x y)
 code_in-codes_in width height window words present x y h k =
     code_in-inside (codes_in width height window words present) x y h k
-    ∙ get_or-row_by_row width height (λ z r. unpacked (greatest_of window) words present (place_of width z r)) x y None h k
+    ∙ get_or-row_by_row width height (λ z r. unpacked (greatest_of window) words present (word_place width z r)) x y None h k
 
 pub unpacked-length : (n word : ℕ) (there : Bool) (code : List Bool) → cond there (Some (bits_of n word)) None ≡ Some code → length code ≡ n
 unpacked-length n word true code e =
@@ -68,7 +67,7 @@ lengths_in width height window words present x y code e = elim (cases_lt x width
   | inr h ↦ absurd (let none : code_in (codes_in width height window words present) x y ≡ None = code_in-outside (codes_in width height window words present) x y (inl h) in cc)
   | inl h ↦ elim (cases_lt y height) [
     | inr k ↦ absurd (let none : code_in (codes_in width height window words present) x y ≡ None = code_in-outside (codes_in width height window words present) x y (inr k) in cc)
-    | inl k ↦ unpacked-length (greatest_of window) (get_or words (place_of width x y) 0) (get_or present (place_of width x y) false) code (sym (code_in-codes_in width height window words present x y h k) ∙ e)
+    | inl k ↦ unpacked-length (greatest_of window) (get_or words (word_place width x y) 0) (get_or present (word_place width x y) false) code (sym (code_in-codes_in width height window words present x y h k) ∙ e)
   ]
 ]
 
@@ -79,7 +78,7 @@ codes_in-kept width height window words present k =
       width_in_range = k.width_in_range;
       height_in_range = k.height_in_range;
       window_in_range = k.window_in_range;
-      full = length-row_by_row width height (λ x y. unpacked (greatest_of window) words present (place_of width x y));
+      full = length-row_by_row width height (λ x y. unpacked (greatest_of window) words present (word_place width x y));
       lengths = lengths_in width height window words present;
     }
 

@@ -3,7 +3,7 @@ use Rattle.std.proofs.Common.{◌≡◌, ◌≢◌, ℕ, ◌+◌, ◌-◌, ◌*�
 use Rattle.std.proofs.lemmas.Bool.{cases_eq, cases_lt}
 use Rattle.std.proofs.lemmas.List.{get_or-set_same, get_or-set_other, get_or-replicate, get_or_past, length-replicate}
 use Rattle.std.proofs.lemmas.Nat.{pow_pos, row_fits}
-use Rattle.sgm_census.specs.Packed.{bits_of, unpacked, place_of}
+use Rattle.sgm_census.specs.Packed.{bits_of, unpacked, word_place}
 
 unpacked-new : (n word : ℕ) (o : Option ℕ) (there : Bool) → there ≡ is_some o → word ≡ unwrap_or o 0 → cond there (Some (bits_of n word)) None ≡ option_map (bits_of n) o
 unpacked-new n word None there e f = ap (λ b. cond b (Some (bits_of n word)) None) e
@@ -49,7 +49,7 @@ unpacked-same n words more_words present more_present k e f =
     ap (λ b. cond b (Some (bits_of n (get_or more_words k 0))) None) f ∙ ap (λ w. cond (get_or present k false) (Some (bits_of n w)) None) e
 
 -- a place of an earlier row
-pub place_before : (width x r y : ℕ) → x < width → r < y → place_of width x r < y * width
+pub place_before : (width x r y : ℕ) → x < width → r < y → word_place width x r < y * width
 place_before width x r y h k = omega (arith, row_fits r width y width k (omega arith))
 
 -- words without bits

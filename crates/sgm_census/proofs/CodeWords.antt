@@ -1,10 +1,9 @@
 -- The code of a pixel from the word of its window.
 use Rattle.std.proofs.Common.{◌≡◌, ℕ, ◌+◌, ◌*◌, ◌/◌, ◌%◌, ◌^◌, ◌<◌, ◌++◌, length, Some, None, option_map, sym, ap, ◌∙◌, arith}
 use Rattle.std.specs.List.{remove}
-use Rattle.sgm_base.specs.Values.{Values}
+use Rattle.sgm_base.specs.Values.{Values, value_at}
 use Rattle.sgm_census.specs.Windows.{WindowSides, IsWindow, greatest_of}
 use Rattle.sgm_census.specs.Codes.{window_values, less_than, code_at}
-use Rattle.sgm_base.specs.Values.{value_at}
 use Rattle.sgm_census.specs.Packed.{bits_of, pushed}
 use Rattle.sgm_census.proofs.Bits.{bits_of-none, bits_of-pushed, bits_of-without, without_small}
 use Rattle.sgm_census.proofs.Centres.{middle, is_middle, code_at-there}

@@ -5,10 +5,9 @@ use Rattle.std.proofs.lemmas.List.{get_or-take, get_or-drop, length-take, length
 use Rattle.std.proofs.lemmas.List.FromFn.{fill_by_all, length-map-range_with_len, get_or-map-range_with_len}
 use Rattle.std.proofs.lemmas.Nat.{row_fits}
 use Rattle.std.specs.List.{flat_map, range_with_len}
-use Rattle.sgm_base.specs.Values.{Values, IsValues, row_of}
+use Rattle.sgm_base.specs.Values.{Values, IsValues, row_of, value_at}
 use Rattle.sgm_census.specs.Windows.{WindowSides, IsWindow}
 use Rattle.sgm_census.specs.Codes.{value_near, window_values}
-use Rattle.sgm_base.specs.Values.{value_at}
 
 -- the row j of a window
 abbrev pub window_row : Values → WindowSides → ℕ → ℕ → ℕ → List (Option ℕ)

@@ -8,4 +8,5 @@ pub mod CostWords
 pub mod Examples
 pub mod InWindow
 pub mod LessThan
+pub mod Limits
 pub mod WindowWords

@@ -12,9 +12,9 @@ unfoldable pub bits_of : ℕ → ℕ → List Bool
 bits_of zero word = []
 bits_of (suc n) word = bits_of n (word / 2) ++ (word % 2 == 1) ∷ []
 
--- where the pixel (x, y) stands
-abbrev pub place_of : ℕ → ℕ → ℕ → ℕ
-place_of width x y = y * width + (width - 1 - x)
+-- where the word of the pixel (x, y) stands
+abbrev pub word_place : ℕ → ℕ → ℕ → ℕ
+word_place width x y = y * width + (width - 1 - x)
 
 -- the code of n bits that stands at a place
 abbrev pub unpacked : ℕ → List ℕ → List Bool → ℕ → Option (List Bool)
@@ -28,7 +28,7 @@ codes_in width height window words present =
       width = width;
       height = height;
       window = window;
-      codes = row_by_row width height (λ x y. unpacked (greatest_of window) words present (place_of width x y));
+      codes = row_by_row width height (λ x y. unpacked (greatest_of window) words present (word_place width x y));
     }
 
 -- what every plane of codes keeps: its sides and window are in range, and each pixel has a word, which has no bits but

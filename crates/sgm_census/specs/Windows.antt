@@ -1,16 +1,17 @@
 -- The window of the census transform.
 use Rattle.std.specs.Prelude.{◌≡◌, ℕ, ◌-◌, ◌*◌, ◌%◌, ◌≤◌}
+use Rattle.sgm_base.specs.declared.limits.TheConstants.{MAX_WINDOW_HEIGHT, MAX_WINDOW_WIDTH, MIN_WINDOW_SIDE}
 
 -- what contracts see of a window
 pub record WindowSides : Type 0 where
   pub width : ℕ
   pub height : ℕ
 
--- the width is 3, 5, 7 or 9 and the height 3, 5 or 7
+-- both sides are odd, and within their limits
 pub record IsWindow (width height : ℕ) : Type 0 where
-  pub wide : (3 ≤ width) × (width ≤ 9)
+  pub wide : (MIN_WINDOW_SIDE ≤ width) × (width ≤ MAX_WINDOW_WIDTH)
   pub odd_width : width % 2 ≡ 1
-  pub high : (3 ≤ height) × (height ≤ 7)
+  pub high : (MIN_WINDOW_SIDE ≤ height) × (height ≤ MAX_WINDOW_HEIGHT)
   pub odd_height : height % 2 ≡ 1
 
 -- how many pixels a window has beside its centre: the length of each code, and the greatest cost

@@ -4,7 +4,7 @@ ghost use Rattle.sgm_census.specs.Costs.{cost_between, census_cost};
 ghost use Rattle.sgm_census.specs.Packed.{bits_of, unpacked, HoldsSmall};
 
 use crate::code_plane::{CodePlane, CodeRow};
-use sgm_base::{Overlap, Span};
+use sgm_base::{MAX_COST, Overlap, Span};
 use sgm_lanes::hamming;
 
 /// Writes the value into each cell.
@@ -112,7 +112,7 @@ pub fn cost_row(left: &CodePlane, right: &CodePlane, span: Span, y: u32, into: &
     requires whole { length into.old ≡ left.now.width * span.count }
     ensures each { (x d : ℕ) → x < left.now.width → d < span.count
         → slice_index into.new (x * span.count + d) ≡ census_cost left.now right.now span.first x y d }
-    ensures most { All (λ c. c ≤ 62) into.new }
+    ensures most { All (λ c. c ≤ MAX_COST) into.new }
 {
     let count = span.count as usize;
     let greatest = left.window().greatest();

@@ -4,7 +4,7 @@ ghost use Rattle.std.specs.Prelude.{◌≡◌, ℕ, ◌+◌, ◌-◌, ◌*◌, �
 ghost use Rattle.sgm_base.specs.Values.{IsValues};
 ghost use Rattle.sgm_census.specs.Windows.{greatest_of};
 ghost use Rattle.sgm_census.specs.Codes.{less_than, window_values, code_at};
-ghost use Rattle.sgm_census.specs.Packed.{pushed, bits_of, unpacked, place_of};
+ghost use Rattle.sgm_census.specs.Packed.{pushed, bits_of, unpacked, word_place};
 
 use crate::Window;
 use sgm_base::Plane;
@@ -104,7 +104,7 @@ pub(crate) fn code_rows(plane: &Plane, window: Window, words: &mut [u64], presen
     requires present_length { length present.old ≡ plane.now.width * plane.now.height }
     requires within { (k : ℕ) → slice_index words.old k < 2 ^ greatest_of window }
     ensures each { (x y : ℕ) → x < plane.now.width → y < plane.now.height
-        → unpacked (greatest_of window) words.new present.new (place_of plane.now.width x y) ≡ code_at plane.now window x y }
+        → unpacked (greatest_of window) words.new present.new (word_place plane.now.width x y) ≡ code_at plane.now window x y }
     ensures within { (k : ℕ) → slice_index words.new k < 2 ^ greatest_of window }
 {
     let size = plane.size();

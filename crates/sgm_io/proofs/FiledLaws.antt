@@ -1,6 +1,6 @@
 -- Lists of named files, of which the last of a name counts.
 use Rattle.std.proofs.Common.{◌≡◌, ℕ, suc, ◌+◌, ◌-◌, ◌<◌, List, [], ◌∷◌, ◌++◌, length, take, refl, sym, ap, ◌∙◌, arith, Option, Some, None, IsSome, option_map, get_or, set, Bool, true, false, IsTrue, ◌↔◌, if◌then◌else◌, add-one, Result, Ok, Err, OnOk, OnErr, slice_get}
-use Rattle.std.specs.Option.{option_map_or}
+use Rattle.std.specs.Option.{option_map_or, option_or}
 use Rattle.std.specs.Str.{bytes_eq}
 use Rattle.std.proofs.lemmas.List.{take_all, length-set}
 use Rattle.std.proofs.Math.Seq.{take-suc, take-suc-set}
@@ -86,10 +86,6 @@ current_length is_open fs file is =
     sym (ap (λ (o : Option (List ℕ)). option_map_or length o 0) (put_all-current is_open fs file no_files is))
     ∙ ap (λ (name : List ℕ). length_at (put_all fs no_files) name) (current_name (current_of is_open fs) file is)
 
-pub on_ok : {T E P Q : Type 0} (r : Result T E) → (P → Q) → OnOk r P → OnOk r Q
-on_ok (Ok x) f p = f p
-on_ok (Err e) f p = p
-
 pub same_name : {T E : Type 0} (r : Result T E) (f g : NamedBytes) (piece : List ℕ) → OnOk r (g ≡ record { name = f.name; bytes = f.bytes ++ piece }) → OnErr r (g ≡ f) → g.name ≡ f.name
 same_name (Ok x) f g piece ok err = ap (λ (x : NamedBytes). x.name) ok
 same_name (Err e) f g piece ok err = ap (λ (x : NamedBytes). x.name) err
@@ -108,24 +104,20 @@ put_all-one-yes files i f name lt is same = put_all-one files i f name lt is ∙
 pub put_all-one-no : (files : List NamedBytes) (i : ℕ) (f : NamedBytes) (name : List ℕ) → i < length files → f ≡ get_or files i f → bytes_eq name f.name ≡ false → put_all (take (i + 1) files) no_files name ≡ put_all (take i files) no_files name
 put_all-one-no files i f name lt is other = put_all-one files i f name lt is ∙ ap (λ (b : Bool). if b then Some f.bytes else put_all (take i files) no_files name) other
 
-abbrev pub or_empty : Option (List ℕ) → Option (List ℕ)
-or_empty None = Some []
-or_empty (Some bytes) = Some bytes
-
-put_or_empty : (name bytes : List ℕ) (h k : Held) → ((n : List ℕ) → k n ≡ or_empty (h n)) → (n : List ℕ) → put name bytes k n ≡ or_empty (put name bytes h n)
+put_or_empty : (name bytes : List ℕ) (h k : Held) → ((n : List ℕ) → k n ≡ option_or (h n) (Some [])) → (n : List ℕ) → put name bytes k n ≡ option_or (put name bytes h n) (Some [])
 unfolding put
-put_or_empty name bytes h k same n = elim (bytes_eq n name) as (λ b. (if b then Some bytes else k n) ≡ or_empty (if b then Some bytes else h n)) [ true ↦ refl | false ↦ same n ]
+put_or_empty name bytes h k same n = elim (bytes_eq n name) as (λ b. (if b then Some bytes else k n) ≡ option_or (if b then Some bytes else h n) (Some [])) [ true ↦ refl | false ↦ same n ]
 
-put_all_or_empty : (fs : List NamedBytes) (h k : Held) → ((n : List ℕ) → k n ≡ or_empty (h n)) → (n : List ℕ) → put_all fs k n ≡ or_empty (put_all fs h n)
+put_all_or_empty : (fs : List NamedBytes) (h k : Held) → ((n : List ℕ) → k n ≡ option_or (h n) (Some [])) → (n : List ℕ) → put_all fs k n ≡ option_or (put_all fs h n) (Some [])
 put_all_or_empty [] h k same n = same n
 put_all_or_empty (f ∷ fs) h k same n = put_all_or_empty fs (put f.name f.bytes h) (put f.name f.bytes k) (put_or_empty f.name f.bytes h k same) n
 
 -- a name that wasn't given is held, without bytes
 pub sure_found : (fs : List NamedBytes) (n bytes : List ℕ) → Some bytes ≡ put_all fs no_files n → put_all fs empty_files n ≡ Some bytes
-sure_found fs n bytes is = put_all_or_empty fs no_files empty_files (λ m. refl) n ∙ ap (λ (o : Option (List ℕ)). or_empty o) (sym is)
+sure_found fs n bytes is = put_all_or_empty fs no_files empty_files (λ m. refl) n ∙ ap (λ (o : Option (List ℕ)). option_or o (Some [])) (sym is)
 
 pub sure_absent : (fs : List NamedBytes) (n : List ℕ) → None ≡ put_all fs no_files n → put_all fs empty_files n ≡ Some []
-sure_absent fs n is = put_all_or_empty fs no_files empty_files (λ m. refl) n ∙ ap (λ (o : Option (List ℕ)). or_empty o) (sym is)
+sure_absent fs n is = put_all_or_empty fs no_files empty_files (λ m. refl) n ∙ ap (λ (o : Option (List ℕ)). option_or o (Some [])) (sym is)
 
 pub empty_file : (f : NamedBytes) (text name bytes : List ℕ) → f ≡ record { name = text; bytes = bytes } → text ≡ name → bytes ≡ [] → f ≡ record { name = name; bytes = [] }
 empty_file f text name bytes is named empty =

@@ -25,7 +25,3 @@ FillsUpTo-some stops at most count f goes some = elim f.ends [
 
   differ : (b : Bool) → b ≡ false → b ≡ true → ⊥
   differ b is other = cc
-
-pub or_false : (b : Bool) → (b || false) ≡ b
-or_false true = refl
-or_false false = refl

@@ -5,3 +5,4 @@ pub mod TripLaws
 pub mod FiledLaws
 pub mod FillLaws
 pub mod Choice
+pub mod UnfinishedLaws

@@ -1,12 +1,16 @@
 -- Lists of named files, of which the last may be being written.
 use Rattle.std.specs.Prelude.{ℕ, List, [], ◌∷◌, Bool, Option, None, Some, String, Vec}
-use Rattle.std.specs.Prelude.{string_bytes, option_map, if◌then◌else◌}
+use Rattle.std.specs.Prelude.{All, string_bytes, option_map, if◌then◌else◌}
 use Rattle.std.specs.declared.alloc.Global.{Global}
-use Rattle.sgm_io.specs.Held.{NamedBytes}
+use Rattle.sgm_io.specs.Held.{NamedBytes, AreBytes}
 
 -- the name and the bytes of a pair
 abbrev pub named_bytes : String Global × Vec ℕ Global → NamedBytes
 named_bytes file = record { name = string_bytes file.0; bytes = file.1.items }
+
+-- what the files have are bytes
+abbrev pub HaveBytes : List NamedBytes → Type 0
+HaveBytes files = All (λ file. AreBytes file.bytes) files
 
 abbrev pub name_at : NamedBytes → List ℕ
 name_at file = file.name

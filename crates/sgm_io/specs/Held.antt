@@ -1,6 +1,6 @@
 -- What a shelf holds, and how a call changes it.
-use Rattle.std.specs.Prelude.{◌≡◌, ℕ, List, [], ◌∷◌, ◌++◌, length, Option, None, Some}
-use Rattle.std.specs.Prelude.{option_map, if◌then◌else◌}
+use Rattle.std.specs.Prelude.{◌≡◌, ℕ, ◌<◌, List, [], ◌∷◌, ◌++◌, length, All, Option, None, Some}
+use Rattle.std.specs.Prelude.{IfSome, option_map, if◌then◌else◌}
 use Rattle.std.specs.Option.{option_map_or}
 use Rattle.std.specs.Str.{bytes_eq}
 
@@ -39,6 +39,14 @@ no_files name = None
 -- every name is held, without bytes
 abbrev pub empty_files : Held
 empty_files name = Some []
+
+-- these are bytes
+abbrev pub AreBytes : List ℕ → Type 0
+AreBytes contents = All (λ b. b < 256) contents
+
+-- what is held are bytes
+abbrev pub HoldsBytes : Held → Type 0
+HoldsBytes held = (name : List ℕ) → IfSome (held name) AreBytes
 
 -- how many bytes the name has
 abbrev pub length_at : Held → List ℕ → ℕ

@@ -4,6 +4,7 @@ use Rattle.sgm_io.specs.declared.shelf.KeepError.{KeepError}
 use Rattle.sgm_io.specs.declared.shelf.KeepError.TheVariants.{Failed, NoMemory}
 use Rattle.sgm_io.specs.Counts.{Counts, NoneFell, RoseAt, one_more}
 use Rattle.sgm_io.specs.Held.{Held, put, extend, IsPrefix}
+use Rattle.sgm_io.specs.Unfinished.{NameSet, with_name, without_name}
 
 -- the name being written, or the empty text
 abbrev pub name_of : Option (List ℕ) → List ℕ
@@ -56,6 +57,18 @@ abbrev pub FinishesWriting : Result (Unit {0}) KeepError → Option (List ℕ) �
 FinishesWriting (Ok done) new = new ≡ None
 FinishesWriting (Err Failed) new = new ≡ None
 FinishesWriting (Err NoMemory) new = ⊥
+
+-- the name is begun; after an error the unfinished names are as before
+abbrev pub Begins : List ℕ → Result (Unit {0}) KeepError → NameSet → NameSet → Type 0
+Begins name (Ok done) old new = new ≡ with_name name old
+Begins name (Err Failed) old new = new ≡ old
+Begins name (Err NoMemory) old new = new ≡ old
+
+-- the name is finished; after an error the unfinished names are as before
+abbrev pub Finishes : List ℕ → Result (Unit {0}) KeepError → NameSet → NameSet → Type 0
+Finishes name (Ok done) old new = new ≡ without_name name old
+Finishes name (Err Failed) old new = new ≡ old
+Finishes name (Err NoMemory) old new = new ≡ old
 
 -- exactly: that of the name is one more where the call failed
 abbrev pub KeepCounts : {T : Type 0} → List ℕ → Result T KeepError → Counts → Counts → Type 0

@@ -5,11 +5,13 @@ pub mod Fetch
 pub mod Keep
 pub mod Sink
 pub mod Names
+pub mod Unfinished
 pub mod Trips
 pub mod Calls
 pub mod Filed
 pub mod MemoryShelf
 pub mod Writing
+pub mod Bytes
 pub mod SureShelf
 pub mod MemorySink
 pub mod DiskShelf

@@ -8,8 +8,9 @@ use Rattle.sgm_io.specs.Counts.{Counts}
 use Rattle.sgm_io.specs.Filed.{current_of, name_at}
 use Rattle.sgm_io.specs.Held.{Held, put_all, no_files, length_at}
 use Rattle.sgm_io.specs.Keep.{name_of}
-use Rattle.sgm_io.specs.Names.{times_in}
+use Rattle.sgm_io.specs.Names.{times_in, is_among}
 use Rattle.sgm_io.specs.Trips.{is_append_at, without_first, fails_append}
+use Rattle.sgm_io.specs.Unfinished.{NameSet}
 
 -- the bytes under each name
 abbrev pub held_in : MemoryShelf → Held
@@ -18,6 +19,10 @@ held_in shelf = put_all shelf.files.files.items no_files
 -- the name being written
 abbrev pub writing_in : MemoryShelf → Option (List ℕ)
 writing_in shelf = option_map name_at (current_of shelf.files.is_open shelf.files.files.items)
+
+-- the names that were begun and not finished
+abbrev pub unfinished_in : MemoryShelf → NameSet
+unfinished_in shelf = is_among shelf.files.unfinished.names.items
 
 -- the trips that are left, in the order in which they were given
 abbrev pub trips_in : MemoryShelf → List Trip

@@ -2,8 +2,10 @@ ghost use Rattle.std.specs.Prelude.{◌≡◌, ◌≤◌, ◌<◌, false, None, 
 ghost use Rattle.std.specs.Prelude.{length, take};
 ghost use Rattle.std.specs.Io.KnownBytes.{Appends, Keeps};
 ghost use Rattle.sgm_io.specs.DiskShelf.{told_by, writing_on};
+ghost use Rattle.sgm_io.specs.Names.{is_among};
 
 use crate::device::{read_at_most, write_some};
+use crate::unfinished::Unfinished;
 use crate::{FetchError, KeepError, Shelf};
 use std::alloc::Global;
 use std::fs;
@@ -24,16 +26,19 @@ pub struct DiskShelf<'a, R: Files> {
     rt: &'a R,
     alloc: Global,
     current: Option<Open<R::File>>,
+    unfinished: Unfinished,
     faults: u64,
 }
 
 impl<'a, R: Files> DiskShelf<'a, R> {
     ghost use Rattle.sgm_io.specs.Counts.{no_faults};
+    ghost use Rattle.sgm_io.specs.Unfinished.{no_names};
 
     /// A shelf of the files that the runtime reaches. None is being written, and nothing has
     /// failed.
     pub fn make(rt: &'a R, alloc: Global) -> DiskShelf<'a, R>
         ensures writing { ⟦<DiskShelf<'a, R> as Shelf>⟧.writing result ≡ None }
+        ensures unfinished { ⟦<DiskShelf<'a, R> as Shelf>⟧.unfinished result ≡ no_names }
         ensures reads { ⟦<DiskShelf<'a, R> as Shelf>⟧.read_faults result ≡ no_faults }
         ensures writes { ⟦<DiskShelf<'a, R> as Shelf>⟧.write_faults result ≡ no_faults }
     {
@@ -41,6 +46,7 @@ impl<'a, R: Files> DiskShelf<'a, R> {
             rt,
             alloc,
             current: None,
+            unfinished: Unfinished::make(alloc),
             faults: 0,
         }
     }
@@ -72,11 +78,15 @@ impl<'a, R: Files> Shelf for DiskShelf<'a, R> {
 
     ghost writing = { λ shelf. writing_on shelf.current };
 
+    ghost unfinished = { λ shelf. is_among shelf.unfinished.names.items };
+
     ghost read_faults = { λ shelf name. shelf.faults };
 
     ghost write_faults = { λ shelf name. shelf.faults };
 
     ghost writing_is_held = { λ shelf told name is. Prim.cc };
+
+    ghost held_is_bytes = { λ shelf told name. tt };
 
     fn fetch(&mut self, name: &str, most: usize, into: &mut Vec<u8>) -> Result<(), FetchError> {
         match read_file(self.rt, name, most, into) {
@@ -97,8 +107,12 @@ impl<'a, R: Files> Shelf for DiskShelf<'a, R> {
         let Ok(kept) = String::from_str(self.alloc, name) else {
             return Err(KeepError::NoMemory);
         };
+        let Ok(begun) = self.unfinished.reserve(name) else {
+            return Err(KeepError::NoMemory);
+        };
         match fs::create(self.rt, name) {
             Ok(file) => {
+                self.unfinished.begin(begun);
                 self.current = Some(Open { file, name: kept });
                 Ok(())
             }
@@ -116,6 +130,8 @@ impl<'a, R: Files> Shelf for DiskShelf<'a, R> {
         requires { IsSome (writing_on self.old.current) }
         ensures count { TakesSome piece.now result }
         ensures writing { writing_on self.new.current ≡ writing_on self.old.current }
+        ensures unfinished { is_among self.new.unfinished.names.items
+            ≡ is_among self.old.unfinished.names.items }
         ensures reads { KeepReads result (λ name. self.old.faults) (λ name. self.new.faults) }
         ensures writes { KeepWrites (name_of (writing_on self.old.current)) result
             (λ name. self.old.faults) (λ name. self.new.faults) }
@@ -138,13 +154,19 @@ impl<'a, R: Files> Shelf for DiskShelf<'a, R> {
     }
 
     fn finish(&mut self) -> Result<(), KeepError> {
-        let is_flushed = flush(&mut self.current);
-        self.current = None;
-        if is_flushed {
-            return Ok(());
+        let Some(mut open) = self.current.take() else {
+            unreachable!()
+        };
+        match open.file.flush() {
+            Ok(()) => {
+                self.unfinished.finish(open.name.as_str());
+                Ok(())
+            }
+            Err(_) => {
+                self.faults = self.faults.saturating_add(1);
+                Err(KeepError::Failed)
+            }
         }
-        self.faults = self.faults.saturating_add(1);
-        Err(KeepError::Failed)
     }
 
     fn is_writing(&self) -> bool {
@@ -167,17 +189,6 @@ fn write_to<F: Write>(current: &mut Option<Open<F>>, piece: &[u8]) -> Option<usi
 {
     match current {
         Some(open) => write_some(&mut open.file, piece),
-        None => unreachable!(),
-    }
-}
-
-// Whether all that was written has left for the device.
-fn flush<F: Write>(current: &mut Option<Open<F>>) -> bool
-    requires { IsSome current.old }
-    ensures { writing_on current.new ≡ writing_on current.old }
-{
-    match current {
-        Some(open) => open.file.flush().is_ok(),
         None => unreachable!(),
     }
 }

@@ -1,11 +1,14 @@
 ghost use Rattle.std.specs.Prelude.{◌≡◌, ◌≢◌, ◌<◌, ◌≤◌, ◌++◌, [], length, map, true, false, Some};
 ghost use Rattle.std.specs.Prelude.{IsTrue, IfOk, OnOk, OnErr, string_bytes, option_map};
-ghost use Rattle.sgm_io.specs.Held.{Held, NamedBytes, put, put_all, extend, no_files};
+ghost use Rattle.sgm_io.specs.Held.{Held, NamedBytes, AreBytes, put, put_all, extend, no_files};
+ghost use Rattle.sgm_io.specs.Names.{is_among};
+ghost use Rattle.sgm_io.specs.Unfinished.{no_names, with_name, without_name};
 ghost use Rattle.sgm_io.specs.Fetch.{Fetches};
 ghost use Rattle.sgm_io.specs.Keep.{name_of};
-ghost use Rattle.sgm_io.specs.Filed.{named_bytes, last_name, current_of};
+ghost use Rattle.sgm_io.specs.Filed.{HaveBytes, named_bytes, last_name, current_of};
 
 use crate::FetchError;
+use crate::unfinished::Unfinished;
 use std::alloc::{AllocError, Global};
 use std::marker::Model;
 
@@ -24,7 +27,8 @@ impl Model for NamedFile {
 
 impl NamedFile {
     fn make(name: String, bytes: Vec<u8>) -> NamedFile
-        ensures { result ≡ record { name = string_bytes name; bytes = bytes.items } }
+        ensures parts { result ≡ record { name = string_bytes name; bytes = bytes.items } }
+        ensures bytes { AreBytes result.bytes }
     {
         NamedFile { name, bytes }
     }
@@ -58,22 +62,27 @@ pub(crate) struct Files {
     alloc: Global,
     files: Vec<NamedFile>,
     is_open: bool,
+    unfinished: Unfinished,
     ghost has_last: { IsTrue is_open → 0 < length files.items },
+    ghost have_bytes: { HaveBytes files.items },
 }
 
 impl Files {
     pub(crate) fn make(alloc: Global, files: Vec<(String, Vec<u8>)>) -> Result<Files, AllocError>
         ensures files { IfOk result (λ kept. kept.files.items ≡ map named_bytes files.items) }
         ensures closed { IfOk result (λ kept. kept.is_open ≡ false) }
+        ensures unfinished { IfOk result (λ kept.
+            is_among kept.unfinished.names.items ≡ no_names) }
     {
-        let files = files
-            .into_iter()
-            .map(|(name, bytes)| NamedFile::make(name, bytes))
-            .collect(alloc)?;
+        let mut kept = Vec::new(alloc);
+        for (name, bytes) in files {
+            kept.push(NamedFile::make(name, bytes))?;
+        }
         Ok(Files {
             alloc,
-            files,
+            files: kept,
             is_open: false,
+            unfinished: Unfinished::make(alloc),
         })
     }
 
@@ -109,12 +118,18 @@ impl Files {
             ≡ put name.now [] (put_all self.old.files.items first)) }
         ensures open { OnOk result (self.new.is_open ≡ true) }
         ensures writing { OnOk result (last_name self.new.files.items ≡ Some name.now) }
+        ensures unfinished { OnOk result (is_among self.new.unfinished.names.items
+            ≡ with_name name.now (is_among self.old.unfinished.names.items)) }
         ensures err_files { OnErr result (self.new.files.items ≡ self.old.files.items) }
         ensures err_open { OnErr result (self.new.is_open ≡ self.old.is_open) }
+        ensures err_unfinished { OnErr result
+            (self.new.unfinished.names.items ≡ self.old.unfinished.names.items) }
     {
+        let begun = self.unfinished.reserve(name)?;
         let name = String::from_str(self.alloc, name)?;
         self.files
             .push(NamedFile::make(name, Vec::new(self.alloc)))?;
+        self.unfinished.begin(begun);
         self.is_open = true;
         Ok(())
     }
@@ -128,14 +143,32 @@ impl Files {
         ensures err { OnErr result (self.new.files.items ≡ self.old.files.items) }
         ensures name { last_name self.new.files.items ≡ last_name self.old.files.items }
         ensures open { self.new.is_open ≡ self.old.is_open }
+        ensures unfinished { self.new.unfinished ≡ self.old.unfinished }
     {
         grow_last(&mut self.files, piece)
     }
 
-    // Ends the file being written.
-    pub(crate) fn close(&mut self)
+    // Finishes the file being written.
+    pub(crate) fn finish(&mut self)
+        requires { IsTrue self.old.is_open }
         ensures files { self.new.files.items ≡ self.old.files.items }
         ensures closed { self.new.is_open ≡ false }
+        ensures unfinished { is_among self.new.unfinished.names.items
+            ≡ without_name (name_of (last_name self.old.files.items))
+            (is_among self.old.unfinished.names.items) }
+    {
+        let Some(file) = self.files.last() else {
+            unreachable!()
+        };
+        self.unfinished.finish(file.name());
+        self.is_open = false;
+    }
+
+    // Leaves the file being written as it is, unfinished.
+    pub(crate) fn leave(&mut self)
+        ensures files { self.new.files.items ≡ self.old.files.items }
+        ensures closed { self.new.is_open ≡ false }
+        ensures unfinished { self.new.unfinished ≡ self.old.unfinished }
     {
         self.is_open = false;
     }
@@ -156,7 +189,9 @@ fn bytes_under<'a>(files: &'a [NamedFile], name: &str) -> Option<&'a [u8]>
 
 // Adds a piece to the last file.
 fn grow_last(files: &mut [NamedFile], piece: &[u8]) -> Result<(), AllocError>
-    requires { 0 < length files.old }
+    requires some { 0 < length files.old }
+    requires bytes { HaveBytes files.old }
+    ensures bytes { HaveBytes files.new }
     ensures ok { OnOk result ((first : Held) → put_all files.new first
         ≡ extend (name_of (last_name files.old)) piece.now (put_all files.old first)) }
     ensures err { OnErr result (files.new ≡ files.old) }

@@ -16,6 +16,7 @@ mod sure_shelf;
 #[cfg(test)]
 mod tests;
 mod trip;
+mod unfinished;
 
 pub use disk_shelf::DiskShelf;
 pub use memory_shelf::MemoryShelf;

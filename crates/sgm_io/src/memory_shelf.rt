@@ -18,7 +18,9 @@ impl MemoryShelf {
     ghost use Rattle.sgm_io.specs.Counts.{no_faults};
     ghost use Rattle.sgm_io.specs.Filed.{named_bytes};
     ghost use Rattle.sgm_io.specs.Held.{no_files, put_all};
-    ghost use Rattle.sgm_io.specs.MemoryShelf.{held_in, writing_in, trips_in, reads_in, writes_in};
+    ghost use Rattle.sgm_io.specs.MemoryShelf.{held_in, writing_in, unfinished_in};
+    ghost use Rattle.sgm_io.specs.MemoryShelf.{trips_in, reads_in, writes_in};
+    ghost use Rattle.sgm_io.specs.Unfinished.{no_names};
 
     /// A shelf that holds these files. Where two have one name the later counts.
     pub fn make(
@@ -29,6 +31,7 @@ impl MemoryShelf {
         ensures held { IfOk result (λ shelf.
             held_in shelf ≡ put_all (map named_bytes files.items) no_files) }
         ensures writing { IfOk result (λ shelf. writing_in shelf ≡ None) }
+        ensures unfinished { IfOk result (λ shelf. unfinished_in shelf ≡ no_names) }
         ensures trips { IfOk result (λ shelf. trips_in shelf ≡ trips.items) }
         ensures reads { IfOk result (λ shelf. reads_in shelf ≡ no_faults) }
         ensures writes { IfOk result (λ shelf. writes_in shelf ≡ no_faults) }
@@ -105,8 +108,11 @@ impl MemoryShelf {
 impl Shelf for MemoryShelf {
     ghost use Rattle.sgm_io.specs.Fetch.{Fetches, FetchReads, FetchWrites, FetchCounts};
     ghost use Rattle.sgm_io.specs.Keep.{KeepReads, KeepWrites, KeepCounts};
+    ghost use Rattle.sgm_io.specs.Bytes.{files_hold_bytes};
     ghost use Rattle.sgm_io.specs.Keep.{Creates, CreatesWriting, Appends, FinishesWriting};
-    ghost use Rattle.sgm_io.specs.MemoryShelf.{held_in, writing_in, trips_in, reads_in, writes_in};
+    ghost use Rattle.sgm_io.specs.Keep.{Begins, Finishes};
+    ghost use Rattle.sgm_io.specs.MemoryShelf.{held_in, writing_in, unfinished_in};
+    ghost use Rattle.sgm_io.specs.MemoryShelf.{trips_in, reads_in, writes_in};
     ghost use Rattle.sgm_io.specs.MemoryShelf.{name_in, length_in, stops_here, SpendsAppend};
     ghost use Rattle.sgm_io.specs.Piece.{TakesSome, FillsUpTo};
     ghost use Rattle.sgm_io.specs.Trips.{is_fetch_of, is_create_of, is_finish_of, without_first};
@@ -119,12 +125,17 @@ impl Shelf for MemoryShelf {
 
     ghost writing = { writing_in };
 
+    ghost unfinished = { unfinished_in };
+
     ghost read_faults = { reads_in };
 
     ghost write_faults = { writes_in };
 
     ghost writing_is_held = { λ shelf told name is.
         writing_held shelf.files.is_open shelf.files.files.items _ name is };
+
+    ghost held_is_bytes = { λ shelf told.
+        files_hold_bytes shelf.files.files.items shelf.files.have_bytes };
 
     /// Fails where a trip of fetching the name is left, or the name is absent, and nowhere else.
     /// The name's read count is then one more.
@@ -135,6 +146,7 @@ impl Shelf for MemoryShelf {
         ensures empty { OnErr result (into.new.items ≡ []) }
         ensures held { held_in self.new ≡ held_in self.old }
         ensures writing { writing_in self.new ≡ writing_in self.old }
+        ensures unfinished { unfinished_in self.new ≡ unfinished_in self.old }
         ensures reads { FetchReads name.now result (reads_in self.old) (reads_in self.new) }
         ensures writes { FetchWrites result (writes_in self.old) (writes_in self.new) }
 
@@ -165,6 +177,8 @@ impl Shelf for MemoryShelf {
         ensures held { Creates name.now result (held_in self.old) (held_in self.new) }
         ensures writing { CreatesWriting name.now result
             (writing_in self.old) (writing_in self.new) }
+        ensures unfinished { Begins name.now result
+            (unfinished_in self.old) (unfinished_in self.new) }
         ensures reads { KeepReads result (reads_in self.old) (reads_in self.new) }
         ensures writes { KeepWrites name.now result (writes_in self.old) (writes_in self.new) }
 
@@ -177,7 +191,7 @@ impl Shelf for MemoryShelf {
             ≡ without_first (is_create_of name.now) (trips_in self.old) }
     {
         if self.faults.trips(Call::Create(name)) {
-            self.files.close();
+            self.files.leave();
             return Err(KeepError::Failed);
         }
         match self.files.begin(name) {
@@ -195,6 +209,7 @@ impl Shelf for MemoryShelf {
             (held_in self.old) (held_in self.new) }
         ensures count { TakesSome piece.now result }
         ensures writing { writing_in self.new ≡ writing_in self.old }
+        ensures unfinished { unfinished_in self.new ≡ unfinished_in self.old }
         ensures reads { KeepReads result (reads_in self.old) (reads_in self.new) }
         ensures writes { KeepWrites (name_in self.old) result
             (writes_in self.old) (writes_in self.new) }
@@ -224,6 +239,8 @@ impl Shelf for MemoryShelf {
         requires { IsSome (writing_in self.old) }
         ensures held { held_in self.new ≡ held_in self.old }
         ensures writing { FinishesWriting result (writing_in self.new) }
+        ensures unfinished { Finishes (name_in self.old) result
+            (unfinished_in self.old) (unfinished_in self.new) }
         ensures reads { KeepReads result (reads_in self.old) (reads_in self.new) }
         ensures writes { KeepWrites (name_in self.old) result
             (writes_in self.old) (writes_in self.new) }
@@ -236,11 +253,11 @@ impl Shelf for MemoryShelf {
         ensures spent { trips_in self.new
             ≡ without_first (is_finish_of (name_in self.old)) (trips_in self.old) }
     {
-        let is_tripped = self.trips_finish();
-        self.files.close();
-        if is_tripped {
+        if self.trips_finish() {
+            self.files.leave();
             return Err(KeepError::Failed);
         }
+        self.files.finish();
         Ok(())
     }
 

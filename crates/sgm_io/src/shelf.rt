@@ -1,11 +1,12 @@
 ghost use Rattle.std.specs.Prelude.{◌≡◌, ◌↔◌, ◌+◌, ◌<◌, ◌≤◌, ℕ, List, [], length, Bool, Option, Some};
 ghost use Rattle.std.specs.Prelude.{IsTrue, IsSome, OnOk, OnErr};
-ghost use Rattle.sgm_io.specs.Held.{Held, length_at};
+ghost use Rattle.sgm_io.specs.Held.{Held, HoldsBytes, length_at};
 ghost use Rattle.sgm_io.specs.Counts.{Counts};
 ghost use Rattle.sgm_io.specs.Piece.{TakesSome};
 ghost use Rattle.sgm_io.specs.Fetch.{Fetches, FetchReads, FetchWrites};
 ghost use Rattle.sgm_io.specs.Keep.{name_of, KeepReads, KeepWrites, Creates, CreatesWriting};
-ghost use Rattle.sgm_io.specs.Keep.{Appends, AppendsWhole, FinishesWriting};
+ghost use Rattle.sgm_io.specs.Keep.{Appends, AppendsWhole, FinishesWriting, Begins, Finishes};
+ghost use Rattle.sgm_io.specs.Unfinished.{NameSet};
 
 use thiserror::Error;
 
@@ -47,6 +48,10 @@ pub trait Shelf {
     /// The name being written, or none.
     ghost writing: { Self → Option (List ℕ) };
 
+    /// The names that were begun and not finished: a name begun stays so until a finish of it
+    /// answers Ok.
+    ghost unfinished: { Self → NameSet };
+
     /// For each name, how often reading it has failed.
     ghost read_faults: { Self → Counts };
 
@@ -64,16 +69,19 @@ pub trait Shelf {
         ensures empty { OnErr result (into.new.items ≡ []) }
         ensures held { IsTrue tells → held self.new ≡ held self.old }
         ensures writing { writing self.new ≡ writing self.old }
+        ensures unfinished { unfinished self.new ≡ unfinished self.old }
         ensures reads { FetchReads name.now result (read_faults self.old) (read_faults self.new) }
         ensures writes { FetchWrites result (write_faults self.old) (write_faults self.new) };
 
-    /// Begins a file anew, without bytes. A file that was being written before stays as it is.
+    /// Begins a file anew, without bytes. A file that was being written before stays as it is, and
+    /// unfinished.
     ///
     /// After Failed no file is being written, and the name is as before or holds no bytes. After
     /// NoMemory nothing has changed.
     fn create(&mut self, name: &str) -> Result<(), KeepError>
         ensures held { IsTrue tells → Creates name.now result (held self.old) (held self.new) }
         ensures writing { CreatesWriting name.now result (writing self.old) (writing self.new) }
+        ensures unfinished { Begins name.now result (unfinished self.old) (unfinished self.new) }
         ensures reads { KeepReads result (read_faults self.old) (read_faults self.new) }
         ensures writes { KeepWrites name.now result
             (write_faults self.old) (write_faults self.new) };
@@ -87,15 +95,19 @@ pub trait Shelf {
             Appends (name_of (writing self.old)) piece.now result (held self.old) (held self.new) }
         ensures count { TakesSome piece.now result }
         ensures writing { writing self.new ≡ writing self.old }
+        ensures unfinished { unfinished self.new ≡ unfinished self.old }
         ensures reads { KeepReads result (read_faults self.old) (read_faults self.new) }
         ensures writes { KeepWrites (name_of (writing self.old)) result
             (write_faults self.old) (write_faults self.new) };
 
-    /// Ends the file being written, also where it answers Failed. It never answers NoMemory.
+    /// Ends the file being written, also where it answers Failed; its name is then still unfinished.
+    /// It never answers NoMemory.
     fn finish(&mut self) -> Result<(), KeepError>
         requires { IsSome (writing self.old) }
         ensures held { IsTrue tells → held self.new ≡ held self.old }
         ensures writing { FinishesWriting result (writing self.new) }
+        ensures unfinished { Finishes (name_of (writing self.old)) result
+            (unfinished self.old) (unfinished self.new) }
         ensures reads { KeepReads result (read_faults self.old) (read_faults self.new) }
         ensures writes { KeepWrites (name_of (writing self.old)) result
             (write_faults self.old) (write_faults self.new) };
@@ -107,6 +119,9 @@ pub trait Shelf {
     /// A name that is being written is held, so that an append really adds its bytes.
     ghost writing_is_held: { (shelf : Self) → IsTrue tells →
         (name : List ℕ) → writing shelf ≡ Some name → IsSome (held shelf name) };
+
+    /// What is held are bytes.
+    ghost held_is_bytes: { (shelf : Self) → IsTrue tells → HoldsBytes (held shelf) };
 }
 
 /// Adds the whole piece to the file being written, or on an error a part from its front, which is
@@ -120,6 +135,7 @@ pub fn append_whole<S: Shelf>(shelf: &mut S, piece: &[u8]) -> Result<(), KeepErr
         (let name = name_of (S.writing shelf.old) in
         length_at (S.held shelf.new) name < length_at (S.held shelf.old) name + length piece.now) }
     ensures writing { S.writing shelf.new ≡ S.writing shelf.old }
+    ensures unfinished { S.unfinished shelf.new ≡ S.unfinished shelf.old }
     ensures reads { KeepReads result (S.read_faults shelf.old) (S.read_faults shelf.new) }
     ensures writes { KeepWrites (name_of (S.writing shelf.old)) result
         (S.write_faults shelf.old) (S.write_faults shelf.new) }

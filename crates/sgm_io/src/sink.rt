@@ -1,4 +1,4 @@
-ghost use Rattle.std.specs.Prelude.{ℕ, List, Bool, IsTrue};
+ghost use Rattle.std.specs.Prelude.{ℕ, ◌+◌, ◌<◌, List, length, Bool, IsTrue, OnErr};
 ghost use Rattle.sgm_io.specs.Piece.{TakesSome};
 ghost use Rattle.sgm_io.specs.Sink.{SinkFaults, Writes, WritesWhole};
 
@@ -34,10 +34,13 @@ pub trait Sink {
         ensures faults { SinkFaults result (faults self.old) (faults self.new) };
 }
 
-/// Adds the whole piece, or on an error a part from its front. It takes no memory.
+/// Adds the whole piece, or on an error a part from its front, which is never all of it. It takes no
+/// memory.
 pub fn write_whole<O: Sink>(sink: &mut O, piece: &[u8]) -> Result<(), SinkError>
     ensures written { IsTrue O.tells →
         WritesWhole piece.now result (O.written sink.old) (O.written sink.new) }
+    ensures short { IsTrue O.tells → OnErr result
+        (length (O.written sink.new) < length (O.written sink.old) + length piece.now) }
     ensures faults { SinkFaults result (O.faults sink.old) (O.faults sink.new) }
 {
     let mut done = 0;

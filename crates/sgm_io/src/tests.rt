@@ -1,3 +1,6 @@
+ghost use Rattle.std.specs.Prelude.{◌≡◌, OnOk};
+ghost use Rattle.sgm_io.specs.Unfinished.{without_name};
+
 use crate::device::read_at_most;
 use crate::{
     DiskShelf, FetchError, KeepError, MemoryShelf, MemorySink, Shelf, Sink, SinkError, StdSink,
@@ -23,6 +26,17 @@ fn bytes_of<S: Shelf>(alloc: Global, shelf: &mut S, name: &str) -> Result<Vec<u8
     let mut bytes = Vec::new(alloc);
     shelf.fetch(name, 100, &mut bytes)?;
     Ok(bytes)
+}
+
+// Writes a file from its beginning to its end.
+fn keep<S: Shelf>(shelf: &mut S, name: &str, bytes: &[u8]) -> Result<(), KeepError>
+    ensures { OnOk result
+        (S.unfinished shelf.new ≡ without_name name.now (S.unfinished shelf.old)) }
+{
+    shelf.create(name)?;
+    append_whole(shelf, bytes)?;
+    shelf.finish()?;
+    Ok(())
 }
 
 #[test]
@@ -183,33 +197,85 @@ fn a_sink_without_room_fails_at_once(rt: HostRuntime) -> Result<(), Fail> {
     Ok(())
 }
 
+// The name of a file of this test alone.
+fn scratch(rt: &HostRuntime) -> io::Result<String> {
+    let folder = env::temp_dir(rt)?;
+    format!(in rt.alloc(); "{}/sgm_io_{}", folder.display(), process::id(rt.process())).map_err(
+        io::Error::from,
+    )
+}
+
+// Bytes of which none is the one that stands a chunk before it.
+fn unlike(alloc: Global, length: usize) -> Result<Vec<u8>, AllocError> {
+    let mut bytes = Vec::new(alloc);
+    for at in 0..length {
+        bytes.push((at % 251) as u8)?;
+    }
+    Ok(bytes)
+}
+
 #[test]
-fn a_disk_shelf_writes_and_reads_real_files(rt: HostRuntime) -> Result<(), Fail> {
+fn a_real_file_is_read_whole_at_every_length(rt: HostRuntime) -> Result<(), Fail> {
     let alloc = rt.alloc();
-    let folder = env::temp_dir(&rt)?;
-    let name = format!(in alloc; "{}/sgm_io_{}", folder.display(), process::id(rt.process()))?;
-    let name = name.as_str();
+    let name = scratch(&rt)?;
     let mut shelf = DiskShelf::make(&rt, alloc);
     let mut bytes = Vec::new(alloc);
-    assert_eq!(rt; shelf.fetch(name, 100, &mut bytes), Err(FetchError::Failed));
-    assert_eq!(rt; shelf.create(name), Ok(()));
-    assert!(rt; shelf.is_writing());
-    assert_eq!(rt; append_whole(&mut shelf, &[7; 70000]), Ok(()));
-    assert!(rt; shelf.is_writing());
-    assert_eq!(rt; shelf.finish(), Ok(()));
+    for length in [1, 65535, 65536, 65537, 131072, 131073] {
+        let wanted = unlike(alloc, length)?;
+        fs::write(&rt, name.as_str(), wanted.as_slice())?;
+        bytes.clear();
+        assert_eq!(rt; shelf.fetch(name.as_str(), length, &mut bytes), Ok(()));
+        assert!(rt; bytes.as_slice() == wanted.as_slice(), "{length} bytes");
+        bytes.clear();
+        assert_eq!(rt;
+            shelf.fetch(name.as_str(), length - 1, &mut bytes),
+            Err(FetchError::TooLong)
+        );
+    }
+    fs::remove_file(&rt, name.as_str())?;
+    Ok(())
+}
+
+#[test]
+fn a_real_file_is_begun_anew(rt: HostRuntime) -> Result<(), Fail> {
+    let alloc = rt.alloc();
+    let name = scratch(&rt)?;
+    let mut shelf = DiskShelf::make(&rt, alloc);
+    let long = unlike(alloc, 70000)?;
+    assert_eq!(rt; keep(&mut shelf, name.as_str(), long.as_slice()), Ok(()));
     assert!(rt; !shelf.is_writing());
-    bytes.clear();
-    assert_eq!(rt; shelf.fetch(name, 70000, &mut bytes), Ok(()));
-    assert!(rt; bytes.as_slice() == [7; 70000].as_slice());
-    bytes.clear();
+    assert!(rt; fs::read(&rt, name.as_str())?.as_slice() == long.as_slice());
+    assert_eq!(rt; keep(&mut shelf, name.as_str(), b"short"), Ok(()));
     assert_eq!(rt;
-        shelf.fetch(name, 69999, &mut bytes),
-        Err(FetchError::TooLong)
+        fs::read(&rt, name.as_str())?.as_slice(),
+        b"short".as_slice()
+    );
+    fs::remove_file(&rt, name.as_str())?;
+    Ok(())
+}
+
+#[test]
+fn a_device_that_refuses_is_a_fault(rt: HostRuntime) -> Result<(), Fail> {
+    let alloc = rt.alloc();
+    let absent = scratch(&rt)?;
+    let mut shelf = DiskShelf::make(&rt, alloc);
+    let mut bytes = Vec::new(alloc);
+    assert_eq!(rt;
+        shelf.fetch(absent.as_str(), 100, &mut bytes),
+        Err(FetchError::Failed)
     );
     bytes.clear();
-    fs::remove_file(&rt, name)?;
     assert_eq!(rt; shelf.fetch("/", 100, &mut bytes), Err(FetchError::Failed));
     assert_eq!(rt; shelf.create("/"), Err(KeepError::Failed));
+    Ok(())
+}
+
+#[test]
+fn short_reads_are_joined(rt: HostRuntime) -> Result<(), Fail> {
+    let mut bytes = Vec::new(rt.alloc());
+    let mut stream = b"one".as_slice().chain(b"three".as_slice());
+    assert_eq!(rt; read_at_most(&mut stream, 8, &mut bytes), Ok(()));
+    assert_eq!(rt; bytes.as_slice(), b"onethree".as_slice());
     Ok(())
 }
 

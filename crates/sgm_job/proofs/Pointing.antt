@@ -16,7 +16,7 @@ use Rattle.sgm_census.proofs.InWindow.{get_or-row_of}
 use Rattle.std.specs.Prelude.{option_and_then}
 use Rattle.sgm_height.specs.declared.camera.Camera.{Camera}
 use Rattle.sgm_grid.specs.declared.grid_spec.GridSpec.{GridSpec}
-use Rattle.sgm_grid.specs.Cells.{Cells, cells_of, height_at, place_of}
+use Rattle.sgm_grid.specs.Cells.{Cells, cells_of, height_at, cell_index}
 use Rattle.sgm_grid.specs.Points.{added, cell_after, cell_of, empty_grid, raised}
 use Rattle.sgm_grid.proofs.Added.{highest_of_points}
 use Rattle.sgm_job.specs.Heights.{point_at, points_of_row, points_of, highest}
@@ -126,7 +126,7 @@ grid_is grid spec f same some full each =
     (λ k l. let at : k ≡ k / spec.cols * spec.cols + k % spec.cols = omega arith in
     ap (λ j. get_or grid.heights j None) at
     ∙ ap (λ (s : GridSpec). get_or grid.heights (k / spec.cols * s.cols + k % spec.cols) None) (sym same)
-    ∙ sym (unwrap_or-slice_get grid.heights (place_of grid.spec (k % spec.cols) (k / spec.cols)) None)
+    ∙ sym (unwrap_or-slice_get grid.heights (cell_index grid.spec (k % spec.cols) (k / spec.cols)) None)
     ∙ each (k % spec.cols) (k / spec.cols) (mod_below k spec.cols some) (div_below k spec.cols spec.rows some (omega arith))))
 
 -- adding a list of points makes the grid of the greatest heights

@@ -73,7 +73,7 @@ least_index-agree counts f g n h =
 
 -- ---- the entries of one pixel
 
-part_at : (xs : List ℕ) (i n k : ℕ) → k < n → slice_index (take n (drop i xs)) k ≡ slice_index xs (i + k)
+pub part_at : (xs : List ℕ) (i n k : ℕ) → k < n → slice_index (take n (drop i xs)) k ≡ slice_index xs (i + k)
 part_at xs i n k h = get_or-take n (drop i xs) k 0 h ∙ get_or-drop i xs k 0
 
 -- the choice among the entries of one pixel is that of the pixel in the row

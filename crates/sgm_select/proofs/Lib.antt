@@ -1,7 +1,7 @@
 pub mod Examples
 pub mod Greatest
+pub mod Keys
 pub mod LeastIndex
-pub mod Matches
 pub mod Parts
 pub mod Rows
 pub mod Selected

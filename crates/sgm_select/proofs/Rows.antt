@@ -2,8 +2,7 @@
 use Rattle.std.proofs.Common.{◌≡◌, ℕ, ◌+◌, ◌*◌, ◌<◌, true, cond, List, length, get_or, Option, Some, None, option_and_then, unwrap_or, ℤ, pos, negsuc, ◌+ℤ◌, ◌-ℤ◌, refl, sym, ap, ◌∙◌, inl, inr, arith, slice_index}
 use Rattle.std.proofs.lemmas.Bool.{cases_lt, lt-ltb, le-ltb}
 use Rattle.std.proofs.lemmas.Option.{get_or_from_slice_get}
-use Rattle.sgm_base.specs.Values.{Values, row_of}
-use Rattle.sgm_base.specs.Values.{value_at}
+use Rattle.sgm_base.specs.Values.{Values, row_of, value_at}
 use Rattle.sgm_base.specs.Columns.{column_within, left_column, right_column}
 use Rattle.sgm_census.proofs.InWindow.{get_or-row_of}
 use Rattle.sgm_energy.specs.Rays.{pixel_at, Problem}

@@ -1,20 +1,18 @@
 ghost use Rattle.std.specs.Prelude.{◌≡◌, ◌^◌, ◌<◌, length, slice_get, Some, None, EachIndex, All, IfSome};
-ghost use Rattle.sgm_base.specs.Disparities.{IsFirst};
-ghost use Rattle.sgm_base.specs.Columns.{right_column as right_column_of};
-ghost use Rattle.sgm_select.specs.Selection.{checked as checked_of};
+ghost use Rattle.sgm_base.specs.Columns.{right_column};
+ghost use Rattle.sgm_select.specs.Selection.{checked};
 ghost use Rattle.sgm_select.specs.Rows.{checked_in};
 
-use sgm_base::Span;
+use sgm_base::{MAX_COUNT, Span};
 
 /// The column of the right row that the index `d` gives to the column `x`, where it lies in the row.
-fn right_column(width: usize, first: i32, x: usize, d: u16) -> Option<usize>
+fn seen_at(width: usize, span: Span, x: usize, d: u16) -> Option<usize>
     requires column { x < width }
     requires wide { width < 2 ^ 62 }
-    requires first { IsFirst first }
-    ensures value { result ≡ right_column_of width first x d }
+    ensures value { result ≡ right_column width span.first x d }
     ensures inside { IfSome result (λ q. q < width) }
 {
-    let q = x as i64 - i64::from(first) - i64::from(d);
+    let q = x as i64 - i64::from(span.first) - i64::from(d);
     if 0 <= q && q < width as i64 {
         Some(q as usize)
     } else {
@@ -23,9 +21,9 @@ fn right_column(width: usize, first: i32, x: usize, d: u16) -> Option<usize>
 }
 
 /// The index in sixteenths, where neither pixel is void and the index of the right one is at most 1 away.
-fn checked(base: u16, left: Option<u16>, right: Option<u16>, matched: Option<u16>) -> Option<u16>
-    requires { base < 256 }
-    ensures { result ≡ checked_of base left right matched }
+fn kept(base: u16, left: Option<u16>, right: Option<u16>, matched: Option<u16>) -> Option<u16>
+    requires { base < MAX_COUNT }
+    ensures { result ≡ checked base left right matched }
 {
     match (left, right, matched) {
         (Some(_), Some(_), Some(index)) if base.abs_diff(index) <= 1 => Some(16 * base),
@@ -51,8 +49,8 @@ fn check_at(
     ensures { result ≡ checked_in base.now matched.now left.now right.now span.first x }
 {
     let index = base[x];
-    let q = right_column(base.len(), span.first, x, index)?;
-    checked(index, left[x], right[q], matched[q])
+    let q = seen_at(base.len(), span, x, index)?;
+    kept(index, left[x], right[q], matched[q])
 }
 
 /// Writes the disparity of each pixel of the left row in sixteenths: `16 * base` where the column

@@ -1,8 +1,7 @@
 use Rattle.std.proofs.Common.{◌≡◌, ℕ, ◌^◌, ◌<◌, List, get_or, Option, Some, None, option_map, ap, sym, ◌∙◌, subst, arith, inl, inr}
 use Rattle.sgm_base.specs.Sides.{Sides}
-use Rattle.sgm_base.specs.Values.{Values, row_of}
+use Rattle.sgm_base.specs.Values.{Values, row_of, value_at}
 use Rattle.sgm_census.specs.Windows.{WindowSides, IsWindow, greatest_of}
-use Rattle.sgm_base.specs.Values.{value_at}
 use Rattle.sgm_census.specs.Packed.{bits_of}
 use Rattle.sgm_census.proofs.Centres.{middle, code_at-outside, code_at-void}
 use Rattle.sgm_census.proofs.CodeWords.{without, code_at-word, code_word_small, code_at-missing}

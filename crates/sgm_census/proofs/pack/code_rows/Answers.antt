@@ -3,7 +3,7 @@ use Rattle.std.proofs.lemmas.Bool.{cases_eq}
 use Rattle.sgm_base.specs.Sides.{Sides}
 use Rattle.sgm_census.specs.Windows.{greatest_of}
 use Rattle.sgm_census.specs.Codes.{code_at}
-use Rattle.sgm_census.specs.Packed.{unpacked, place_of}
+use Rattle.sgm_census.specs.Packed.{unpacked, word_place}
 use Rattle.sgm_census.proofs.CodeRows.{unpacked-same, place_before}
 use Rattle.sgm_census.proofs.pack.code_rows.Goals as goal
 
@@ -18,10 +18,10 @@ loop-y-preserved c =
       within = c.code_row.ensures.within;
       each = λ x r h k. elim (cases_eq r y) [
         | inl e ↦
-            (let place : y * c.size.inside.width + (plane.width - 1 - x) ≡ place_of plane.width x r = ap (λ m. m + (plane.width - 1 - x)) (at ∙ ap (λ m. m * plane.width) (sym e)) in
+            (let place : y * c.size.inside.width + (plane.width - 1 - x) ≡ word_place plane.width x r = ap (λ m. m + (plane.width - 1 - x)) (at ∙ ap (λ m. m * plane.width) (sym e)) in
             ap (λ m. unpacked n c.code_row.new.words c.code_row.new.present m) (sym place) ∙ c.code_row.ensures.each x h ∙ ap (λ m. code_at plane c.args.window x m) (sym e))
         | inr e ↦
-            (let place = place_of plane.width x r in
+            (let place = word_place plane.width x r in
             let before : place < y * c.size.inside.width = omega (arith, at, place_before plane.width x r y h (omega arith)) in
             unpacked-same n c.loop-y.words c.code_row.new.words c.loop-y.present c.code_row.new.present place (c.code_row.ensures.words_before place before) (c.code_row.ensures.present_before place before)
             ∙ c.loop-y.invariant.each x r h (omega arith))

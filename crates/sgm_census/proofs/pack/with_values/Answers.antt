@@ -1,5 +1,4 @@
-use Rattle.std.proofs.Common.{None, ltb, ap, sym, ◌∙◌, rules, length}
-use Rattle.std.proofs.Common.{option_map}
+use Rattle.std.proofs.Common.{None, ltb, ap, sym, ◌∙◌, rules, length, option_map}
 use Rattle.sgm_census.specs.Packed.{pushed}
 use Rattle.sgm_census.proofs.Bits.{room_more}
 use Rattle.sgm_census.proofs.LessThan.{less_than-nil, less_than_none, pushed_more}

@@ -6,6 +6,7 @@ append-tells g c = record {
   held = λ told. cc;
   count = c.ensures.count;
   writing = c.ensures.writing;
+  unfinished = c.ensures.unfinished;
   reads = c.ensures.reads;
   writes = c.ensures.writes;
 }

@@ -1,7 +1,8 @@
 use Rattle.std.proofs.Common.{◌∙◌, ℕ, ◌+◌, Bool, ◌||◌, sym, ap, take, subst}
 use Rattle.sgm_io.specs.Piece.{FillsUpTo}
 use Rattle.sgm_io.specs.Trips.{fails_append}
-use Rattle.sgm_io.proofs.FillLaws.{FillsUpTo-same, or_false}
+use Rattle.std.proofs.Math.Bool.{or-false}
+use Rattle.sgm_io.proofs.FillLaws.{FillsUpTo-same}
 use Rattle.sgm_io.proofs.TripLaws.{fails_append-more}
 use Rattle.sgm_io.proofs.faults.Faults.room.Goals as goal
 use Rattle.sgm_io.proofs.faults.Faults.room.Goals.{in-Some, in_default}
@@ -18,6 +19,6 @@ loop-trip-preserved c =
           (λ at. sym (more at ∙ ap (λ (b : Bool). stops at || b) (w.in-Some.ensures at)))
           (w.fill_to-count.ensures.fills stops c.args.most c.loop-trip.invariant))
       | in_default w ↦ subst P (sym w.count-is) (FillsUpTo-same _ _ _ _ _
-          (λ at. sym (more at ∙ ap (λ (b : Bool). stops at || b) (w.in_default.ensures at) ∙ or_false (stops at)))
+          (λ at. sym (more at ∙ ap (λ (b : Bool). stops at || b) (w.in_default.ensures at) ∙ or-false (stops at)))
           c.loop-trip.invariant)
     ]

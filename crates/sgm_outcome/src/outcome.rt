@@ -1,0 +1,49 @@
+ghost use Rattle.std.specs.Prelude.{◌≡◌};
+ghost use Rattle.sgm_outcome.specs.Status.{status_of};
+
+use sgm_base::{Side, Size};
+use sgm_calib::CalibFault;
+use sgm_pgm::PgmFault;
+use sgm_rectify::WarpFault;
+use sgm_words::{Input, Output, UsageFault};
+
+/// Why the inputs are refused.
+#[derive(Clone, Copy, Debug, PartialEq, Eq)]
+pub enum Refusal {
+    /// The input has more bytes than are allowed.
+    TooLong(Input),
+    Pgm(Side, PgmFault),
+    Calib(CalibFault),
+    SizesDiffer { left: Size, right: Size },
+    /// Width * height * count is above the limit.
+    VolumeTooLarge { cells: u64 },
+    /// The image of this side can't be rectified by its warp.
+    Warp(Side, WarpFault),
+}
+
+/// How a run ended.
+#[derive(Clone, Copy, Debug, PartialEq, Eq)]
+pub enum Outcome {
+    Done,
+    Usage(UsageFault),
+    Refused(Refusal),
+    ReadFault(Input),
+    WriteFault(Output),
+    NoMemory,
+}
+
+impl Outcome {
+    /// The status that the program ends with: 0, 2, 3, 4, 5, 6 in the order of the variants.
+    pub fn status(&self) -> u8
+        ensures { result ≡ status_of self.now }
+    {
+        match self {
+            Outcome::Done => 0,
+            Outcome::Usage(_) => 2,
+            Outcome::Refused(_) => 3,
+            Outcome::ReadFault(_) => 4,
+            Outcome::WriteFault(_) => 5,
+            Outcome::NoMemory => 6,
+        }
+    }
+}

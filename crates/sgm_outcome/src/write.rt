@@ -1,0 +1,73 @@
+//! The line of an outcome, and writing it.
+ghost use Rattle.std.specs.Prelude.{◌≡◌, ◌≤◌, IsTrue, length};
+ghost use Rattle.sgm_outcome.specs.Lines.{word_line, usage_line, line_of, TakesLine};
+
+use crate::Outcome;
+use crate::line::Line;
+use crate::refusals::refusal_line;
+use sgm_io::{Sink, write_whole};
+use sgm_words::UsageFault;
+
+// What is wrong with the word at a position.
+fn word_line(position: usize, what: &str) -> Line
+    requires { length what.now ≤ 64 }
+    ensures { result ≡ word_line position what.now }
+{
+    Line::new()
+        .text("sgm: word ")
+        .number(position as u64)
+        .text(what)
+}
+
+fn usage_line(fault: UsageFault) -> Line
+    ensures { result ≡ usage_line fault }
+{
+    match fault {
+        UsageFault::NoCommand => Line::new().text("sgm: no command\n"),
+        UsageFault::UnknownCommand => Line::new().text("sgm: unknown command\n"),
+        UsageFault::TooFew { have, need } => Line::new()
+            .text("sgm: ")
+            .number(have as u64)
+            .text(" words after the command, ")
+            .number(need as u64)
+            .text(" needed\n"),
+        UsageFault::EmptyName { position } => word_line(position, " is empty\n"),
+        UsageFault::BadNumber { position } => { word_line(position, " is not a number in range\n") }
+        UsageFault::BadOption { position } => word_line(position, " is not an option\n"),
+        UsageFault::RepeatedOption { position } => word_line(position, " repeats an option\n"),
+        UsageFault::OutputIsInput { position } => word_line(position, " is also an output\n"),
+    }
+}
+
+#[tactic(auto, unfolding(crate::specs::Lines::line_of))]
+fn outcome_line(outcome: Outcome) -> Line
+    ensures { result ≡ line_of outcome }
+{
+    match outcome {
+        Outcome::Done => Line::new(),
+        Outcome::Usage(fault) => usage_line(fault),
+        Outcome::Refused(refusal) => refusal_line(refusal),
+        Outcome::ReadFault(input) => Line::new()
+            .text("sgm: cannot read ")
+            .text(input.word())
+            .text("\n"),
+        Outcome::WriteFault(output) => Line::new()
+            .text("sgm: cannot write ")
+            .text(output.word())
+            .text("\n"),
+        Outcome::NoMemory => Line::new().text("sgm: no memory\n"),
+    }
+}
+
+/// Adds the outcome's line in one piece, or, where the sink has failed, its beginning; nothing for Done.
+/// Takes no memory.
+pub fn write_fault<E: Sink>(outcome: &Outcome, err: &mut E)
+    ensures line { IsTrue E.tells → TakesLine (line_of outcome.now)
+        (E.faults err.old) (E.faults err.new) (E.written err.old) (E.written err.new) }
+    ensures faults { E.faults err.old ≤ E.faults err.new }
+{
+    match write_whole(err, outcome_line(*outcome).as_bytes()) {
+        Ok(()) => {}
+        Err(_) => {}
+    }
+}

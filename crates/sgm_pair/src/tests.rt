@@ -1,0 +1,14 @@
+use crate::pair;
+use sgm_base::Size;
+use std::test::Fail;
+
+#[test]
+fn a_sample_of_each_side_is_the_known_one(rt: HostRuntime) -> Result<(), Fail> {
+    let size = Size::make(9, 1).ok_or("a size")?;
+    let (left, right) = pair(rt.alloc(), size, 0)?;
+    assert_eq!(rt; left.samples().first().copied(), Some(155));
+    assert_eq!(rt; left.samples().last().copied(), Some(170));
+    assert_eq!(rt; right.samples().first().copied(), Some(170));
+    assert_eq!(rt; (left.maxval(), right.maxval()), (255, 255));
+    Ok(())
+}

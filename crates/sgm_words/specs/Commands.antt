@@ -1,0 +1,37 @@
+-- The commands.
+use Rattle.std.specs.Prelude.{ℕ, List, [], ◌∷◌, Bool, true, codes, Option, find}
+use Rattle.std.specs.Str.{bytes_eq}
+use Rattle.sgm_words.specs.declared.commands.Command.{Command}
+use Rattle.sgm_words.specs.declared.commands.Command.TheVariants.{Match, Demo}
+use Rattle.sgm_words.specs.declared.files.Output.{Output}
+use Rattle.sgm_words.specs.declared.files.Output.TheVariants.{Disparity, Heights, Report}
+
+-- a command: its name, how many operands it has, how many of them are names, which come first, and how many are
+-- numbers, which come last, whether options follow, and the outputs that are named after its last name
+pub record CommandEntry : Type 0 where
+  pub name : List ℕ
+  pub operands : ℕ
+  pub names : ℕ
+  pub numbers : ℕ
+  pub has_options : Bool
+  pub outputs : List Output
+
+abbrev pub command_entry : List ℕ → ℕ → ℕ → ℕ → Bool → List Output → CommandEntry
+command_entry name operands names numbers has_options outputs =
+    record { name = name; operands = operands; names = names; numbers = numbers; has_options = has_options; outputs = outputs }
+
+-- the table of commands
+abbrev pub entry_of : Command → CommandEntry
+entry_of Match = command_entry (codes "match") 4 4 0 true (Disparity ∷ Heights ∷ Report ∷ [])
+entry_of Demo = command_entry (codes "demo") 1 0 1 true []
+
+abbrev pub commands : List Command
+commands = Match ∷ Demo ∷ []
+
+-- this is the command's name
+abbrev pub is_named : List ℕ → Command → Bool
+is_named name command = bytes_eq (entry_of command).name name
+
+-- the command of this name
+unfoldable pub command_named : List ℕ → Option Command
+command_named name = find (is_named name) commands

@@ -1,0 +1,10 @@
+pub mod Commands
+pub mod Faults
+pub mod Files
+pub mod Numbers
+pub mod Operands
+pub mod OptionTable
+pub mod Ranges
+pub mod Rows
+pub mod Settings
+pub mod Words

@@ -1,0 +1,23 @@
+-- The ranges of what the words ask for.
+use Rattle.std.specs.Prelude.{ℕ, ◌≤◌}
+use Rattle.sgm_base.specs.declared.limits.TheConstants.{MAX_STRIPS, MAX_WORKERS}
+use Rattle.sgm_words.specs.declared.options.Options.{Options}
+use Rattle.sgm_words.specs.declared.options.Options.TheVariants.{Match, Demo}
+
+-- a number of strips
+abbrev pub IsStrips : ℕ → Type 0
+IsStrips n = (1 ≤ n) × (n ≤ MAX_STRIPS)
+
+-- a number of workers
+abbrev pub IsWorkers : ℕ → Type 0
+IsWorkers n = (1 ≤ n) × (n ≤ MAX_WORKERS)
+
+-- the options are in their ranges
+abbrev pub AreInRange : Options → Type 0
+AreInRange (Match strips workers) = IsStrips strips × IsWorkers workers
+AreInRange (Demo number strips workers) = IsStrips strips × IsWorkers workers
+
+-- how many operands go with the options
+abbrev pub operand_count : Options → ℕ
+operand_count (Match strips workers) = 4
+operand_count (Demo number strips workers) = 1

@@ -1,0 +1,38 @@
+-- What the words ask for.
+use Rattle.std.specs.Prelude.{ℕ, List, [], ◌∷◌, Option, None, Some, unwrap_or, Result, Ok, Err, drop}
+use Rattle.sgm_words.specs.Commands.{command_named}
+use Rattle.sgm_words.specs.Faults.{options_at, fault_of}
+use Rattle.sgm_words.specs.Numbers.{number_of}
+use Rattle.sgm_words.specs.Operands.{word}
+use Rattle.sgm_words.specs.OptionTable.{setting_of}
+use Rattle.sgm_words.specs.declared.commands.Command.{Command}
+use Rattle.sgm_words.specs.declared.commands.Command.TheVariants as command
+use Rattle.sgm_words.specs.declared.option_table.TheConstants.{STRIPS, WORKERS}
+use Rattle.sgm_words.specs.declared.options.Options.{Options}
+use Rattle.sgm_words.specs.declared.options.Options.TheVariants.{Match, Demo}
+use Rattle.sgm_words.specs.declared.usage.UsageFault.{UsageFault}
+use Rattle.sgm_words.specs.declared.usage.UsageFault.TheVariants.{NoCommand, UnknownCommand}
+
+-- what a command's words ask for, where they have no fault
+abbrev pub asked_of : Command → List (List ℕ) → Options
+asked_of command.Match words =
+    let later = drop (options_at command.Match) words in
+    Match (setting_of STRIPS later) (setting_of WORKERS later)
+asked_of command.Demo words =
+    let later = drop (options_at command.Demo) words in
+    Demo (unwrap_or (number_of (word words 1)) 0) (setting_of STRIPS later) (setting_of WORKERS later)
+
+-- these options, unless there is a fault
+abbrev pub unless_fault : Option UsageFault → Options → Result Options UsageFault
+unless_fault None options = Ok options
+unless_fault (Some fault) options = Err fault
+
+-- the words of a command
+abbrev pub read_command : Option Command → List (List ℕ) → Result Options UsageFault
+read_command None words = Err UnknownCommand
+read_command (Some command) words = unless_fault (fault_of command words) (asked_of command words)
+
+-- the options, or the first fault of the words
+unfoldable pub read_of : List (List ℕ) → Result Options UsageFault
+read_of [] = Err NoCommand
+read_of (name ∷ later) = read_command (command_named name) (name ∷ later)

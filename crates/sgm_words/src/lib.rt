@@ -1,0 +1,23 @@
+//! The words of the command line: the commands, their operands and options, the first fault of the words,
+//! and the names of what a run reads and writes.
+#![tactic(auto)]
+
+mod commands;
+mod faults;
+mod files;
+mod numbers;
+mod operands;
+mod option_table;
+mod options;
+mod read;
+mod settings;
+mod usage;
+
+pub use files::{Input, Output};
+pub use operands::OperandWords;
+pub use options::Options;
+pub use read::read_words;
+pub use usage::UsageFault;
+
+#[cfg(test)]
+mod tests;

@@ -1,0 +1,13 @@
+/// What the words ask for. The operands of `match` are the words 1 to 4.
+#[derive(Clone, Copy, Debug, PartialEq, Eq)]
+pub enum Options {
+    Match {
+        strips: u32,
+        workers: u32,
+    },
+    Demo {
+        number: u32,
+        strips: u32,
+        workers: u32,
+    },
+}

@@ -1,0 +1,70 @@
+//! Reading the words.
+ghost use Rattle.std.specs.Prelude.{◌≡◌, ◌<◌, ◌+◌, drop, length, IfOk};
+ghost use Rattle.sgm_words.specs.Faults.{options_at, fault_of};
+ghost use Rattle.sgm_words.specs.Operands.{bytes_of};
+ghost use Rattle.sgm_words.specs.Ranges.{AreInRange, operand_count};
+ghost use Rattle.sgm_words.specs.Settings.{AreGiven};
+ghost use Rattle.sgm_words.specs.Words.{asked_of, unless_fault, read_of};
+
+use crate::commands::Command;
+use crate::faults::{operand_fault, overwrite_fault};
+use crate::numbers::number;
+use crate::operands::word_at;
+use crate::option_table::{STRIPS, WORKERS};
+use crate::settings::{Settings, read_settings, value_at};
+use crate::{Options, UsageFault};
+
+// What the words of a command ask for that sets its options to this.
+fn asked(command: Command, words: &[String], settings: &Settings) -> Options
+    requires { AreGiven (drop (options_at command) (bytes_of words.now)) settings.now }
+    ensures exact { result ≡ asked_of command (bytes_of words.now) }
+    ensures in_range { AreInRange result }
+    ensures operands { operand_count result + 1 ≡ options_at command }
+{
+    let strips = value_at(settings, STRIPS);
+    let workers = value_at(settings, WORKERS);
+    match command {
+        Command::Match => Options::Match { strips, workers },
+        Command::Demo => Options::Demo {
+            number: number(word_at(words, 1)).unwrap_or(0),
+            strips,
+            workers,
+        },
+    }
+}
+
+// The options of a command, or the first fault of its words.
+fn read_command(command: Command, words: &[String]) -> Result<Options, UsageFault>
+    requires { 0 < length words.now }
+    ensures exact { result ≡ unless_fault (fault_of command (bytes_of words.now)) (asked_of command (bytes_of words.now)) }
+    ensures in_range { IfOk result AreInRange }
+    ensures operands { IfOk result (λ options. operand_count options < length words.now) }
+{
+    if let Some(fault) = operand_fault(command, words) {
+        return Err(fault);
+    }
+    let settings = match read_settings(command, words) {
+        Ok(settings) => settings,
+        Err(fault) => return Err(fault),
+    };
+    if let Some(fault) = overwrite_fault(command, words) {
+        return Err(fault);
+    }
+    Ok(asked(command, words, &settings))
+}
+
+/// The options, or the first fault of the words. Takes no memory.
+#[tactic(auto, unfolding(crate::specs::Words::read_of))]
+pub fn read_words(words: &[String]) -> Result<Options, UsageFault>
+    ensures exact { result ≡ read_of (bytes_of words.now) }
+    ensures in_range { IfOk result AreInRange }
+    ensures operands { IfOk result (λ options. operand_count options < length words.now) }
+{
+    if words.is_empty() {
+        return Err(UsageFault::NoCommand);
+    }
+    match Command::named(word_at(words, 0)) {
+        Some(command) => read_command(command, words),
+        None => Err(UsageFault::UnknownCommand),
+    }
+}

@@ -1,0 +1,86 @@
+//! The words, one check after the other.
+
+use crate::{Input, OperandWords, Options, Output, UsageFault, read_words};
+use std::alloc::{AllocError, Global};
+use std::test::Fail;
+
+/// The words of a line, between which single spaces stand.
+fn words_of(alloc: Global, line: &str) -> Result<Vec<String>, AllocError> {
+    let mut words = Vec::new(alloc);
+    for word in line.split(' ') {
+        words.push(String::from_str(alloc, word)?)?;
+    }
+    Ok(words)
+}
+
+#[test]
+fn each_fault_is_the_first_that_stands(rt: HostRuntime) -> Result<(), Fail> {
+    let alloc = rt.alloc();
+    assert_eq!(rt; read_words(&[]), Err(UsageFault::NoCommand));
+    for (line, fault) in [
+        ("stereo a b - o", UsageFault::UnknownCommand),
+        ("match a b", UsageFault::TooFew { have: 2, need: 4 }),
+        (
+            "match  b - o strips=65",
+            UsageFault::EmptyName { position: 1 },
+        ),
+        ("demo x y", UsageFault::BadNumber { position: 1 }),
+        (
+            "match a b - o. STRIPS=2",
+            UsageFault::BadOption { position: 5 },
+        ),
+        (
+            "match o.pgm b - o strips=1 strips=1",
+            UsageFault::RepeatedOption { position: 6 },
+        ),
+        (
+            "match a o.asc c o",
+            UsageFault::OutputIsInput { position: 2 },
+        ),
+    ] {
+        assert_eq!(rt; read_words(&words_of(alloc, line)?), Err(fault), "{line}");
+    }
+    Ok(())
+}
+
+#[test]
+fn options_stand_in_any_order(rt: HostRuntime) -> Result<(), Fail> {
+    let alloc = rt.alloc();
+    for (line, options) in [
+        (
+            "match a b - o workers=16 strips=064",
+            Options::Match {
+                strips: 64,
+                workers: 16,
+            },
+        ),
+        (
+            "demo 007 strips=2",
+            Options::Demo {
+                number: 7,
+                strips: 2,
+                workers: 1,
+            },
+        ),
+    ] {
+        assert_eq!(rt; read_words(&words_of(alloc, line)?), Ok(options), "{line}");
+    }
+    Ok(())
+}
+
+#[test]
+fn operands_and_outputs_have_names(rt: HostRuntime) -> Result<(), Fail> {
+    let alloc = rt.alloc();
+    let words = words_of(alloc, "match l r c o")?;
+    assert!(rt; words.len() > 4);
+    let operands = OperandWords::of(&words);
+    assert_eq!(rt; operands.input(Input::Calibration), "c");
+    assert!(rt; !operands.is_plain());
+    let name = Output::Heights.file_name(alloc, operands.out())?;
+    assert_eq!(rt; name.as_str(), "o.asc");
+    assert_eq!(rt;
+        (Input::Right.word(), Output::Report.word()),
+        ("right", "report")
+    );
+    Ok(())
+}

@@ -1,0 +1,12 @@
+/// The first fault of the words. Positions count from 0.
+#[derive(Clone, Copy, Debug, PartialEq, Eq)]
+pub enum UsageFault {
+    NoCommand,
+    UnknownCommand,
+    TooFew { have: usize, need: usize },
+    EmptyName { position: usize },
+    BadNumber { position: usize },
+    BadOption { position: usize },
+    RepeatedOption { position: usize },
+    OutputIsInput { position: usize },
+}

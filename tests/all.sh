@@ -1,0 +1,206 @@
+#!/usr/bin/env bash
+# Runs all tests that stand outside the gate (.ci/run), one after the other, and prints a line for each: whether it
+# passed, its seconds and its last line. The last line of all is `N passed, M failed, K skipped`.
+#
+#     tests/all.sh [--install] [NAME..]
+#     tests/all.sh --list
+#
+# With NAMEs only these run; --list prints them all. A test whose tools aren't installed is skipped, and the line
+# says which; --install installs them first, by apt-get, as root. The program is the one that the variable SGM
+# names (./sgm of this repository without it). All together take about half an hour, most of it definitions, which
+# asks the toolchain for proofs, and compare.
+#
+# Status: 0 where none failed, 1 where one did, 2 for wrong words. What a test that failed has printed is kept, and
+# the path of the file stands below its line.
+set -u
+here=$(cd "$(dirname "$0")" && pwd)
+top=$(cd "$here/.." && pwd)
+SGM=$(realpath -m -- "${SGM:-$top/sgm}")
+export SGM
+
+# The tests: name, what it needs (words of need, below), and the command.
+table() {
+    cat <<TABLE
+launcher            -           tests/launcher.sh
+scripts             -           tests/scripts.py
+shellcheck          shellcheck  shellcheck -x sgm .ci/run $(cd "$top" && echo tests/*.sh)
+reference           -           tests/test_reference.py
+least_energies      -           tests/least_energies.py --check
+cubic_metres        -           tools/test_cubic_metres.py
+stretch             -           tools/test_stretch.py
+heights_picture     -           tools/test_heights_picture.py
+opencv_calibration  -           tools/test_opencv_calibration.py
+beside_opencv       opencv      tools/test_opencv_calibration.py BesideOpenCV
+ends                program     tests/ends.sh
+random_cases        program     tests/random_cases.py --cases 300
+asc_gdal            program,gdal    tests/asc_gdal.sh
+pgm_tools           program,netpbm  tests/pgm_tools.sh
+unrectified_heap    program     tests/unrectified_heap.py
+compare             program     tests/compare.sh
+definitions         rt          tests/definitions.sh
+TABLE
+}
+
+wrong() {
+    echo "all: $1; --help says more" >&2
+    exit 2
+}
+
+# python_with MODULE: a Python that has it, else python3. Debian's packages are those of /usr/bin/python3.
+python_with() {
+    local python
+    for python in python3 /usr/bin/python3; do
+        "$python" -c "import $1" 2>/dev/null && echo "$python" && return
+    done
+    echo python3
+}
+
+# need WHAT: prints why it isn't there and, after a TAB, the packages that bring it; nothing where it is.
+need() {
+    local command commands packages=$1
+    case $1 in
+    -) return ;;
+    program)
+        [ -z "$no_program" ] || printf '%s\t\n' "$no_program"
+        return
+        ;;
+    rt)
+        command -v rt >/dev/null || printf "the toolchain's command rt isn't on the PATH\t\n"
+        return
+        ;;
+    opencv)
+        "$(python_with cv2)" -c "import cv2, numpy" 2>/dev/null || printf "OpenCV for Python\tpython3-opencv python3-numpy\n"
+        return
+        ;;
+    gdal) commands="gdalinfo gdallocationinfo" packages=gdal-bin ;;
+    netpbm) commands="pgmmake pamdepth pnmtopng pngtopnm" ;;
+    shellcheck) commands=shellcheck ;;
+    esac
+    for command in $commands; do
+        command -v "$command" >/dev/null || { printf '%s\t%s\n' "$command" "$packages" && return; }
+    done
+}
+
+# Starts the program, and says in no_program why the tests that need it can't run. It is built here, once, so that
+# its time is no test's. Where it should run and doesn't, that is a failure.
+begin_program() {
+    if [ "$SGM" = "$top/sgm" ] && [ ! -x "$top/crates/sgm_cli/out/sgm_cli" ] && ! command -v rt >/dev/null; then
+        no_program="there is no program: rt isn't on the PATH, and SGM names none"
+        return
+    fi
+    # Without words it ends with a line and the status 2.
+    "$SGM" </dev/null >"$work/begin" 2> >(grep -vx 'sgm: no command' >&2)
+    if [ $? != 2 ]; then
+        no_program="the program doesn't run"
+        failed=$((failed + 1))
+        line FAILED program "$SGM doesn't run"
+    fi
+    rm "$work/begin"
+}
+
+install() {
+    local packages
+    packages=$(table | while read -r name needs _; do
+        chosen "$name" || continue
+        for it in ${needs//,/ }; do [ "$it" = program ] || need "$it"; done
+    done | cut -s -f 2 | tr ' ' '\n' | sort -u | tr '\n' ' ')
+    [ -n "${packages// /}" ] || return
+    if [ "$(id -u)" != 0 ] || ! command -v apt-get >/dev/null; then
+        echo "all: --install takes root and apt-get; missing: $packages" >&2
+        exit 1
+    fi
+    # shellcheck disable=SC2086
+    if ! { apt-get -q update && DEBIAN_FRONTEND=noninteractive apt-get -qy install --no-install-recommends $packages; } >&2; then
+        echo "all: $packages: can't be installed, see above" >&2
+        exit 1
+    fi
+}
+
+chosen() {
+    local name
+    [ ${#names[@]} = 0 ] && return
+    for name in "${names[@]}"; do [ "$name" = "$1" ] && return; done
+    return 1
+}
+
+line() { printf '%-8s %-19s %s\n' "$@"; }
+
+# run NAME NEEDS COMMAND
+run() {
+    local name=$1 missing="" packages="" it reason begin words last
+    for it in ${2//,/ }; do
+        reason=$(need "$it")
+        [ -n "$reason" ] || continue
+        missing=${reason%$'\t'*} packages=${reason#*$'\t'}
+    done
+    if [ -n "$missing" ]; then
+        skipped=$((skipped + 1))
+        if [ -n "$packages" ]; then
+            to_install+=" $packages"
+            line skipped "$name" "$missing isn't installed (Debian: $packages)"
+        else
+            line skipped "$name" "$missing"
+        fi
+        return
+    fi
+    read -ra words <<<"$3"
+    case $2,${words[0]} in
+    opencv,*) words=("$(python_with cv2)" "${words[@]}") ;;
+    esac
+    begin=$SECONDS
+    if "${words[@]}" >"$work/$name.txt" 2>&1 </dev/null; then
+        passed=$((passed + 1))
+        last=$(tail -n 1 "$work/$name.txt")
+        line passed "$name" "$((SECONDS - begin)) s${last:+  $last}"
+        rm "$work/$name.txt"
+    else
+        failed=$((failed + 1))
+        last=$(tail -n 1 "$work/$name.txt")
+        line FAILED "$name" "$((SECONDS - begin)) s  $last"
+        line "" "" "all of it: $work/$name.txt"
+    fi
+}
+
+names=() do_install=no
+for word; do
+    case $word in
+    -h | --help)
+        sed -n '2,/^[^#]/ s/^# \{0,1\}//p' "$0"
+        exit 0
+        ;;
+    --list)
+        [ $# = 1 ] || wrong "--list stands alone"
+        table | sed 's/ .*//'
+        exit 0
+        ;;
+    --install) do_install=yes ;;
+    -*) wrong "unknown option $word" ;;
+    *)
+        table | grep -q "^$word " || wrong "no test is named $word"
+        names+=("$word")
+        ;;
+    esac
+done
+
+cd "$top" || exit 1
+no_program=
+[ $do_install = no ] || install
+work=$(mktemp -d "${TMPDIR:-/tmp}/sgm-all.XXXXXX") || exit 1
+# What failed stays.
+trap 'rmdir "$work" 2>/dev/null' EXIT
+passed=0 failed=0 skipped=0 to_install=
+while read -r name needs _ <&3; do
+    if chosen "$name" && [[ $needs = program* ]]; then
+        begin_program
+        break
+    fi
+done 3< <(table)
+while read -r name needs command <&3; do
+    chosen "$name" && run "$name" "$needs" "$command"
+done 3< <(table)
+if [ -n "$to_install" ]; then
+    packages=$(tr ' ' '\n' <<<"$to_install" | sort -u | tr '\n' ' ')
+    echo "to try what was skipped, as root: apt-get install${packages% }, or tests/all.sh --install"
+fi
+echo "$passed passed, $failed failed, $skipped skipped"
+[ "$failed" = 0 ]

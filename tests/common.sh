@@ -1,0 +1,55 @@
+# What the shell scripts of this folder share. They read it by `. "$(dirname "$0")/common.sh"`, which sets
+#
+#   name   the script's name, without its ending;
+#   here   this folder; top, the folder above it;
+#   work   a new folder, which goes away when the script ends;
+#   SGM    the program that is tried, as an absolute path: the variable's, else ./sgm of this repository.
+#
+# A script takes no words but --help, which prints the comment at its head.
+# shellcheck shell=bash disable=SC2034
+
+name=$(basename "$0" .sh)
+here=$(cd "$(dirname "$0")" && pwd)
+top=$(cd "$here/.." && pwd)
+SGM=$(realpath -m -- "${SGM:-$top/sgm}")
+
+case $# in
+0) ;;
+*)
+    case $1 in
+    -h | --help)
+        sed -n '2,/^[^#]/ s/^# \{0,1\}//p' "$0"
+        exit 0
+        ;;
+    esac
+    echo "$name: it takes no words; --help says more" >&2
+    exit 2
+    ;;
+esac
+
+work=$(mktemp -d "${TMPDIR:-/tmp}/sgm-$name.XXXXXX") || exit 1
+# A case may have taken rights away.
+trap 'chmod -R u+rwX "$work"; rm -rf "$work"' EXIT
+
+# has COMMAND..: whether all of them are installed.
+has() {
+    local command
+    for command; do
+        command -v "$command" >/dev/null || return 1
+    done
+}
+
+# skip WHAT PACKAGE: ends the script, since WHAT isn't installed.
+skip() {
+    echo "$name: skipped: $1 isn't installed (Debian: $2)"
+    exit 0
+}
+
+# Ends the script where the program doesn't run: without words it ends with 2 and a line. What has to be
+# built is built here, so that its messages come into no case.
+need_program() {
+    "$SGM" 2> >(grep -vx 'sgm: no command' >&2)
+    [ $? = 2 ] && return
+    echo "$name: $SGM doesn't run" >&2
+    exit 1
+}

@@ -1,0 +1,200 @@
+#!/usr/bin/env bash
+# Tries ./sgm itself: the answers that it gives without the program, when it builds, and what it hands on.
+# Each case has a copy of it in a repository of its own, with a toolchain that is made up: its `rt` notes how it
+# was called and makes a program that notes its words. So nothing is proved, and the variable SGM has no part.
+#
+#     tests/launcher.sh
+set -u
+# shellcheck source-path=SCRIPTDIR source=common.sh
+. "$(dirname "$0")/common.sh"
+passed=0 failed=0
+unset GLIBC_TUNABLES CDPATH
+# The commands that the launcher uses, and git where it is there: a folder without another rt.
+plain=$work/commands
+mkdir "$plain"
+for command in bash basename cat cp dirname env find git grep realpath sed touch wc; do
+    has "$command" && ln -s "$(command -v "$command")" "$plain/"
+done
+
+# A new repository in a folder of that name, which becomes the folder at hand. The program, once made, prints its
+# words in brackets, where it runs and its GLIBC_TUNABLES, and ends with the status 7.
+begin() {
+    case=$1
+    repository=$work/$1
+    mkdir -p "$repository"/{bin,crates/sgm_cli/{src,out},crates/low/{src,specs,proofs,must-fail},docs} || exit 1
+    cp "$top/sgm" "$repository/sgm"
+    touch "$repository/crates.txt" "$repository"/crates/{sgm_cli/src/main.rt,low/src/lib.rt,low/specs/Lib.antt}
+    cat >"$work/made" <<'PROGRAM'
+#!/usr/bin/env bash
+printf '[%s]' "$@"
+printf ' in %s with %s\n' "$PWD" "${GLIBC_TUNABLES-none}"
+exit 7
+PROGRAM
+    cat >"$repository/bin/rt" <<RT
+#!/usr/bin/env bash
+echo "\$*" >>'$repository/calls'
+echo checking >&2
+echo printed by the program
+[ -e '$repository/broken' ] && exit 1
+cp '$work/made' '$repository/crates/sgm_cli/out/sgm_cli'
+RT
+    chmod +x "$work/made" "$repository/bin/rt"
+    path=$repository/bin:$plain
+    cd "$repository" || exit 1
+}
+
+# started WORD..: runs the launcher, and sets status, out and err.
+started() {
+    PATH=$path "${launcher-$repository/sgm}" "$@" >"$work/out" 2>"$work/err"
+    status=$?
+    out=$(cat "$work/out") err=$(cat "$work/err")
+}
+
+# is WHAT FOUND WANTED
+is() {
+    if [ "$2" = "$3" ]; then
+        passed=$((passed + 1))
+    else
+        failed=$((failed + 1))
+        printf 'launcher: %s: %s is\n%s\nnot\n%s\n' "$case" "$1" "$2" "$3"
+    fi
+}
+
+# has_line WHAT TEXT LINE: whether a line of the text begins so.
+has_line() {
+    grep -q -- "^$3" <<<"$2"
+    is "$1: a line '$3'" $? 0
+}
+
+calls() { if [ -e "$repository/calls" ]; then wc -l <"$repository/calls"; else echo 0; fi; }
+# Makes the files at hand older than what is touched next, whatever the file system's clock can tell apart.
+age() { find "$repository" -exec touch -h -d '1 hour ago' {} +; }
+
+begin help
+started --help
+is status "$status" 0
+is "standard error" "$err" ""
+is "first line" "$(head -n 1 <<<"$out")" "sgm match LEFT RIGHT CALIB OUT [strips=N] [workers=N]"
+help=$out
+started -h
+is "status of -h" "$status" 0
+is "what -h prints" "$out" "$help"
+is "builds" "$(calls)" 0
+
+begin version
+started --version
+is status "$status" 0
+is "standard error" "$err" ""
+is version "$out" "sgm, commit unknown, calibration version 1"
+if has git; then
+    git -c init.defaultBranch=one init -q . && git add sgm &&
+        git -c user.name=a -c user.email=a@b commit -qm one || exit 1
+    started --version
+    is "version of a commit" "$out" "sgm, commit $(git rev-parse --short HEAD), calibration version 1"
+    echo >>sgm
+    started --version
+    is "version after a change" "$out" "sgm, commit $(git rev-parse --short HEAD)-dirty, calibration version 1"
+fi
+is "builds" "$(calls)" 0
+
+begin build
+started match 'a b' '' $'c\nd' '*'
+is status "$status" 7
+is "the program's words" "$out" "[match][a b][][c
+d][*] in $repository with glibc.malloc.hugetlb=1"
+has_line "standard error" "$err" "sgm: first build: this proves every crate, about 1 to 1 minutes;"
+is "how rt was called" "$(sed 's/ --cpu x86-64-v3//' calls)" "run -- demo 0"
+started
+is "status without words" "$status" 7
+is "standard error of a later start" "$err" ""
+is "the program without words" "$out" "[] in $repository with glibc.malloc.hugetlb=1"
+is "builds" "$(calls)" 1
+
+# One source after the other becomes newer than the program.
+count=1
+for source in crates/sgm_cli/src/main.rt crates/low/src/lib.rt crates/low/specs/Lib.antt crates/low/proofs/New.antt \
+    crates.txt; do
+    age
+    touch "$source"
+    started demo 1
+    count=$((count + 1))
+    is "builds after a change of $source" "$(calls)" $count
+    has_line "standard error" "$err" "sgm: a source is newer than the program: proving and building what has changed"
+    is "the program's words" "$out" "[demo][1] in $repository with glibc.malloc.hugetlb=1"
+done
+age
+touch crates/sgm_cli/out/sgm_cli
+sleep 0.01
+rm crates/low/proofs/New.antt
+started demo 1
+is "builds after a source is taken out" "$(calls)" $((count + 1))
+age
+touch docs/page.md crates/low/must-fail/one.edit README.md
+started demo 1
+is "builds after a change of a page and of an edit" "$(calls)" $((count + 1))
+
+begin unbuilt
+touch broken
+started demo 0
+is "status where it can't be built" "$status" 1
+is "standard output" "$out" ""
+has_line "standard error" "$err" checking
+has_line "standard error" "$err" "sgm: can't be built: see the messages above"
+path=$plain
+started demo 0
+is "status without rt" "$status" 1
+is "standard output" "$out" ""
+is "standard error" "$err" "sgm: can't be built: rt, the toolchain's command, isn't on the PATH"
+
+# A failed build after a good one: the old program isn't started.
+begin stale
+started demo 0
+age
+touch broken crates.txt
+started demo 0
+is status "$status" 1
+is "standard output" "$out" ""
+
+begin "a folder with spaces"
+started demo 0
+is "status" "$status" 7
+is "the program's words" "$out" "[demo][0] in $repository with glibc.malloc.hugetlb=1"
+mkdir -p "$work/links/else where"
+ln -s "$repository/sgm" "$work/links/one"
+ln -s ../one "$work/links/else where/two"
+cd "$work/links/else where" || exit 1
+for launcher in "$work/links/one" "./two" "../one"; do
+    started demo 2
+    is "what $launcher starts" "$out" "[demo][2] in $PWD with glibc.malloc.hugetlb=1"
+done
+PATH="$work/links:$path" one demo 3 >"$work/out"
+is "what one on the PATH starts" "$(cat "$work/out")" "[demo][3] in $PWD with glibc.malloc.hugetlb=1"
+unset launcher
+is "builds" "$(calls)" 1
+
+begin tunables
+started demo 0
+for pair in "" glibc.malloc.arena_max=1 glibc.malloc.hugetlb=0 glibc.malloc.hugetlb=2 \
+    glibc.malloc.check=3:glibc.malloc.hugetlb=0 glibc.malloc.hugetlb=0:glibc.malloc.check=3; do
+    case $pair in
+    "") wanted=glibc.malloc.hugetlb=1 ;;
+    *hugetlb*) wanted=$pair ;;
+    *) wanted=$pair:glibc.malloc.hugetlb=1 ;;
+    esac
+    GLIBC_TUNABLES=$pair started demo 0
+    is "with '$pair'" "$out" "[demo][0] in $repository with $wanted"
+done
+
+# A stream that was closed stays one that nothing can be written to.
+begin closed
+started demo 0
+PATH=$path ./sgm demo 0 >&- 2>"$work/err"
+is "status with a closed standard output" $? 7
+grep -q "write error" "$work/err"
+is "the program's fault" $? 0
+PATH=$path ./sgm demo 0 2>&- >"$work/out"
+is "standard output beside a closed standard error" "$(cat "$work/out")" \
+    "[demo][0] in $repository with glibc.malloc.hugetlb=1"
+
+echo "launcher: $passed passed, $failed failed"
+[ "$failed" = 0 ]

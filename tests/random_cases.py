@@ -1,0 +1,197 @@
+#!/usr/bin/env python3
+"""Holds the program to the reference on random words, pictures and calibrations.
+
+    tests/random_cases.py [--seed S] [--cases N] [--case NUMBER] [--keep FOLDER]
+
+Each case is a folder of files and the words of a run. The program and the separate implementation
+(reference.py) run on a copy each, and everything has to be the same: the status, both streams, and all
+that stands in the folder afterwards. The kinds of cases take turns:
+
+    words         faults of the words, and words that only look like faults;
+    pictures      PGM in all its forms, cut, and with bytes changed, put in or taken out;
+    calibrations  a key missing, of another type, at the ends of its range and beyond, doubled, moved,
+                  nested, in another order or spelling, and texts with bytes changed;
+    surveys       pairs from 1 x 1 on with voids, warps, grids and regions, strips and workers;
+    places        inputs and outputs that are absent, folders, links or devices.
+
+A case is made from the seed and its number alone, so --case runs it again. What differs is printed, and
+its folder stays: `given` before the runs, `program` and `reference` after them. The program is the one that
+the variable SGM names (./sgm of this repository without it).
+"""
+
+import argparse
+import os
+import shlex
+import shutil
+import stat
+import subprocess
+import sys
+import tempfile
+import time
+
+import random_inputs
+import reference
+
+HERE = os.path.dirname(os.path.abspath(__file__))
+SGM = os.path.realpath(os.environ.get("SGM", os.path.join(HERE, "..", "sgm")))
+# The longest run of the program, in seconds.
+PATIENCE = 120
+
+
+def write_case(folder, case):
+    os.makedirs(folder)
+    for name, content in case.files.items():
+        path = os.path.join(folder, name)
+        if content is random_inputs.FOLDER:
+            os.mkdir(path)
+        elif isinstance(content, random_inputs.Link):
+            os.symlink(content.to, path)
+        else:
+            with open(path, "wb") as file:
+                file.write(content)
+
+
+def run_program(folder, words):
+    """The status and both streams; a status that no program has where it takes too long."""
+    # The program has no part in a word's encoding: words go out as the bytes that they came from.
+    command = [os.fsencode(SGM), *map(os.fsencode, words)]
+    try:
+        done = subprocess.run(command, cwd=folder, stdin=subprocess.DEVNULL, capture_output=True, timeout=PATIENCE)
+    except subprocess.TimeoutExpired:
+        return "no end", b"", b""
+    return done.returncode, done.stdout, done.stderr
+
+
+def run_reference(folder, words):
+    """The same of the reference, which runs in a process that is forked off, as it needs its own streams."""
+    with tempfile.TemporaryFile() as out, tempfile.TemporaryFile() as err:
+        child = os.fork()
+        if child == 0:
+            status = 99
+            try:
+                os.chdir(folder)
+                os.dup2(out.fileno(), 1)
+                os.dup2(err.fileno(), 2)
+                status = reference.main(words)
+            finally:
+                os._exit(status)
+        status = os.waitstatus_to_exitcode(os.waitpid(child, 0)[1])
+        out.seek(0)
+        err.seek(0)
+        return status, out.read(), err.read()
+
+
+def standing(folder):
+    """What stands in a folder: for each name its bytes, or what else it is."""
+    found = {}
+    for entry in sorted(os.scandir(folder), key=lambda entry: entry.name):
+        if entry.is_symlink():
+            found[entry.name] = "a link to " + os.readlink(entry.path)
+        elif entry.is_dir():
+            found[entry.name] = "a folder"
+        elif stat.S_ISREG(entry.stat().st_mode):
+            with open(entry.path, "rb") as file:
+                found[entry.name] = file.read()
+        else:
+            found[entry.name] = "something else"
+    return found
+
+
+def shown(value):
+    text = repr(value)
+    return text if len(text) <= 200 else text[:150] + f".. ({len(value)} long)"
+
+
+def differences(program, reference_, folders):
+    """Lines on what isn't the same."""
+    for what, ours, theirs in zip(("status", "standard output", "standard error"), program, reference_):
+        if ours != theirs:
+            yield f"{what}: {shown(ours)}, the reference has {shown(theirs)}"
+    ours, theirs = map(standing, folders)
+    for name in sorted(set(ours) | set(theirs)):
+        if ours.get(name) != theirs.get(name):
+            yield f"{name}: {shown(ours.get(name))}, the reference has {shown(theirs.get(name))}"
+
+
+def try_case(case, folder):
+    """The reference's status, and the lines on what differs."""
+    given, ours, theirs = (os.path.join(folder, name) for name in ("given", "program", "reference"))
+    for name in (given, ours, theirs):
+        write_case(name, case)
+    with open(os.path.join(folder, "command"), "wb") as file:
+        file.write(os.fsencode(" ".join(map(shlex.quote, [SGM, *case.words]))) + b"\n")
+    program, wanted = run_program(ours, case.words), run_reference(theirs, case.words)
+    return wanted[0], list(differences(program, wanted, (ours, theirs)))
+
+
+def keep(folder, name):
+    """Moves a case's folder out of the one that goes away, and gives its new place."""
+    place = tempfile.mkdtemp(prefix=f"sgm-random_cases.{name}.")
+    shutil.rmtree(place)
+    shutil.copytree(folder, place, symlinks=True)
+    return place
+
+
+def try_cases(words):
+    numbers = range(words.cases) if words.case is None else [words.case]
+    statuses, differ, begin = {}, 0, time.monotonic()
+    with tempfile.TemporaryDirectory(prefix="sgm-random_cases.") as work:
+        for number in numbers:
+            case = random_inputs.case_of(words.seed, number)
+            folder = words.keep or os.path.join(work, str(number))
+            status, lines = try_case(case, folder)
+            statuses[status] = statuses.get(status, 0) + 1
+            if lines:
+                differ += 1
+                place = words.keep or keep(folder, f"{words.seed}.{number}")
+                print(f"random_cases: seed {words.seed}, case {number}, {case.kind}: kept in {place}")
+                print("".join(f"    {line}\n" for line in lines), end="", flush=True)
+            elif words.keep is None:
+                shutil.rmtree(folder)
+            if words.verbose:
+                print(f"case {number}, {case.kind}: status {status}, {time.monotonic() - begin:.1f} s", flush=True)
+    by_status = ", ".join(f"{statuses[status]} of status {status}" for status in sorted(statuses))
+    print(f"random_cases: seed {words.seed}: {len(numbers) - differ} the same, {differ} different ({by_status})")
+    return 1 if differ else 0
+
+
+def runs():
+    """Whether the program runs: without words it ends with 2 and a line. What has to be built is built here."""
+    with subprocess.Popen([SGM], stdin=subprocess.DEVNULL, stderr=subprocess.PIPE) as process:
+        for line in process.stderr:
+            if line != b"sgm: no command\n":
+                sys.stderr.buffer.write(line)
+                sys.stderr.flush()
+    return process.returncode == 2
+
+
+def natural(word):
+    number = int(word)
+    if number < 0:
+        raise ValueError(word)
+    return number
+
+
+def main():
+    parser = argparse.ArgumentParser(
+        description=__doc__.split("\n\n")[0],
+        epilog="Example: tests/random_cases.py --seed 7 --cases 1000, and then --seed 7 --case 312 --keep /tmp/case",
+    )
+    parser.add_argument("--seed", type=natural, default=1, help="what the cases are made from (1)")
+    parser.add_argument("--cases", type=natural, default=300, metavar="N", help="how many, from number 0 on (300)")
+    parser.add_argument("--case", type=natural, metavar="NUMBER", help="this case alone")
+    parser.add_argument("--keep", metavar="FOLDER", help="where the folder of --case stays, a new one")
+    parser.add_argument("--verbose", action="store_true", help="a line for each case")
+    words = parser.parse_args()
+    if words.keep is not None and words.case is None:
+        parser.error("--keep takes --case")
+    try:
+        if not runs():
+            sys.exit(f"random_cases: {SGM} doesn't run")
+        return try_cases(words)
+    except OSError as error:
+        sys.exit(f"random_cases: {error}")
+
+
+if __name__ == "__main__":
+    sys.exit(main())

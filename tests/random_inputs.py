@@ -1,0 +1,592 @@
+"""The cases of random_cases.py, each made from a seed and a number alone.
+
+`case_of(seed, number)` gives the words and the files of a case. The pictures are small, since the reference
+takes a microsecond for each pixel, disparity and direction.
+"""
+
+import json
+import os
+
+import reference_inputs
+
+# In the place of a file's bytes: a folder, or a link.
+FOLDER = object()
+
+
+class Link:
+    def __init__(self, to):
+        self.to = to
+
+
+class Case:
+    def __init__(self, kind, words, files):
+        # As a program in Python gets them: what isn't UTF-8 comes in disguise, and nothing else does.
+        self.kind, self.words, self.files = kind, [os.fsdecode(os.fsencode(word)) for word in words], files
+
+
+class Draw:
+    """Whole numbers that look random and depend on nothing but the numbers that they are made from."""
+
+    def __init__(self, *numbers):
+        self.state = 0
+        for number in numbers:
+            self.state = (self.state ^ number) % 2**64
+            self.state = self.next()
+
+    def next(self):
+        # The mixing of SplitMix64.
+        self.state = (self.state + 0x9E3779B97F4A7C15) % 2**64
+        z = self.state
+        z = (z ^ (z >> 30)) * 0xBF58476D1CE4E5B9 % 2**64
+        z = (z ^ (z >> 27)) * 0x94D049BB133111EB % 2**64
+        return z ^ (z >> 31)
+
+    def below(self, limit):
+        return self.next() % limit
+
+    def between(self, low, high):
+        return low + self.below(high - low + 1)
+
+    def of(self, things):
+        return things[self.below(len(things))]
+
+    def chance(self, percent):
+        return self.below(100) < percent
+
+    def shuffled(self, things):
+        things = list(things)
+        for at in range(len(things) - 1, 0, -1):
+            other = self.below(at + 1)
+            things[at], things[other] = things[other], things[at]
+        return things
+
+
+def damaged(draw, data):
+    """The bytes cut, or with some changed, put in or taken out."""
+    data = bytearray(data)
+    for _ in range(draw.of([1, 1, 1, 2, 3])):
+        at = draw.below(len(data) + 1)
+        # Most damage is done where the form is.
+        at = min(at, draw.below(30)) if draw.chance(50) else at
+        what = draw.below(4)
+        byte = draw.of([draw.below(256), *b"0159 \t\n\v\f\r#P5{}[]\",:-.eE\\\0\xff"])
+        if what == 0:
+            data[at:] = b""
+        elif what == 1:
+            data[at : at + 1] = bytes([byte])
+        elif what == 2:
+            data[at:at] = bytes([byte])
+        else:
+            data[at : at + draw.of([1, 1, 2, 5])] = b""
+    return bytes(data)
+
+
+# Pictures
+
+
+def textured(draw, width, height, maxval, shift):
+    """The samples of two pictures, of which the right one is mostly the left one moved to the left."""
+    levels = draw.of([1, 2, 5, maxval + 1, maxval + 1])
+    wide = width + 2 * abs(shift)
+    rows = [[draw.below(levels) * (maxval // max(1, levels - 1)) for _ in range(wide)] for _ in range(height)]
+    begin = abs(shift)
+    left = [row[begin + x] for row in rows for x in range(width)]
+    right = [row[begin + x + shift] for row in rows for x in range(width)]
+    for _ in range(draw.below(1 + width * height // 8)):
+        right[draw.below(width * height)] = draw.below(maxval + 1)
+    return left, right
+
+
+def gap(draw):
+    """White bytes and comments as they may stand between the numbers of a header."""
+    parts = [draw.of([b" ", b"\n", b"\t", b"\v", b"\f", b"\r"])] if draw.chance(80) else []
+    while not parts or draw.chance(25):
+        comment = b"#" + bytes(draw.of(b"# 17aP\0\xff\t") for _ in range(draw.below(6))) + draw.of([b"\n", b"\r"])
+        parts.append(draw.of([b" ", b"\n", b"\r\n", comment]))
+    return b"".join(parts)
+
+
+def number(draw, value):
+    return b"0" * draw.of([0, 0, 0, 1, 7]) + str(value).encode()
+
+
+def pgm(draw, width, height, maxval, samples, is_plain=True):
+    length = 1 if maxval < 256 else 2
+    raster = b"".join(sample.to_bytes(length, "big") for sample in samples)
+    if is_plain:
+        return f"P5\n{width} {height}\n{maxval}\n".encode() + raster
+    head = b"P5" + b"".join(gap(draw) + number(draw, value) for value in (width, height, maxval))
+    rest = draw.of([b"", b"\n", b"P5 1 1 255 ", raster])
+    return head + draw.of([b"\n", b" ", b"\t", b"\v", b"\f", b"\r"]) + raster + rest
+
+
+def faulty_pgm(draw, width, height, maxval, samples):
+    """A picture with a fault of a kind that has a line of its own, most of the time."""
+    whole = pgm(draw, width, height, maxval, samples, draw.chance(50))
+    if draw.chance(50):
+        return damaged(draw, whole)
+    size = f"{width} {height}".encode()
+    raster = bytes(2 * width * height)
+    return draw.of(
+        [
+            whole[:-1],
+            b"",
+            b"P",
+            b"P5",
+            b"P2" + whole[2:],
+            b"P5 " + size,
+            b"P5 " + size + b" # no end",
+            b"P5 " + size + b" 255",
+            b"P5 " + size + b" 255#" + raster,
+            b"P5 " + size + b" 255# comment\n" + raster,
+            b"P5 " + size + b" 255x" + raster,
+            b"P5" + size + b" 255\n" + raster,
+            b"P5 " + size + b" 0\n" + raster,
+            b"P5 " + size + b" 65536\n" + raster,
+            b"P5 " + size + b" 7\n" + bytes([7]) * (width * height - 1) + b"\x08",
+            b"P5 " + size + b" 256\n" + b"\1\0" * (width * height - 1) + b"\1\1",
+            b"P5 0 " + str(height).encode() + b" 255\n" + raster,
+            b"P5 " + str(width).encode() + b" 4097 255\n" + raster,
+            b"P5 4096 4096 65535\n" + raster,
+            b"P5 " + 40 * b"9" + b" 1 0\n",
+            b"P5 0 0 0 ",
+            b"P5 -1 1 255\n" + raster,
+            b"P5 1.0 1 255\n" + raster,
+        ]
+    )
+
+
+# Calibrations
+
+
+class Pairs(list):
+    """An object of JSON as its pairs in their order, where a name may stand twice."""
+
+    def put(self, name, value):
+        self.append((name, value))
+
+
+class Raw(str):
+    """A JSON text that is written as it stands."""
+
+
+# The whole numbers by their paths, with the least and the greatest value.
+RANGES = {
+    "version": (1, 1),
+    "disparities.first": (-1024, 1024),
+    "disparities.count": (1, 256),
+    "census.width": (3, 9),
+    "census.height": (3, 7),
+    "penalties.p1": (1, 4000),
+    "penalties.p2": (1, 4000),
+    "step": (2, 1024),
+    "cols": (1, 4096),
+    "rows": (1, 4096),
+    "camera.focal": (1, 16777216),
+    "camera.baseline": (1, 2000000000),
+    "camera.cx": (-16777216, 16777216),
+    "camera.cy": (-16777216, 16777216),
+    "camera.doffs": (-16777216, 16777216),
+    "camera.mount": (0, 2000000000),
+    "camera.near": (1, 2000000000),
+    "camera.far": (1, 2000000000),
+    "grid.west": (-2000000000, 2000000000),
+    "grid.south": (-2000000000, 2000000000),
+    "grid.cell": (1, 1000000000),
+    "grid.cols": (1, 4096),
+    "grid.rows": (1, 4096),
+    "col": (0, 4095),
+    "row": (0, 4095),
+    "base": (-2000000000, 2000000000),
+}
+ODD_VALUES = [
+    *map(Raw, "1.0 1e0 -0 0.5 1e400 1e-400 -1 01 +1 .5 1. 1e 0x1 NaN Infinity true false null nul [] {} [1] {{ ] '1'".split()),
+    *map(Raw, ['""', '"1"', '"\\u0031"', '"\\ud800"', '"\\ud83d\\ude00"', '"\\x"', '"a\tb"', '{"a":1}', "[[[]]]", "[1,]", "1 2"]),
+    *map(Raw, map(str, [2**31, 2**32, 2**53 + 1, 2**63 - 1, 2**63, -(2**63), -(2**63) - 1, 2**64 - 1, 2**64, 10**40, 10**400])),
+]
+NAMES = "version disparities first count census width height penalties p1 p2 warp left right kind matrix step cols rows nodes"
+NAMES = (NAMES + " camera focal grid cell regions name col base top x").split()
+
+
+def settings(draw, first, count, **sections):
+    made = Pairs()
+    made.put("version", 1)
+    made.put("disparities", Pairs([("first", first), ("count", count)]))
+    # Small windows more often: a large one has no code anywhere in a small picture.
+    made.put("census", Pairs([("width", draw.of([3, 3, 3, 5, 7, 9])), ("height", draw.of([3, 3, 3, 5, 7]))]))
+    p1 = draw.of([1, 2, 7, 60, 4000, draw.between(1, 4000)])
+    made.put("penalties", Pairs([("p1", p1), ("p2", draw.of([p1, min(4000, 3 * p1), 4000, draw.between(p1, 4000)]))]))
+    for name, section in sections.items():
+        if section is not None:
+            made.put(name, section)
+    return made
+
+
+def warp_of(draw, width, height):
+    """A side of the warp that suits the pictures."""
+    kind = draw.below(6)
+    if kind == 0:
+        return Pairs([("kind", "identity")])
+    if kind < 3:
+        # Near the identity, in whole numbers of some scale; the third row bends by a little.
+        scale = draw.of([1, 2, 256, 1000, 65536])
+        wild = lambda most: draw.between(-most, most)
+        bend = [wild(scale // (4 * (width + height))), wild(scale // (4 * (width + height)))]
+        shift = draw.of([0, scale // 2, scale, 3 * scale])
+        lines = [scale + wild(scale // 8), wild(scale // 8), wild(shift), wild(scale // 8), scale + wild(scale // 8)]
+        return Pairs([("kind", "projective"), ("matrix", [*lines, wild(shift), *bend, scale])])
+    step = draw.of([2, 3, 5, 8, 1024])
+    cols, rows = (width - 1) // step + 2, (height - 1) // step + 2
+    reach = draw.of([0, 1, 40, 128, 255, 700])
+    moved = lambda place: 256 * place + draw.between(-reach, reach)
+    nodes = [part for j in range(rows) for i in range(cols) for part in (moved(i * step), moved(j * step))]
+    return Pairs([("kind", "mesh"), ("step", step), ("cols", cols), ("rows", rows), ("nodes", nodes)])
+
+
+def wrong_warp(draw, width, height):
+    """A side that is in its ranges and doesn't suit the pictures, most of the time."""
+    if draw.chance(50):
+        below = [draw.between(-2, 2), draw.between(-2, 2), draw.between(-3, 3 * (width + height))]
+        return Pairs([("kind", "projective"), ("matrix", [1, 0, 0, 0, 1, 0, *below])])
+    cols, rows = draw.between(2, 5), draw.between(2, 5)
+    return Pairs([("kind", "mesh"), ("step", draw.between(2, 6)), ("cols", cols), ("rows", rows), ("nodes", [0, 0] * cols * rows)])
+
+
+def camera_of(draw):
+    """With some thirty pixels of focal length and a metre of baseline, a disparity d lies 30 / d metres away.
+
+    Odd baselines with principal points and focal lengths between two pixels give quotients that end in a half.
+    """
+    near = draw.of([1, 1, 1, 3000000, 2000000000])
+    far = max(near, draw.of([near, 8000000, 40000000, 40000000, 2000000000]))
+    halves = draw.chance(50)
+    odd = lambda least, most: 2 * draw.between(least // 2, most // 2) + 1
+    focal, baseline = (128 * odd(30, 70), odd(300000, 1200000)) if halves else (draw.between(4000, 9000), draw.between(300000, 1200000))
+    middle = lambda: 128 * odd(-8, 30) if halves else draw.between(-2000, 4000)
+    if draw.chance(8):
+        focal, baseline = 16777216, 2000000000
+    made = [("focal", focal), ("baseline", baseline), ("cx", middle()), ("cy", middle())]
+    made += [("doffs", draw.of([0, 0, 0, 77, -256, 300])), ("mount", draw.of([0, 15000000, 2000000000]))]
+    return Pairs([*made, ("near", near), ("far", far)])
+
+
+def grid_of(draw):
+    """Mostly one into which most points fall, several into some of its cells."""
+    cols, rows = draw.between(1, 14), draw.between(1, 14)
+    if draw.chance(60):
+        side = draw.of([2000000, 3000000, 5000000])
+        return Pairs([("west", -8000001), ("south", -14000003), ("cell", side), ("cols", 14), ("rows", 14)])
+    west, south = draw.between(-12000000, 2000000), draw.between(-12000000, 2000000)
+    cell = draw.of([1, 300001, 1000000, 3000000, 1000000000])
+    return Pairs([("west", west), ("south", south), ("cell", cell), ("cols", cols), ("rows", rows)])
+
+
+def regions_of(draw, grid):
+    """Regions inside the grid, which keeps its sides."""
+    sides = dict(grid)
+    made = []
+    for index in range(draw.below(5)):
+        col, row = draw.below(sides["cols"]), draw.below(sides["rows"])
+        cols, rows = draw.between(1, sides["cols"] - col), draw.between(1, sides["rows"] - row)
+        name = draw.of([f"r{index}", "Pile no. 7", "_-. ", "a" * 64])
+        base = draw.of([0, 7000000, -2000000000, 2000000000, draw.between(-20000000, 20000000)])
+        made.append(Pairs([("name", name), ("col", col), ("row", row), ("cols", cols), ("rows", rows), ("base", base)]))
+    return made
+
+
+def sections_of(draw, width, height):
+    """The sections beside the settings, each there or not, as they may be together."""
+    made = {"warp": None, "camera": None, "grid": None, "regions": None}
+    if draw.chance(60):
+        made["warp"] = Pairs([("left", warp_of(draw, width, height)), ("right", warp_of(draw, width, height))])
+    if draw.chance(75):
+        made["camera"] = camera_of(draw)
+        if draw.chance(90):
+            made["grid"] = grid_of(draw)
+            if draw.chance(80):
+                made["regions"] = regions_of(draw, made["grid"])
+    return made
+
+
+def json_text(draw, value, is_loose):
+    """The value as JSON; where it is loose, with white space and escapes wherever they may stand."""
+
+    def space():
+        return "".join(draw.of([" ", "\n", "\t", "\r"]) for _ in range(draw.of([0, 0, 1, 2]))) if is_loose else ""
+
+    def text(word):
+        if not (is_loose and draw.chance(20)):
+            return json.dumps(word)
+        return '"' + "".join(f"\\u{ord(letter):04x}" if draw.chance(50) else letter for letter in word) + '"'
+
+    if isinstance(value, Raw):
+        made = value
+    elif isinstance(value, Pairs):
+        pairs = (space() + text(name) + space() + ":" + json_text(draw, it, is_loose) for name, it in value)
+        made = "{" + ",".join(pairs) + "}"
+    elif isinstance(value, list):
+        made = "[" + ",".join(json_text(draw, it, is_loose) for it in value) + "]"
+    elif isinstance(value, str):
+        made = text(value)
+    else:
+        made = json.dumps(value)
+    return space() + made + space()
+
+
+def places(value, path=""):
+    """Each pair of an object and the elements of its lists: the object or list, the index, the path."""
+    if isinstance(value, Pairs):
+        for index, (name, it) in enumerate(value):
+            here = f"{path}.{name}" if path else name
+            yield value, index, here
+            yield from places(it, here)
+    elif isinstance(value, list):
+        # Of a long list of numbers a few elements will do.
+        numbered = list(enumerate(value))
+        for index, it in numbered[:3] + numbered[3:][-2:]:
+            yield value, index, path
+            yield from places(it, path)
+
+
+def range_of(path):
+    """The range of a number by its path or last name; of the others, that of a matrix."""
+    for known in (path, path.rpartition(".")[2]):
+        if known in RANGES:
+            return RANGES[known]
+    return -1099511627776, 1099511627776
+
+
+def deep(draw, value):
+    """The value inside of many lists or objects; beyond 127 of them it isn't read."""
+    times = draw.of([1, 2, 100, 120, 125, 126, 127, 128, 129, 200])
+    text = json.dumps(value) if isinstance(value, int) else "0"
+    if draw.chance(50):
+        return Raw("[" * times + text + "]" * times)
+    return Raw('{"a":' * times + text + "}" * times)
+
+
+def change(draw, whole):
+    """Changes the calibration in one place."""
+    holder, index, path = draw.of(list(places(whole)))
+    is_pair = isinstance(holder, Pairs)
+    name, value = holder[index] if is_pair else (None, holder[index])
+    put = lambda it: holder.__setitem__(index, (name, it) if is_pair else it)
+    low, high = range_of(path)
+    what = draw.below(10)
+    if what < 1:
+        del holder[index]
+    elif what < 3:
+        put(draw.of(ODD_VALUES))
+    elif what < 6:
+        put(draw.of([low - 1, low, high, high + 1, 0, draw.between(low, high)]))
+    elif what < 7:
+        other = draw.of([draw.of(ODD_VALUES), low, high, value])
+        holder.insert(draw.below(len(holder) + 1), (name, other) if is_pair else other)
+    elif what < 8 and is_pair:
+        holder[index] = (draw.of([draw.of(NAMES), name + "s", name.upper(), name + " ", ""]), value)
+    elif what < 9:
+        put(deep(draw, value))
+    else:
+        inner = [part[at][1] for part, at, _ in places(whole) if isinstance(part, Pairs)]
+        target = draw.of([whole] + [it for it in inner if isinstance(it, Pairs)])
+        target.insert(draw.below(len(target) + 1), (draw.of(NAMES), draw.of([value, 0, draw.of(ODD_VALUES)])))
+
+
+def is_long(whole):
+    """Whether the grid that was made would have too many cells for the reference."""
+    sides = {name: value for holder, index, path in places(whole) if path.startswith("grid.") for name, value in [holder[index]]}
+    values = [value for value in (sides.get("cols"), sides.get("rows")) if isinstance(value, int)]
+    return len(values) == 2 and values[0] * values[1] > 100000
+
+
+def faulty_calibration(draw, width, height):
+    while True:
+        # All sections stand in it, so that each of them is changed at times.
+        grid = grid_of(draw)
+        sides = Pairs([("left", warp_of(draw, width, height)), ("right", warp_of(draw, width, height))])
+        sections = {"warp": sides if draw.chance(70) else None, "camera": camera_of(draw), "grid": grid}
+        whole = settings(draw, draw.between(-3, 3), draw.between(1, 6), **sections, regions=regions_of(draw, grid))
+        for _ in range(draw.of([0, 1, 1, 1, 2, 3])):
+            change(draw, whole)
+        if not is_long(whole):
+            break
+    if draw.chance(40):
+        whole = Pairs(draw.shuffled(whole))
+    data = json_text(draw, whole, draw.chance(50)).encode("utf-8", "surrogatepass")
+    if draw.chance(20):
+        return damaged(draw, data)
+    around = [(b"", b"")] * 12 + [(b"\xef\xbb\xbf", b""), (b"", b"x"), (b"", b"\n{}"), (b"\v", b""), (b"[", b"]"), (b"", b"\0")]
+    before, after = draw.of(around)
+    return before + data + after
+
+
+# Words
+
+
+GOOD_WORDS = ["match", "l.pgm", "r.pgm", "c.json", "o"]
+ODD_WORDS = [
+    "", "-", "--", "--help", "-h", "match", "demo", "MATCH", "match ", "0", "7", "4294967295", "4294967296", "00", "-1", "+1",
+    "1.0", "\u0661", "l.pgm", "r.pgm", "c.json", "o", "o.pgm", "o.asc", "o.csv", "./o.pgm", "strips", "strips=", "strips=0",
+    "strips=1", "strips=2", "strips=3", "strips=64", "strips=65", "strips=00064", "strips=1 ", " strips=1", "strips =1",
+    "Strips=1", "strips=+1", "strips=-1", "strips=1e0", "strips=0x1", "strips=1=1", "strips=\uff11", "strips=\u0663",
+    "strips=99999999999999999999999999", "strips=1\n", "workers=", "workers=0", "workers=1", "workers=4", "workers=16",
+    "workers=17", "workers=016", "workers=4294967297", "workers=18446744073709551617", "workers=1,2", "worker=1", "=", "=1",
+    "\udcff", "strips=\udcff", "\udcc3\udca4", "\u00e4", "a b", "a\nb",
+]  # fmt: skip
+
+
+def options(draw):
+    """Options that are in order, some or none."""
+    made = []
+    if draw.chance(50):
+        made.append("strips=" + draw.of(["1", "2", "3", "5", "7", "16", "63", "64", "007"]))
+    if draw.chance(40):
+        made.append("workers=" + draw.of(["1", "2", "3", "4", "8", "16", "02"]))
+    return draw.shuffled(made)
+
+
+def odd_words(draw):
+    words = list(GOOD_WORDS) if draw.chance(80) else ["demo", draw.of(["5", "x", "", "4294967296", "0" * 30])]
+    words += options(draw)
+    for _ in range(draw.of([1, 1, 2, 3])):
+        at = draw.below(len(words) + 1)
+        what = draw.below(4)
+        if what == 0:
+            words[at : at + 1] = []
+        elif what == 1:
+            words[at : at + 1] = [draw.of(ODD_WORDS)]
+        else:
+            # Odd options come behind the operands, where they are looked at.
+            words.insert(draw.of([at, len(words)]), draw.of(ODD_WORDS))
+    return words
+
+
+# Cases
+
+
+def sides_of(draw, cells):
+    """The sides of a picture of at most so many pixels, small ones more often."""
+    width = draw.of([1, 2, 3, draw.between(1, 12), draw.between(1, 40)])
+    height = draw.of([1, 2, 3, draw.between(1, 12), draw.between(1, 40)])
+    while width * height > cells:
+        width, height = max(1, width // 2), max(1, height - 1)
+    return width, height
+
+
+def pair_of(draw, width, height, shift=2, is_plain=True):
+    maxval = draw.of([1, 2, 100, 255, 255, 256, 4095, 65535])
+    both = textured(draw, width, height, maxval, shift)
+    return [pgm(draw, width, height, maxval, samples, is_plain) for samples in both]
+
+
+def files_of(pair, calibration):
+    return {"l.pgm": pair[0], "r.pgm": pair[1], "c.json": calibration}
+
+
+def words_case(draw):
+    width, height = sides_of(draw, 60)
+    calibration = json_text(draw, settings(draw, 0, draw.between(1, 4)), False).encode()
+    words = odd_words(draw)
+    try:
+        reference_inputs.read_words(words)
+        # A demo that runs takes the reference too long.
+        words += ["again"] if words[0] == "demo" else []
+    except reference_inputs.Ended:
+        pass
+    return words, files_of(pair_of(draw, width, height), calibration)
+
+
+def picture_case(draw):
+    width, height = sides_of(draw, 120)
+    calibration = json_text(draw, settings(draw, draw.between(-2, 2), draw.between(1, 6)), False).encode()
+    pair = pair_of(draw, width, height, is_plain=False)
+    if draw.chance(75):
+        maxval = draw.of([1, 255, 256, 65535])
+        samples = textured(draw, width, height, maxval, 0)[0]
+        pair[draw.of([0, 1, 1])] = faulty_pgm(draw, width, height, maxval, samples)
+    return GOOD_WORDS + options(draw), files_of(pair, calibration)
+
+
+def calibration_case(draw):
+    width, height = sides_of(draw, 100)
+    return GOOD_WORDS + options(draw), files_of(pair_of(draw, width, height), faulty_calibration(draw, width, height))
+
+
+def survey_case(draw):
+    if draw.chance(2):
+        # The least volume that is refused: 268,435,456 cells are accepted.
+        size, count = draw.of([((1024, 1025), 256), ((2048, 1986), 66)])
+        picture = f"P5 {size[0]} {size[1]} 255\n".encode() + bytes(size[0] * size[1])
+        calibration = json_text(draw, settings(draw, 0, count), False).encode()
+        return GOOD_WORDS + options(draw), files_of([picture, picture], calibration)
+    width, height = sides_of(draw, 700)
+    if draw.chance(50):
+        width, height = draw.between(8, 30), draw.between(6, 20)
+    most = max(1, min(256, 9000 // (width * height)))
+    count = draw.of([1, 2, most, draw.between(1, most)])
+    first = draw.of([0, 0, 1, 1, 2, 3, draw.between(-8, 8), -1024, 1024, draw.between(-width, width)])
+    shift = max(-50, min(50, first + draw.below(count)))
+    pair = pair_of(draw, width, height, shift)
+    if draw.chance(6):
+        pair[1] = pair_of(draw, *sides_of(draw, 700), shift)[1]
+    sections = sections_of(draw, width, height)
+    if draw.chance(12):
+        sides = [wrong_warp(draw, width, height), draw.of([warp_of, wrong_warp])(draw, width, height)]
+        sections["warp"] = Pairs(zip(("left", "right"), draw.shuffled(sides)))
+    words = GOOD_WORDS + options(draw)
+    if width * height <= 100 and draw.chance(15):
+        words[3] = "-"
+    calibration = json_text(draw, settings(draw, first, count, **sections), draw.chance(20))
+    return words, files_of(pair, calibration.encode())
+
+
+def place_case(draw):
+    """Inputs and outputs that aren't plain files of their own."""
+    width, height = sides_of(draw, 60)
+    grid = grid_of(draw)
+    sections = {"camera": camera_of(draw), "grid": grid, "regions": regions_of(draw, grid)}
+    calibration = json_text(draw, settings(draw, 0, draw.between(1, 4), **sections), False).encode()
+    words, files = GOOD_WORDS + options(draw), files_of(pair_of(draw, width, height), calibration)
+    for _ in range(draw.of([1, 1, 2])):
+        output = draw.of(["o.pgm", "o.asc", "o.csv"])
+        name = draw.of(["l.pgm", "r.pgm", "c.json"])
+        at = GOOD_WORDS.index(name)
+        what = draw.below(9)
+        if what == 0:
+            files.pop(name, None)
+        elif what == 1:
+            files[name] = draw.of([FOLDER, Link(name), Link("none"), Link("/dev/null"), Link(output)])
+        elif what == 2:
+            files[output] = draw.of([FOLDER, Link("/dev/full"), Link("/dev/null"), Link("none/o"), Link(output)])
+        elif what == 3:
+            files[output] = b"what was there before, and longer than some texts\n" * draw.of([0, 1, 40])
+        elif what == 4:
+            words[4] = draw.of(["none/o", "./o", "a b", "\u00fc", "-", "o.pgm", "a\nb", "/dev/null/o", "x" * 300])
+        elif what == 5:
+            words[at] = draw.of(["none", "./" + name, "none/" + name, "x" * 300, "/dev/null", "./" + output, "."])
+        elif what == 6:
+            words[2] = words[1]
+        elif what == 7:
+            # An input that stands under an output's name, which no comparison of words shows.
+            files[output] = files.get(name, b"")
+            words[at] = "./" + output
+        else:
+            files["dir"] = FOLDER
+            words[4] = "dir/../o"
+    return words, files
+
+
+KINDS = {
+    "surveys": survey_case,
+    "calibrations": calibration_case,
+    "pictures": picture_case,
+    "words": words_case,
+    "places": place_case,
+}
+TURNS = "surveys calibrations pictures surveys calibrations words surveys calibrations pictures places".split()
+
+
+def case_of(seed, number):
+    kind = TURNS[number % len(TURNS)]
+    words, files = KINDS[kind](Draw(seed, number))
+    return Case(kind, words, files)
