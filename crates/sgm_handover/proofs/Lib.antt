@@ -1,6 +1,0 @@
-pub mod Maps
-pub mod Dirs
-pub mod Soundness
-pub mod Runs
-pub mod Order
-pub mod Places

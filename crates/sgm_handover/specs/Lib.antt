@@ -1,4 +1,0 @@
-pub mod Handover
-pub mod Events
-pub mod Fields
-pub mod Machines

@@ -1,8 +1,0 @@
-pub mod Parts
-pub mod CutLemmas
-pub mod Entering
-pub mod Rows
-pub mod Sets
-pub mod Sums
-pub mod Sweep
-pub mod Passed
