@@ -1,0 +1,4 @@
+pub mod Handover
+pub mod Events
+pub mod Fields
+pub mod Machines

@@ -1,0 +1,8 @@
+pub mod Parts
+pub mod CutLemmas
+pub mod Entering
+pub mod Rows
+pub mod Sets
+pub mod Sums
+pub mod Sweep
+pub mod Passed

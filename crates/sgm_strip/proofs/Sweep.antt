@@ -1,0 +1,172 @@
+-- From one row of a strip to the next.
+use Rattle.std.proofs.Common.{◌≡◌, ℕ, ◌+◌, ◌-◌, ◌*◌, ◌/◌, ◌<◌, ◌≤◌, ◌⊎◌, ◌||◌, Bool, true, false, cond, ltb, List, length, slice_index, slice_range, Some, refl, sym, ap, ◌∙◌, subst, inl, inr, arith, ◌≢◌}
+use Rattle.std.proofs.lemmas.Bool.{cases_eq, cases_lt, lt-ltb, le-ltb, true≢false}
+use Rattle.std.proofs.lemmas.Nat.{div-mul-add, mul-add-lt, mul-le}
+use Rattle.sgm_energy.specs.declared.dir.Dir.{Dir}
+use Rattle.sgm_energy.specs.declared.dir.Dir.TheVariants.{Right, Left, Down, DownRight, DownLeft, Up, UpRight, UpLeft}
+use Rattle.sgm_energy.specs.Dirs.{goes_down, is_level}
+use Rattle.sgm_energy.specs.Rays.{Pixel, pixel_at, Problem, row_before}
+use Rattle.sgm_energy.specs.Energies.{path_value}
+use Rattle.sgm_energy.specs.Rows.{HoldsRow}
+use Rattle.sgm_energy.proofs.RayLemmas.{minus_one, minus_up}
+use Rattle.sgm_strip.specs.Volumes.{HoldsRows}
+use Rattle.sgm_strip.specs.Passing.{ComesBefore, SuitsRow, SuitsRows, visited}
+use Rattle.sgm_strip.proofs.Rows.{row_holds}
+
+-- ---- the order of the rows
+turned : (b : Bool) (rows i : ℕ) → i < rows → (cond b i (rows - (i + 1)) < rows) × (cond b (cond b i (rows - (i + 1))) (rows - (cond b i (rows - (i + 1)) + 1)) ≡ i)
+turned true rows i h = (h, refl)
+turned false rows i h = (omega arith, omega arith)
+
+pub visited_inside : (dir : Dir) (rows i : ℕ) → i < rows → visited dir rows i < rows
+visited_inside dir rows i h = (turned (goes_down dir) rows i h).0
+
+pub visited_back : (dir : Dir) (rows i : ℕ) → i < rows → visited dir rows (visited dir rows i) ≡ i
+visited_back dir rows i h = (turned (goes_down dir) rows i h).1
+
+-- the row visited last is the one that comes before the next
+above : (height top i : ℕ) → top + i < height → row_before Down height (top + (i + 1)) ≡ Some (top + i)
+above height top i h =
+    let e : top + (i + 1) - 1 ≡ top + i = omega arith in
+    minus_one height (top + (i + 1)) (omega arith) (omega arith) ∙ ap (λ m. Some m) e
+
+under : (height top rows i : ℕ) → i + 1 < rows → top + rows ≤ height → row_before Up height (top + (rows - (i + 1 + 1))) ≡ Some (top + (rows - (i + 1)))
+under height top rows i h k =
+    let e : top + (rows - (i + 1 + 1)) + 1 ≡ top + (rows - (i + 1)) = omega arith in
+    minus_up height (top + (rows - (i + 1 + 1))) (omega arith) ∙ ap (λ m. Some m) e
+
+comes_next : (dir : Dir) (height top rows i : ℕ) → is_level dir ≡ false → i + 1 < rows → top + rows ≤ height → row_before dir height (top + visited dir rows (i + 1)) ≡ Some (top + visited dir rows i)
+comes_next Right height top rows i e h k = absurd (true≢false e)
+comes_next Left height top rows i e h k = absurd (true≢false e)
+comes_next Down height top rows i e h k = above height top i (omega arith)
+comes_next DownRight height top rows i e h k = above height top i (omega arith)
+comes_next DownLeft height top rows i e h k = above height top i (omega arith)
+comes_next Up height top rows i e h k = under height top rows i h k
+comes_next UpRight height top rows i e h k = under height top rows i h k
+comes_next UpLeft height top rows i e h k = under height top rows i h k
+
+-- ---- a row of a strip
+pub rows_are : (g : Problem) (top rows p1 far count row : ℕ) (costs : List ℕ) → SuitsRows g top rows p1 far count row costs → 0 < row → length costs / row ≡ rows
+rows_are g top rows p1 far count row costs s h =
+    let e : length costs ≡ rows * row + 0 = omega (arith, s.holds.whole, ap (λ n. rows * n) s.same_row) in
+    ap (λ n. n / row) e ∙ div-mul-add rows row 0 h
+
+row_suits : (g : Problem) (top rows p1 far count n r : ℕ) (costs : List ℕ) → SuitsRows g top rows p1 far count n costs → r < rows → SuitsRow g (top + r) p1 far count (slice_range costs (r * n) (r * n + n))
+row_suits g top rows p1 far count n r costs s l = record {
+  suits = record {
+    same_count = s.same_count;
+    same_p1 = s.same_p1;
+    inside = omega (arith, s.inside);
+    holds = row_holds g top rows g.cost costs n r s.same_row s.holds l;
+  };
+  same_far = s.same_far;
+}
+
+-- ---- after i visits: which row stands in last, and what was added
+pub record Done (g : Problem) (dir : Dir) (top rows i n : ℕ) (start last old new : List ℕ) : Type 0 where
+  pub started : i ≡ 0 → last ≡ start
+  pub handed : 0 < i → HoldsRow g (top + visited dir rows (i - 1)) (path_value g dir) last
+  pub added : (r x d : ℕ) → r < rows → x < g.width → d < g.count → visited dir rows r < i
+      → slice_index new (r * n + (x * g.count + d)) ≡ slice_index old (r * n + (x * g.count + d)) + path_value g dir (pixel_at x (top + r)) d
+
+or_true : (a b : Bool) → b ≡ true → (a || b) ≡ true
+or_true true b e = refl
+or_true false b e = e
+
+or_false : (a b : Bool) → b ≡ false → (a || b) ≡ a
+or_false true b e = refl
+or_false false b e = e
+
+-- before the visit i the row in last comes before it
+before_visit : (g : Problem) (dir : Dir) (top rows p1 far count i n : ℕ) (begun : Bool) (costs start last old new : List ℕ) → SuitsRows g top rows p1 far count n costs → is_level dir ≡ false → i < rows
+    → ComesBefore g dir (top + visited dir rows 0) begun far start → Done g dir top rows i n start last old new → ComesBefore g dir (top + visited dir rows i) (begun || ltb 0 i) far last
+before_visit g dir top rows p1 far count i n begun costs start last old new s level h c w = elim (cases_lt 0 i) [
+  | inl l ↦ (let e : i - 1 + 1 ≡ i = omega arith in
+      let b : (begun || ltb 0 i) ≡ true = or_true begun (ltb 0 i) (lt-ltb 0 i l) in
+      subst (λ t. ComesBefore g dir (top + visited dir rows i) t far last) (sym b)
+      (record {
+        row = top + visited dir rows (i - 1);
+        comes_from = subst (λ j. row_before dir g.height (top + visited dir rows j) ≡ Some (top + visited dir rows (i - 1))) e (comes_next dir g.height top rows (i - 1) level (omega arith) s.inside);
+        has_far = record { each = λ z x hz hx. s.same_far (pixel_at z (top + visited dir rows (i - 1))) (pixel_at x (top + visited dir rows i)) };
+        holds = w.handed l;
+      }))
+  | inr z ↦ (let e : i ≡ 0 = omega arith in
+      let b : (begun || ltb 0 i) ≡ begun = or_false begun (ltb 0 i) (le-ltb 0 i z) in
+      subst (λ t. ComesBefore g dir (top + visited dir rows i) t far last) (sym b)
+      (subst (λ xs. ComesBefore g dir (top + visited dir rows i) begun far xs) (sym (w.started e))
+      (subst (λ j. ComesBefore g dir (top + visited dir rows j) begun far start) (sym e) c)))
+]
+
+-- the entries of another row lie before or after those of a row
+apart : (n r z k : ℕ) → (z ≡ r → ⊥) → k < n → (z * n + k < r * n) ⊎ (r * n + n ≤ z * n + k)
+apart n r z k ne h = elim (cases_lt z r) [
+  | inl l ↦ inl (omega (arith, mul-add-lt z n k r l h))
+  | inr l ↦ (let up : r + 1 ≤ z = omega arith in inr (omega (arith, mul-le (r + 1) n z n up (omega arith))))
+]
+
+not_visited : (dir : Dir) (rows i r z : ℕ) → r ≡ visited dir rows i → i < rows → visited dir rows z ≢ i → z ≡ r → ⊥
+not_visited dir rows i r z e h ne ez = ne (ap (visited dir rows) (ez ∙ e) ∙ visited_back dir rows i h)
+
+earlier : (dir : Dir) (rows i r z : ℕ) → r ≡ visited dir rows i → z < rows → i < rows → (z ≡ r → ⊥) → visited dir rows z < i + 1 → visited dir rows z < i
+earlier dir rows i r z e hz hi ne l = elim (cases_eq (visited dir rows z) i) [
+  | inl v ↦ absurd (ne (sym (visited_back dir rows z hz) ∙ ap (visited dir rows) v ∙ sym e))
+  | inr v ↦ omega arith
+]
+
+-- the rows that are still to come stay as they were
+pub left_more : (dir : Dir) (rows i n r : ℕ) (first old new : List ℕ) → r ≡ visited dir rows i → i < rows
+    → ((k : ℕ) → (k < r * n) ⊎ (r * n + n ≤ k) → slice_index new k ≡ slice_index old k)
+    → ((z k : ℕ) → z < rows → i ≤ visited dir rows z → k < n → slice_index old (z * n + k) ≡ slice_index first (z * n + k))
+    → (z k : ℕ) → z < rows → i + 1 ≤ visited dir rows z → k < n → slice_index new (z * n + k) ≡ slice_index first (z * n + k)
+left_more dir rows i n r first old new e h others left z k hz hv hk =
+    others (z * n + k) (apart n r z k (not_visited dir rows i r z e h (omega arith)) hk) ∙ left z k hz (omega arith) hk
+
+-- the visit i, and what is done after it
+pub done_more : (g : Problem) (dir : Dir) (top rows p1 far count i n r : ℕ) (begun : Bool) (costs start last last' first old new : List ℕ)
+    → SuitsRows g top rows p1 far count n costs → is_level dir ≡ false → r ≡ visited dir rows i → i < rows
+    → ComesBefore g dir (top + visited dir rows 0) begun far start → Done g dir top rows i n start last first old
+    → ((y : ℕ) → SuitsRow g y p1 far count (slice_range costs (r * n) (r * n + n)) → ComesBefore g dir y (begun || ltb 0 i) far last → HoldsRow g y (path_value g dir) last')
+    → ((k : ℕ) → (k < r * n) ⊎ (r * n + n ≤ k) → slice_index new k ≡ slice_index old k)
+    → ((k : ℕ) → k < n → slice_index new (r * n + k) ≡ slice_index old (r * n + k) + slice_index last' k)
+    → ((z k : ℕ) → z < rows → i ≤ visited dir rows z → k < n → slice_index old (z * n + k) ≡ slice_index first (z * n + k))
+    → Done g dir top rows (i + 1) n start last' first new
+done_more g dir top rows p1 far count i n r begun costs start last last' first old new s level er hi c w paths others here left =
+    let hr : r < rows = omega (arith, er, visited_inside dir rows i hi) in
+    let back : visited dir rows r ≡ i = ap (visited dir rows) er ∙ visited_back dir rows i hi in
+    let before = before_visit g dir top rows p1 far count i n begun costs start last first old s level hi c w in
+    let row : HoldsRow g (top + r) (path_value g dir) last' =
+    paths (top + r) (row_suits g top rows p1 far count n r costs s hr) (subst (λ z. ComesBefore g dir (top + z) (begun || ltb 0 i) far last) (sym er) before) in
+    record {
+      started = λ e. absurd (omega arith);
+      handed = λ _. subst (λ z. HoldsRow g (top + z) (path_value g dir) last') (er ∙ ap (visited dir rows) (omega arith)) row;
+      added = λ z x d hz hx hd hv.
+          let lt : x * g.count + d < n = omega (arith, mul-add-lt x g.count d g.width hx hd, s.same_row) in
+          elim (cases_eq z r) [
+            | inl e ↦ subst (λ m. slice_index new (m * n + (x * g.count + d)) ≡ slice_index first (m * n + (x * g.count + d)) + path_value g dir (pixel_at x (top + m)) d) (sym e)
+                (omega (arith, here (x * g.count + d) lt, left r (x * g.count + d) hr (omega (arith, back)) lt, row.each x d hx hd))
+            | inr ne ↦ others (z * n + (x * g.count + d)) (apart n r z (x * g.count + d) ne lt) ∙ w.added z x d hz hx hd (earlier dir rows i r z er hz hi ne hv)
+          ];
+    }
+
+-- once all rows are visited, the sums hold their path values too
+pub all_done : (g : Problem) (dir : Dir) (top rows p1 far count n : ℕ) (f : Pixel → ℕ → ℕ) (costs start last old new : List ℕ) → SuitsRows g top rows p1 far count n costs → length new ≡ length old
+    → Done g dir top rows rows n start last old new → HoldsRows g top rows f old → HoldsRows g top rows (λ p d. f p d + path_value g dir p d) new
+all_done g dir top rows p1 far count n f costs start last old new s e w h = record {
+  whole = e ∙ h.whole;
+  each = λ r x d hr hx hd.
+      ap (λ k. slice_index new (r * k + (x * g.count + d))) s.same_row
+      ∙ w.added r x d hr hx hd (visited_inside dir rows r hr)
+      ∙ ap (λ k. slice_index old (r * k + (x * g.count + d)) + path_value g dir (pixel_at x (top + r)) d) (sym s.same_row)
+      ∙ ap (λ k. k + path_value g dir (pixel_at x (top + r)) d) (h.each r x d hr hx hd);
+}
+
+-- after the last visit
+pub finished : (g : Problem) (dir : Dir) (top rows p1 far count row n i : ℕ) (begun : Bool) (costs start last old new : List ℕ) → SuitsRows g top rows p1 far count row costs → n ≡ row → 0 < n → i ≡ length costs / n
+    → ComesBefore g dir (top + visited dir rows 0) begun far start
+    → (SuitsRows g top (length costs / n) p1 far count n costs → ComesBefore g dir (top + visited dir (length costs / n) 0) begun far start → Done g dir top (length costs / n) i n start last old new)
+    → SuitsRows g top rows p1 far count n costs × Done g dir top rows rows n start last old new
+finished g dir top rows p1 far count row n i begun costs start last old new s en some ei c h =
+    let s' : SuitsRows g top rows p1 far count n costs = subst (λ m. SuitsRows g top rows p1 far count m costs) (sym en) s in
+    let e : length costs / n ≡ rows = rows_are g top rows p1 far count n costs s' some in
+    let w = h (subst (λ r. SuitsRows g top r p1 far count n costs) (sym e) s') (subst (λ r. ComesBefore g dir (top + visited dir r 0) begun far start) (sym e) c) in
+    (s', subst (λ r. Done g dir top r rows n start last old new) e (subst (λ j. Done g dir top (length costs / n) j n start last old new) (ei ∙ e) w))

@@ -1,0 +1,50 @@
+use Rattle.std.proofs.Common.{◌≡◌, ℕ, ◌+◌, ◌-◌, ◌*◌, ◌/◌, ◌<◌, ◌≤◌, ◌∙◌, sym, ap, subst, arith, length, slice_index, ◌⊎◌}
+use Rattle.sgm_energy.specs.Pens.{p1_of, p2_of}
+use Rattle.sgm_energy.specs.Energies.{path_value}
+use Rattle.sgm_energy.specs.Rows.{HoldsRow}
+use Rattle.sgm_strip.specs.Passing.{ComesBefore, SuitsRows, visited}
+use Rattle.sgm_strip.proofs.Sweep.{Done, visited_back, left_more, done_more, all_done, finished}
+use Rattle.sgm_strip.proofs.sweeping.pass_rows.Goals as goal
+
+pub loop-i-preserved : goal.loop-i-preserved
+loop-i-preserved c =
+    let rows = length c.args.costs.now / c.len-row.result in
+    let n = c.len-row.result in
+    let r = c.visited.result in
+    let i = c.loop-i.i in
+    let dir = c.args.dir in
+    let el : length c.deref.result.now ≡ n = ap length c.deref.ensures.value ∙ (c.advance.ensures.last_length ∙ c.loop-i.invariant.last_length) in
+    let others : (k : ℕ) → (k < r * n) ⊎ (r * n + n ≤ k) → slice_index c.add_at.new.sums k ≡ slice_index c.loop-i.sums k =
+    λ k h. c.add_at.ensures.others k (subst (λ m. (k < r * n) ⊎ (r * n + m ≤ k)) (sym el) h) in
+    let here : (k : ℕ) → k < n → slice_index c.add_at.new.sums (r * n + k) ≡ slice_index c.loop-i.sums (r * n + k) + slice_index c.advance.new.last.items k =
+    λ k h. c.add_at.ensures.here k (omega (arith, el)) ∙ ap (λ xs. slice_index c.loop-i.sums (r * n + k) + slice_index xs k) c.deref.ensures.value in
+    record {
+      row = c.loop-i.invariant.row;
+      last_length = c.advance.ensures.last_length ∙ c.loop-i.invariant.last_length;
+      spare_length = c.advance.ensures.spare_length ∙ c.loop-i.invariant.last_length;
+      bound = c.advance.ensures.bound;
+      left = left_more dir rows i n r c.args.sums.now c.loop-i.sums c.add_at.new.sums c.visited.ensures.value c.loop-i-test.true others c.loop-i.invariant.left;
+      done = λ g top s b.
+          done_more g dir top rows (p1_of c.args.pen) (p2_of c.args.pen) c.args.count i n r c.args.begun c.args.costs.now c.args.last.now.items c.loop-i.last.items c.advance.new.last.items c.args.sums.now c.loop-i.sums c.add_at.new.sums
+          s c.requires.across c.visited.ensures.value c.loop-i-test.true b (c.loop-i.invariant.done g top s b)
+          (λ y su cb. c.advance.ensures.paths g y su (subst (λ t. ComesBefore g dir y t (p2_of c.args.pen) c.loop-i.last.items) (sym c.is_begun-row_before.ensures) cb))
+          others here c.loop-i.invariant.left;
+    }
+
+pub returns-clause-last : goal.returns-clause-last
+returns-clause-last c g top rows s some b =
+    let dir = c.args.dir in
+    let n = c.len-row.result in
+    let it =
+    finished g dir top rows (p1_of c.args.pen) (p2_of c.args.pen) c.args.count (length c.args.last.now.items) n c.loop-i.i c.args.begun c.args.costs.now c.args.last.now.items c.loop-i.last.items c.args.sums.now c.loop-i.sums
+    s c.loop-i.invariant.row (omega (arith, c.loop-i.invariant.row, c.requires.some)) (omega arith) b (c.loop-i.invariant.done g top) in
+    it.1.handed some
+
+pub returns-clause-sums : goal.returns-clause-sums
+returns-clause-sums c g top rows f s some b h =
+    let dir = c.args.dir in
+    let n = c.len-row.result in
+    let it =
+    finished g dir top rows (p1_of c.args.pen) (p2_of c.args.pen) c.args.count (length c.args.last.now.items) n c.loop-i.i c.args.begun c.args.costs.now c.args.last.now.items c.loop-i.last.items c.args.sums.now c.loop-i.sums
+    s c.loop-i.invariant.row (omega (arith, c.loop-i.invariant.row, c.requires.some)) (omega arith) b (c.loop-i.invariant.done g top) in
+    all_done g dir top rows (p1_of c.args.pen) (p2_of c.args.pen) c.args.count n f c.args.costs.now c.args.last.now.items c.loop-i.last.items c.args.sums.now c.loop-i.sums it.0 c.loop-i.auto.sums it.1 h

@@ -1,0 +1,21 @@
+use Rattle.std.proofs.Common.{◌≡◌, ℕ, ◌+◌, ◌*◌, ◌<◌, ◌≤◌, length, slice_index}
+use Rattle.std.specs.Prelude.{All}
+use Rattle.sgm_base.specs.declared.limits.TheConstants.{MAX_PATH_VALUE}
+use Rattle.sgm_energy.specs.Pens.{p1_of, p2_of}
+use Rattle.sgm_energy.specs.Rays.{Problem}
+use Rattle.sgm_strip.specs.Passing.{ComesBefore, SuitsRows, visited}
+use Rattle.sgm_strip.proofs.Sweep.{Done}
+use Rattle.sgm_strip.proofs.sweeping.pass_rows.Given as goal
+
+abbrev pub invariant-loop-i : goal.invariant-loop-i
+invariant-loop-i l =
+    record {
+      row : l.row ≡ length l.fn.last.items;
+      last_length : length l.last.items ≡ l.row;
+      spare_length : length l.spare.items ≡ l.row;
+      bound : All (λ v. v ≤ MAX_PATH_VALUE) l.last.items;
+      left : (r k : ℕ) → r < l.rows → l.i ≤ visited l.dir l.rows r → k < l.row → slice_index l.sums (r * l.row + k) ≡ slice_index l.fn.sums (r * l.row + k);
+      done : (g : Problem) (top : ℕ) → SuitsRows g top l.rows (p1_of l.pen) (p2_of l.pen) l.count l.row l.costs
+          → ComesBefore g l.dir (top + visited l.dir l.rows 0) l.begun (p2_of l.pen) l.fn.last.items
+          → Done g l.dir top l.rows l.i l.row l.fn.last.items l.last.items l.fn.sums l.sums;
+    }

@@ -1,0 +1,6 @@
+pub mod Cuts
+pub mod Scenes
+pub mod Volumes
+pub mod Parcels
+pub mod Fronts
+pub mod Passing

@@ -1,0 +1,93 @@
+// The costs of a strip, and the sums of both level directions, row by row.
+ghost use Rattle.std.specs.Prelude.{◌≡◌, ℕ, ◌+◌, ◌*◌, ◌%◌, ◌<◌, ◌≤◌, length, slice_index, EachIndex, All, IfOk, OnOk};
+ghost use Rattle.sgm_base.specs.declared.limits.TheConstants.{MAX_COST, MAX_COUNT, MAX_PATH_VALUE};
+ghost use Rattle.sgm_energy.specs.declared.dir.Dir.TheVariants.{Right, Left};
+ghost use Rattle.sgm_energy.specs.Pens.{p1_of, p2_of};
+ghost use Rattle.sgm_energy.specs.Rays.{Problem};
+ghost use Rattle.sgm_energy.specs.Energies.{path_value};
+ghost use Rattle.sgm_energy.specs.Rows.{HoldsRow};
+ghost use Rattle.sgm_strip.specs.Scenes.{problem_of, row_length};
+ghost use Rattle.sgm_strip.specs.Volumes.{HoldsRows};
+ghost use Rattle.sgm_strip.specs.Passing.{AddsRow, SuitsRow};
+
+use crate::Scene;
+use sgm_census::cost_row;
+use sgm_energy::{Dir, Pen};
+use sgm_lanes::add;
+use sgm_path::run_row;
+use std::alloc::{AllocError, Global};
+
+/// Writes the sums of the path values of both level directions of a row. What `spare` holds does not
+/// matter.
+fn write_level(pen: Pen, costs: &[u8], count: usize, spare: &mut [u16], into: &mut [u16])
+    requires count_range { (1 ≤ count) × (count ≤ MAX_COUNT) }
+    requires spare_length { length spare.old ≡ length costs.now }
+    requires same_length { length into.old ≡ length costs.now }
+    requires whole { length costs.now % count ≡ 0 }
+    requires costs { All (λ c. c ≤ MAX_COST) costs.now }
+    ensures { (g : Problem) (y : ℕ) → SuitsRow g y (p1_of pen) (p2_of pen) count costs.now
+        → HoldsRow g y (λ p d. path_value g Right p d + path_value g Left p d) into.new }
+{
+    run_row(Dir::Right, pen, costs, count, into);
+    run_row(Dir::Left, pen, costs, count, spare);
+    add(into, spare);
+}
+
+/// Makes the costs of the row `y` and the sums of its level directions, in the room that is given for a
+/// row of each, and appends both.
+fn append_row(
+    scene: &Scene,
+    y: u32,
+    room: &mut Vec<u8>,
+    spare: &mut Vec<u16>,
+    level: &mut Vec<u16>,
+    costs: &mut Vec<u8>,
+    sums: &mut Vec<u16>,
+) -> Result<(), AllocError>
+    requires y { y < scene.now.left.height }
+    requires room { length room.old.items ≡ row_length scene.now }
+    requires spare { length spare.old.items ≡ row_length scene.now }
+    requires level { length level.old.items ≡ row_length scene.now }
+    requires low { All (λ c. c ≤ MAX_COST) costs.old.items }
+    ensures room { length room.new.items ≡ length room.old.items }
+    ensures spare { length spare.new.items ≡ length spare.old.items }
+    ensures level { length level.new.items ≡ length level.old.items }
+    ensures low { OnOk result (All (λ c. c ≤ MAX_COST) costs.new.items) }
+    ensures costs { OnOk result (AddsRow (problem_of scene.now) y (problem_of scene.now).cost costs.old.items costs.new.items) }
+    ensures sums { let g = problem_of scene.now in
+        OnOk result (AddsRow g y (λ p d. path_value g Right p d + path_value g Left p d) sums.old.items sums.new.items) }
+{
+    cost_row(&scene.left, &scene.right, scene.span, y, room);
+    write_level(scene.pen, room, scene.count(), spare, level);
+    costs.extend_from_slice(room)?;
+    sums.extend_from_slice(level)?;
+    Ok(())
+}
+
+/// The costs of so many rows from `top` on, and the sums of their level directions.
+pub(crate) fn strip_rows(
+    alloc: Global,
+    scene: &Scene,
+    top: u32,
+    rows: u32,
+) -> Result<(Vec<u8>, Vec<u16>), AllocError>
+    requires { top + rows ≤ scene.now.left.height }
+    ensures low { IfOk result (λ made. All (λ c. c ≤ MAX_COST) made.0.items) }
+    ensures costs { IfOk result (λ made. HoldsRows (problem_of scene.now) top rows (problem_of scene.now).cost made.0.items) }
+    ensures sums { let g = problem_of scene.now in
+        IfOk result (λ made. HoldsRows g top rows (λ p d. path_value g Right p d + path_value g Left p d) made.1.items) }
+{
+    let row = scene.row_length();
+    // Room is reserved and not filled, so that each byte is written once.
+    let mut costs = Vec::with_capacity(alloc, rows as usize * row)?;
+    let mut sums = Vec::with_capacity(alloc, rows as usize * row)?;
+    let mut room = vec![in alloc; 0u8; row]?;
+    let mut spare = vec![in alloc; 0u16; row]?;
+    let mut level = vec![in alloc; 0u16; row]?;
+    for y in top..top + rows {
+        append_row(
+            scene, y, &mut room, &mut spare, &mut level, &mut costs, &mut sums,
+        )?;
+    }
+    Ok((costs, sums))
+}
