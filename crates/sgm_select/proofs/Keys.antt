@@ -8,7 +8,7 @@ use Rattle.std.proofs.Math.ListN.{length-set}
 use Rattle.sgm_base.specs.Columns.{column_within, left_column}
 use Rattle.sgm_base.specs.Disparities.{Disparities}
 use Rattle.sgm_census.proofs.InWindow.{allowed, refused}
-use Rattle.sgm_select.specs.declared.select.TheConstants.{NO_KEY}
+use Rattle.sgm_select.specs.declared.indices.TheConstants.{NO_KEY}
 use Rattle.sgm_select.specs.Keys.{key_of, HoldsKeys, IsKeyOf, IsLeastKey}
 use Rattle.sgm_select.specs.Selection.{lies}
 use Rattle.sgm_select.specs.Rows.{matched_in}

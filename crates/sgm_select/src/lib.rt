@@ -4,12 +4,12 @@
 
 mod check;
 pub mod laws;
-mod select;
-mod strips;
+mod indices;
+mod maps;
 
 pub use check::check_row;
-pub use select::{base_row, match_row};
-pub use strips::select;
+pub use indices::{base_row, match_row};
+pub use maps::select;
 
 #[cfg(test)]
 mod tests;

@@ -1,7 +1,7 @@
 use Rattle.sgm_strip.specs.Scenes.{problem_of}
 use Rattle.sgm_select.specs.Strips.{HoldsFirst}
 use Rattle.sgm_select.proofs.Strips.{HoldsStrips}
-use Rattle.sgm_select.proofs.strips.select_strips.Given as goal
+use Rattle.sgm_select.proofs.maps.select_strips.Given as goal
 
 -- the rows of the strips before this one are written
 abbrev pub invariant-loop-parcel : goal.invariant-loop-parcel

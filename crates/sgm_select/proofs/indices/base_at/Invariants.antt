@@ -1,6 +1,6 @@
 use Rattle.std.proofs.Common.{◌≡◌, ℕ, ◌<◌, ◌≤◌, slice_index}
 use Rattle.sgm_select.specs.Keys.{key_of}
-use Rattle.sgm_select.proofs.select.base_at.Given as goal
+use Rattle.sgm_select.proofs.indices.base_at.Given as goal
 
 abbrev pub invariant-loop-d : goal.invariant-loop-d
 invariant-loop-d l =

@@ -1,6 +1,6 @@
 use Rattle.std.proofs.Common.{inl, inr, arith, below_more}
 use Rattle.std.proofs.lemmas.Bool.{cases_lt}
-use Rattle.sgm_select.proofs.select.base_at.Goals as goal
+use Rattle.sgm_select.proofs.indices.base_at.Goals as goal
 
 pub loop-d-preserved : goal.loop-d-preserved
 loop-d-preserved c =

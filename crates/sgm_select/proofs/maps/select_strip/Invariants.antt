@@ -1,7 +1,7 @@
 use Rattle.sgm_strip.specs.Cuts.{first_row}
 use Rattle.sgm_strip.specs.Scenes.{problem_of}
 use Rattle.sgm_select.specs.Strips.{HoldsFirst}
-use Rattle.sgm_select.proofs.strips.select_strip.Given as goal
+use Rattle.sgm_select.proofs.maps.select_strip.Given as goal
 
 -- where the rows above the strip were written, those before this one are
 abbrev pub invariant-loop-y : goal.invariant-loop-y

@@ -1,6 +1,6 @@
 use Rattle.std.proofs.Common.{◌≡◌, ℕ, ◌+◌, ◌<◌, ◌≤◌, min, slice_index}
 use Rattle.sgm_select.specs.Keys.{key_of}
-use Rattle.sgm_select.proofs.select.lower.Given as goal
+use Rattle.sgm_select.proofs.indices.lower.Given as goal
 
 abbrev pub invariant-loop-k : goal.invariant-loop-k
 invariant-loop-k l =

@@ -1,4 +1,4 @@
-use Rattle.std.proofs.Common.{◌≡◌, ℕ, ◌*◌, ◌<◌, ◌≤◌, ◌∙◌, sym, ap, subst, arith, length, Result, Ok, Err, tt}
+use Rattle.std.proofs.Common.{◌≡◌, ℕ, ◌*◌, ◌<◌, ◌≤◌, ◌∙◌, sym, ap, subst, arith, length, Result, Ok, Err}
 use Rattle.std.specs.Prelude.{IfOk}
 use Rattle.std.proofs.lemmas.List.{with_items_is}
 use Rattle.sgm_base.specs.Values.{Values, AtMost}
@@ -7,7 +7,7 @@ use Rattle.sgm_strip.specs.Scenes.{problem_of}
 use Rattle.sgm_select.specs.Selection.{disparity, disparities_of}
 use Rattle.sgm_select.proofs.Selected.{rows_are, values_same}
 use Rattle.sgm_select.proofs.Greatest.{rows_low}
-use Rattle.sgm_select.proofs.strips.select.Goals as goal
+use Rattle.sgm_select.proofs.maps.select.Goals as goal
 
 pub returns-clause-exact : goal.returns-clause-exact
 returns-clause-exact c =
@@ -29,4 +29,4 @@ pub returns-clause-bound : goal.returns-clause-bound
 returns-clause-bound c =
     let g = problem_of c.args.scene.now in
     subst (λ (m : Values). AtMost 4080 m.entries) (sym (returns-clause-exact c))
-    (rows_low g c.args.left.now c.args.right.now c.args.scene.now.span.first (omega (arith, c.size.ensures.kept.count_in_range)) (omega (arith, c.size.ensures.kept.count_in_range)))
+    (rows_low g c.args.left.now c.args.right.now c.args.scene.now.span.first (omega (arith, c.size-2.ensures.kept.count_in_range)) (omega (arith, c.size-2.ensures.kept.count_in_range)))

@@ -4,7 +4,7 @@ use Rattle.std.specs.Prelude.{EachIndex, None}
 use Rattle.sgm_base.specs.Disparities.{Disparities}
 use Rattle.sgm_select.specs.Rows.{base_in}
 use Rattle.sgm_select.proofs.Selected.{row_selected}
-use Rattle.sgm_select.proofs.strips.select_row.Goals as goal
+use Rattle.sgm_select.proofs.maps.select_row.Goals as goal
 
 pub returns : goal.returns
 returns c g y planes others ec ew hy h sp so el er x hx =

@@ -1,10 +1,10 @@
 use Rattle.std.proofs.Common.{◌≡◌, ◌+◌, ◌-◌, ◌<◌, length, ap, ◌∙◌, subst, arith, slice_index}
 use Rattle.std.proofs.lemmas.List.{get_or-take, get_or-replicate}
-use Rattle.sgm_select.specs.declared.select.TheConstants.{NO_KEY}
+use Rattle.sgm_select.specs.declared.indices.TheConstants.{NO_KEY}
 use Rattle.sgm_select.specs.Keys.{IsLeastKey}
 use Rattle.sgm_select.specs.Rows.{matched_in}
 use Rattle.sgm_select.proofs.Keys.{found_more, matched_by_key}
-use Rattle.sgm_select.proofs.select.match_some.Goals as goal
+use Rattle.sgm_select.proofs.indices.match_some.Goals as goal
 
 pub lower_all-requires-clause-none : goal.lower_all-requires-clause-none
 lower_all-requires-clause-none c = λ i h.

@@ -2,7 +2,7 @@ use Rattle.std.proofs.Common.{◌≡◌, ◌+◌, ◌+ℤ◌, ap, ◌∙◌, ari
 use Rattle.std.proofs.lemmas.Int.{to_z-of_z}
 use Rattle.sgm_base.specs.Disparities.{Disparities}
 use Rattle.sgm_select.proofs.Keys.{keys_more}
-use Rattle.sgm_select.proofs.select.lower_all.Goals as goal
+use Rattle.sgm_select.proofs.indices.lower_all.Goals as goal
 
 pub loop-p-preserved : goal.loop-p-preserved
 loop-p-preserved c =
