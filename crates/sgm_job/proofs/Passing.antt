@@ -1,5 +1,5 @@
 -- What a pair without a fault keeps.
-use Rattle.std.proofs.Common.{◌≡◌, ℕ, ◌*◌, ◌≤◌, ℤ, List, Bor, Bool, true, false, not, ◌&&◌, if◌then◌else◌, ◌==◌, nat_lt, Option, Some, None, Result, Ok, Err, refl, sym, ap, ◌∙◌, subst, arith}
+use Rattle.std.proofs.Common.{◌≡◌, ◌≤◌, ℤ, List, Bor, Bool, true, false, not, ◌&&◌, if◌then◌else◌, ◌==◌, nat_lt, Option, Some, None, Ok, Err, refl, sym, ap, ◌∙◌, subst}
 use Rattle.std.specs.Prelude.{All, IfSome, option_map}
 use Rattle.std.specs.Option.{option_or}
 use Rattle.std.proofs.lemmas.Bool.{eqb-true, ltb-false}

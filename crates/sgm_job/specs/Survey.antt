@@ -1,5 +1,5 @@
 -- The survey of a pair of images: the disparities, the grid of heights and the tallies, or why the pair is refused.
-use Rattle.std.specs.Prelude.{ℕ, ◌*◌, Bool, ◌==◌, nat_lt, ◌&&◌, not, if◌then◌else◌, List, map, Option, Some, None, option_map, Result, Ok, Err, ℤ}
+use Rattle.std.specs.Prelude.{ℕ, ◌*◌, Bool, ◌==◌, nat_lt, ◌&&◌, not, if◌then◌else◌, List, map, Option, Some, None, option_map, Result, Ok, Err}
 use Rattle.std.specs.Option.{option_or}
 use Rattle.sgm_base.specs.declared.limits.TheConstants.{MAX_VOLUME}
 use Rattle.sgm_base.specs.declared.side.Side.{Side}

@@ -1,11 +1,11 @@
-use Rattle.std.proofs.Common.{◌≡◌, Option, List, ap, ◌∙◌, sym, subst, arith, None}
+use Rattle.std.proofs.Common.{Option, List, ap, ◌∙◌, sym, subst}
 use Rattle.std.specs.Prelude.{IfSome, All, option_map}
 use Rattle.sgm_base.specs.Disparities.{Disparities}
 use Rattle.sgm_energy.specs.Pens.{p1_of, p2_of}
 use Rattle.sgm_rectify.specs.Rectified.{rectified_values}
 use Rattle.sgm_grid.specs.Cells.{Cells}
 use Rattle.sgm_report.specs.Areas.{Area, IsArea}
-use Rattle.sgm_job.specs.Survey.{left_plane, right_plane, tallies_of}
+use Rattle.sgm_job.specs.Survey.{tallies_of}
 use Rattle.sgm_job.proofs.Surveying.{map_is}
 use Rattle.sgm_job.proofs.Passing.{passes, sides_are, fault_answered, survey_answered, survey_is, grid_same, left_suits, right_suits, plane_width, plane_height, same_width, same_height, regions_inside, at_references}
 use Rattle.sgm_job.proofs.job.survey.Goals as goal

@@ -1,4 +1,4 @@
-use Rattle.std.proofs.Common.{◌≡◌, ℕ, ◌<◌, length}
+use Rattle.std.proofs.Common.{◌≡◌, length}
 use Rattle.sgm_strip.specs.Strips.{AreStrips}
 use Rattle.sgm_job.proofs.Through.{HandedTo}
 use Rattle.sgm_job.proofs.matching.hand_through.Given as goal

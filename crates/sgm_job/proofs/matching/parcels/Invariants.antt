@@ -1,4 +1,4 @@
-use Rattle.std.proofs.Common.{◌≡◌, ℕ, List, length, Some}
+use Rattle.std.proofs.Common.{◌≡◌, ℕ, length, Some}
 use Rattle.std.specs.Prelude.{slice_get}
 use Rattle.sgm_strip.specs.Parcels.{ParcelParts, level_done}
 use Rattle.sgm_strip.specs.Strips.{IsStripOf}

@@ -1,10 +1,9 @@
-use Rattle.std.proofs.Common.{◌≡◌, ℕ, ◌*◌, ◌<◌, ◌≤◌, ◌∙◌, sym, ap, subst, arith, length, Result, Ok, Err}
-use Rattle.std.specs.Prelude.{IfOk}
+use Rattle.std.proofs.Common.{◌≡◌, ◌*◌, ◌<◌, ◌∙◌, sym, ap, subst, arith, length}
 use Rattle.std.proofs.lemmas.List.{with_items_is}
 use Rattle.sgm_base.specs.Values.{Values, AtMost}
 use Rattle.sgm_energy.specs.Rays.{pixel_at}
 use Rattle.sgm_strip.specs.Scenes.{problem_of}
-use Rattle.sgm_select.specs.Selection.{disparity, disparities_of}
+use Rattle.sgm_select.specs.Selection.{disparity}
 use Rattle.sgm_select.proofs.Selected.{rows_are, values_same}
 use Rattle.sgm_select.proofs.Greatest.{rows_low}
 use Rattle.sgm_select.proofs.maps.select.Goals as goal

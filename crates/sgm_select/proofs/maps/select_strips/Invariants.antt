@@ -1,5 +1,3 @@
-use Rattle.sgm_strip.specs.Scenes.{problem_of}
-use Rattle.sgm_select.specs.Strips.{HoldsFirst}
 use Rattle.sgm_select.proofs.Strips.{HoldsStrips}
 use Rattle.sgm_select.proofs.maps.select_strips.Given as goal
 
