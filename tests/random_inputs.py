@@ -416,9 +416,11 @@ def change(draw, whole):
 
 def is_long(whole):
     """Whether the grid that was made would have too many cells for the reference."""
-    pairs = [holder[index] for holder, index, path, _ in places(whole) if path in ("grid.cols", "grid.rows")]
-    values = [value for _, value in pairs if isinstance(value, int)]
-    return len(values) == 2 and values[0] * values[1] > 100000
+    sides = {"grid.cols": 1, "grid.rows": 1}
+    for holder, index, path, _ in places(whole):
+        if path in sides and isinstance(holder, Pairs) and isinstance(holder[index][1], int):
+            sides[path] = max(sides[path], holder[index][1])
+    return sides["grid.cols"] * sides["grid.rows"] > 100000
 
 
 def faulty_calibration(draw, width, height):
