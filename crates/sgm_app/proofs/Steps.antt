@@ -1,7 +1,7 @@
 -- From one step to the next, and what a stop shows.
 use Rattle.std.proofs.Common.{◌≡◌, ◌∙◌, ℕ, List, refl, sym, ap, subst, Result, Ok, Err, MatchResult, IsErrAnd}
 use Rattle.sgm_job.specs.Survey.{Survey}
-use Rattle.sgm_job.specs.Surveys.{Surveys}
+use Rattle.sgm_job.specs.Answers.{Answers}
 use Rattle.sgm_job.specs.declared.job.SurveyFault.{SurveyFault}
 use Rattle.sgm_job.specs.declared.job.SurveyError.{SurveyError}
 use Rattle.sgm_job.specs.declared.job.SurveyError.TheVariants as survey
@@ -45,6 +45,6 @@ pub survey_goes : (wanted : Result Survey SurveyFault) (made : Survey) → wante
 survey_goes wanted made is = ap (λ (w : Result Survey SurveyFault). or_refused refusal_of w) is
 
 -- a survey that wasn't is the refusal, or there was no memory
-pub survey_stops : (wanted : Result Survey SurveyFault) (error : SurveyError) → Surveys wanted (Err error) → StopsFor (or_refused refusal_of wanted) (survey_stop error)
+pub survey_stops : (wanted : Result Survey SurveyFault) (error : SurveyError) → Answers wanted (Err error) → StopsFor (or_refused refusal_of wanted) (survey_stop error)
 survey_stops wanted (survey.Fault fault) is = ap (λ (w : Result Survey SurveyFault). or_refused refusal_of w) is
 survey_stops wanted survey.NoMemory is = tt

@@ -5,7 +5,7 @@ ghost use Rattle.sgm_grid.specs.Text.{grid_text};
 ghost use Rattle.sgm_report.specs.Areas.{IsRegionName};
 ghost use Rattle.sgm_report.specs.Table.{table_text};
 ghost use Rattle.sgm_job.specs.Survey.{tallies_of};
-ghost use Rattle.sgm_job.specs.Surveys.{seen};
+ghost use Rattle.sgm_job.specs.Answers.{seen};
 ghost use Rattle.sgm_app.specs.Made.{texts_in};
 ghost use Rattle.sgm_app.specs.Texts.{sample_of, disparity_text, summary_text, demo_text, report_text, texts_of};
 

@@ -2,7 +2,7 @@ use Rattle.std.proofs.Common.{◌≡◌, ◌∙◌, ap, sym, subst, List, ℕ, R
 use Rattle.sgm_base.specs.Picture.{Picture}
 use Rattle.sgm_pgm.specs.Read.{Reads}
 use Rattle.sgm_pgm.specs.declared.fault.PgmFault.{PgmFault}
-use Rattle.sgm_job.specs.Surveys.{seen}
+use Rattle.sgm_job.specs.Answers.{seen}
 use Rattle.sgm_outcome.specs.declared.outcome.Refusal.{Refusal}
 use Rattle.sgm_app.specs.Stops.{survey_stop}
 use Rattle.sgm_app.specs.Texts.{Texts}
