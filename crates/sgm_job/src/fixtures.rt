@@ -1,6 +1,6 @@
-//! Images, planes, maps and calibrations for the tests.
+//! Images, maps and calibrations for the tests.
 
-use sgm_base::{Image, Plane, Size};
+use sgm_base::{Image, Size};
 use sgm_calib::{Calib, read};
 use std::alloc::Global;
 use std::test::Fail;
@@ -14,10 +14,6 @@ pub const RIGHT: [u16; 5] = [10, 50, 20, 40, 30];
 /// What its calibration begins with.
 pub const EXAMPLE: &str =
     "{\"version\":1,\"disparities\":{\"first\":0,\"count\":2},\"census\":{\"width\":3,\"height\":3},\"penalties\":{\"p1\":1,\"p2\":3}";
-
-/// What a calibration begins with that has the plain settings.
-pub const PLAIN: &str =
-    "{\"version\":1,\"disparities\":{\"first\":0,\"count\":64},\"census\":{\"width\":9,\"height\":7},\"penalties\":{\"p1\":10,\"p2\":120}";
 
 /// The camera of the worked example.
 pub const CAMERA: &str =
@@ -43,13 +39,6 @@ pub fn even_image(alloc: Global, sides: (u32, u32)) -> Result<Image, Fail> {
 pub fn image_of_rows(alloc: Global, row: &[u16; 5]) -> Result<Image, Fail> {
     let rows = [*row, *row, *row].concat(alloc)?;
     image(alloc, (5, 3), rows.as_slice())
-}
-
-/// A plane of three rows, each of these entries.
-pub fn plane_of_rows(alloc: Global, row: &[Option<u16>; 5]) -> Result<Plane, Fail> {
-    let size = Size::make(5, 3).ok_or("size")?;
-    let entries = [*row, *row, *row].concat(alloc)?;
-    Ok(Plane::make(size, entries).ok_or("entries")?)
 }
 
 /// The entries of a disparity map: 0 and 1 are indices, and a dot is none.

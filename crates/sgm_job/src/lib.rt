@@ -12,8 +12,4 @@ pub use job::{SurveyError, SurveyFault, Surveyed, survey};
 #[cfg(test)]
 mod fixtures;
 #[cfg(test)]
-mod grid_tests;
-#[cfg(test)]
 mod tests;
-#[cfg(test)]
-mod warp_tests;

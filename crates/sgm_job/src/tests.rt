@@ -1,80 +1,82 @@
-//! Costs, sums and disparities, and the pairs that are refused for their sizes.
+//! The worked example at several numbers of strips, and the pairs that are refused. The tables of grids and
+//! warps are stored cases of sgm_cases.
 
-use crate::costs::cost_volume;
-use crate::disparities::{disparity_map, sum_volume};
-use crate::fixtures::{LEFT, RIGHT, even_image, image, map_of, plane_of_rows};
-use crate::{SurveyError, SurveyFault, survey};
-use sgm_base::{Size, Span};
+ghost use Rattle.std.specs.Prelude.{◌≤◌};
+ghost use Rattle.sgm_base.specs.declared.limits.TheConstants.{MAX_STRIPS};
+
+use crate::fixtures::{
+    CAMERA, EXAMPLE, GRID, LEFT, RIGHT, calib, even_image, image, image_of_rows, map_of, span,
+};
+use crate::{SurveyError, SurveyFault, Surveyed, survey};
+use sgm_base::{Image, Side, Size};
 use sgm_calib::Calib;
-use sgm_census::Window;
-use sgm_energy::Pen;
+use sgm_rectify::WarpFault;
+use sgm_report::RegionTally;
 use std::alloc::Global;
 use std::test::Fail;
 
-/// The cost of each index in three rows of five columns, from those of the middle row. The windows of the
-/// others reach beyond the planes.
-fn costs_of(alloc: Global, middle: &[u8; 10]) -> Result<Vec<u8>, Fail> {
-    let even = [8; 10];
-    Ok([even, *middle, even].concat(alloc)?)
+const REGIONS: &str =
+    ",\"regions\":[{\"name\":\"all\",\"col\":0,\"row\":0,\"cols\":4,\"rows\":3,\"base\":40000},{\"name\":\"east\",\"col\":3,\"row\":0,\"cols\":1,\"rows\":1,\"base\":60000}]";
+
+/// The denominator is 4 at the corner 0 and 0 at the corner 1 of an image of five columns.
+const TILTED: &str =
+    ",\"warp\":{\"left\":{\"kind\":\"projective\",\"matrix\":[1,0,0,0,1,0,-1,0,4]},\"right\":{\"kind\":\"identity\"}}";
+
+/// The survey of the worked example's images over so many strips.
+fn example(alloc: Global, calib: &Calib, strips: u32) -> Result<Surveyed, Fail>
+    requires { (1 ≤ strips) × (strips ≤ MAX_STRIPS) }
+{
+    let left = image_of_rows(alloc, &LEFT)?;
+    let right = image_of_rows(alloc, &RIGHT)?;
+    let found = survey(alloc, &left, &right, calib, strips, 1);
+    Ok(found.ok().ok_or("survey")?)
 }
 
-#[test]
-fn three_rows_of_five(rt: HostRuntime) -> Result<(), Fail> {
-    let alloc = rt.alloc();
-    let left = plane_of_rows(alloc, &LEFT.map(Some))?;
-    let right = plane_of_rows(alloc, &RIGHT.map(Some))?;
-    let span = Span::make(0, 2).ok_or("span")?;
-    let window = Window::make(3, 3).ok_or("window")?;
-    let pen = Pen::make(1, 3).ok_or("pen")?;
-    assert!(rt;
-        left.size()
-            == Size {
-                width: 5,
-                height: 3
-            }
-            && right.size() == left.size()
-    );
-
-    let costs = cost_volume(alloc, &left, &right, span, window)?;
-    let wanted = costs_of(alloc, &[8, 8, 6, 8, 6, 0, 6, 0, 8, 8])?;
-    assert!(rt; costs.as_slice() == wanted.as_slice());
-
-    assert_eq!(rt; costs.len(), 30);
-    let sums = sum_volume(alloc, pen, costs.as_slice(), 2, 10)?;
-    let outer = [64, 65, 65, 65, 66, 65, 66, 64, 65, 64];
-    let inner = [64, 65, 49, 64, 49, 1, 49, 0, 65, 64];
-    assert!(rt; sums.as_slice() == [outer, inner, outer].concat(alloc)?.as_slice());
-
-    let map = disparity_map(alloc, &left, &right, span, window, pen)?;
-    let wanted = map_of(alloc, &["00111", "00111", "00111"])?;
-    assert!(rt; map.entries() == wanted.as_slice());
-    Ok(())
+/// The cells of a survey's grid, row by row from the north.
+fn cells(alloc: Global, found: &Surveyed) -> Result<Vec<Option<i32>>, Fail> {
+    let grid = found.grid.as_ref().ok_or("no grid")?;
+    let mut cells = Vec::new(alloc);
+    for row in 0..grid.spec().rows {
+        cells.extend_from_slice(grid.row(row))?;
+    }
+    Ok(cells)
 }
 
-// The windows of the column beside a void have no code.
+fn fault(alloc: Global, left: &Image, right: &Image, calib: &Calib) -> Option<SurveyError> {
+    survey(alloc, left, right, calib, 1, 1).err()
+}
+
+// The index 1 lies at a depth of 100000, at x = 1000 * column and y = -1000 * row, and the index 0 has no point.
 #[test]
-fn windows_that_touch_a_void(rt: HostRuntime) -> Result<(), Fail> {
+fn the_worked_example(rt: HostRuntime) -> Result<(), Fail> {
     let alloc = rt.alloc();
-    let void = [Some(10), Some(50), Some(20), Some(40), None];
-    let span = Span::make(0, 2).ok_or("span")?;
-    let window = Window::make(3, 3).ok_or("window")?;
-    for (left, right, middle) in [
-        (void, RIGHT.map(Some), [8, 8, 0, 8, 0, 6, 8, 8, 8, 8]),
-        (RIGHT.map(Some), void, [8, 8, 0, 8, 0, 6, 8, 6, 8, 8]),
-    ] {
-        let left = plane_of_rows(alloc, &left)?;
-        let right = plane_of_rows(alloc, &right)?;
-        assert!(rt;
-            left.size()
-                == Size {
-                    width: 5,
-                    height: 3
-                }
-                && right.size() == left.size()
-        );
-        let costs = cost_volume(alloc, &left, &right, span, window)?;
-        let wanted = costs_of(alloc, &middle)?;
-        assert!(rt; costs.as_slice() == wanted.as_slice());
+    let calib = calib(alloc, &[EXAMPLE, CAMERA, GRID, REGIONS])?;
+    let map = map_of(alloc, &["00111", "00111", "00111"])?;
+    let height = Some(50_000);
+    let row = [height, height, height, None];
+    let grid = [row, row, row].concat(alloc)?;
+    let all = RegionTally {
+        cells: 9,
+        empty: 3,
+        fill: 90_000_000_000,
+        cut: 0,
+        lowest: height,
+        highest: height,
+    };
+    let east = RegionTally {
+        cells: 0,
+        empty: 1,
+        fill: 0,
+        cut: 0,
+        lowest: None,
+        highest: None,
+    };
+    for strips in [1, 2, 3, 64] {
+        let found = example(alloc, &calib, strips)?;
+        assert_eq!(rt; found.disp.entries(), map.as_slice(), "{strips}");
+        assert_eq!(rt; cells(alloc, &found)?.as_slice(), grid.as_slice(), "{strips}");
+        let tallies = found.tallies.as_ref().ok_or("no tallies")?;
+        assert_eq!(rt; tallies.as_slice(), [all, east].as_slice(), "{strips}");
     }
     Ok(())
 }
@@ -90,22 +92,6 @@ fn two_pixels(rt: HostRuntime) -> Result<(), Fail> {
     Ok(())
 }
 
-#[test]
-fn sizes_that_differ(rt: HostRuntime) -> Result<(), Fail> {
-    let alloc = rt.alloc();
-    let wide = even_image(alloc, (2, 1))?;
-    let high = even_image(alloc, (1, 2))?;
-    let wide_size = wide.size();
-    let high_size = high.size();
-    let found = survey(alloc, &wide, &high, &Calib::plain(), 1, 1);
-    let fault = SurveyFault::SizesDiffer {
-        left: wide_size,
-        right: high_size,
-    };
-    assert!(rt; found.err() == Some(SurveyError::Fault(fault)));
-    Ok(())
-}
-
 // 2048 * 2048 * 64 cells are the most that there may be.
 #[test]
 fn volume_too_large(rt: HostRuntime) -> Result<(), Fail> {
@@ -117,5 +103,43 @@ fn volume_too_large(rt: HostRuntime) -> Result<(), Fail> {
         cells: 1_073_741_824,
     };
     assert!(rt; found.err() == Some(SurveyError::Fault(fault)));
+    Ok(())
+}
+
+// 1024 * 1024 * 256 cells are the most that there may be.
+#[test]
+fn warps_come_last(rt: HostRuntime) -> Result<(), Fail> {
+    let alloc = rt.alloc();
+    let span = span(alloc, 0, 256)?;
+    let calib = calib(alloc, &[span.as_str(), TILTED])?;
+    let large = even_image(alloc, (1024, 1025))?;
+    let square = even_image(alloc, (1024, 1024))?;
+    let sizes = SurveyFault::SizesDiffer {
+        left: Size {
+            width: 1024,
+            height: 1025,
+        },
+        right: Size {
+            width: 1024,
+            height: 1024,
+        },
+    };
+    let volume = SurveyFault::VolumeTooLarge { cells: 268_697_600 };
+    let warp = SurveyFault::Warp {
+        side: Side::Left,
+        fault: WarpFault::Denominator { corner: 1 },
+    };
+    assert_eq!(rt;
+        fault(alloc, &large, &square, &calib),
+        Some(SurveyError::Fault(sizes))
+    );
+    assert_eq!(rt;
+        fault(alloc, &large, &large, &calib),
+        Some(SurveyError::Fault(volume))
+    );
+    assert_eq!(rt;
+        fault(alloc, &square, &square, &calib),
+        Some(SurveyError::Fault(warp))
+    );
     Ok(())
 }
