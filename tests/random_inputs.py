@@ -373,18 +373,36 @@ def deep(draw, value, depth):
     return Raw('{"a":' * times + text + "}" * times)
 
 
-def related(draw, whole, holder):
-    """A number on which a range may rest: another one of the same object or of the whole, or their difference; or the
-    next one to it."""
-    numbers = [it for _, it in holder if isinstance(it, int)] if isinstance(holder, Pairs) else []
-    others = [part[at][1] if isinstance(part, Pairs) else part[at] for part, at, _, _ in places(whole)]
-    others = [it for it in others if isinstance(it, int) and abs(it) < 5000] or [0]
-    one = draw.of((numbers or others) if draw.chance(50) else others)
-    return draw.of([one, one - draw.of(numbers or others)]) + draw.of([-1, 0, 1])
+def part_of(holder, name):
+    """The value of that name, or None."""
+    return next((value for key, value in holder if key == name), None) if isinstance(holder, Pairs) else None
+
+
+def tighten(draw, whole):
+    """Changes a number whose range rests on others to the end of its range, or to the next one beyond it."""
+    penalties, camera, grid = (part_of(whole, name) for name in ("penalties", "camera", "grid"))
+    regions = part_of(whole, "regions")
+    holders = [(penalties, "p2", "p1", 0), (penalties, "p1", "p2", 0), (camera, "far", "near", 0), (camera, "near", "far", 0)]
+    if isinstance(regions, list) and regions and draw.chance(50):
+        holders = []
+        region = draw.of(regions)
+        for first, count in (("col", "cols"), ("row", "rows")):
+            side, begin, length = part_of(grid, count), part_of(region, first), part_of(region, count)
+            if all(isinstance(it, int) for it in (side, begin, length)):
+                ends = [(region, count, side - begin), (region, first, side - length), (region, first, side), (grid, count, begin + length)]
+                holders += [(holder, name, None, end) for holder, name, end in ends]
+    holder, name, other, end = draw.of(holders or [(None, None, None, 0)])
+    end = end if other is None else part_of(holder, other)
+    if isinstance(holder, Pairs) and isinstance(end, int):
+        end += draw.of([-1, 0, 1])
+        holder[:] = [(key, end if key == name else value) for key, value in holder]
 
 
 def change(draw, whole):
     """Changes the calibration in one place."""
+    if draw.chance(25):
+        tighten(draw, whole)
+        return
     holder, index, path, depth = draw.of(list(places(whole)))
     is_pair = isinstance(holder, Pairs)
     name, value = holder[index] if is_pair else (None, holder[index])
@@ -395,16 +413,14 @@ def change(draw, whole):
         del holder[index]
     elif what < 2:
         put(draw.of(ODD_VALUES))
-    elif what < 3:
+    elif what < 4:
         put(Raw(draw.of(ODD_NUMBERS)))
-    elif what < 5:
+    elif what < 6:
         put(draw.of([low - 1, low, high, high + 1, 0, draw.between(low, high)]))
     elif what < 7:
-        put(related(draw, whole, holder))
-    elif what < 8:
         other = draw.of([draw.of(ODD_VALUES), low, high, value])
         holder.insert(draw.below(len(holder) + 1), (name, other) if is_pair else other)
-    elif what < 9 and is_pair:
+    elif what < 8 and is_pair:
         holder[index] = (draw.of([draw.of(NAMES), name + "s", name.upper(), name + " ", ""]), value)
     elif what < 10:
         put(deep(draw, value, depth))
@@ -437,9 +453,10 @@ def faulty_calibration(draw, width, height):
     if draw.chance(40):
         whole = Pairs(draw.shuffled(whole))
     data = json_text(draw, whole, draw.chance(50)).encode("utf-8", "surrogatepass")
-    if draw.chance(20):
+    # Most texts stay JSON, so that what is wrong in them is found.
+    if draw.chance(8):
         return damaged(draw, data)
-    around = [(b"", b"")] * 12 + [(b"\xef\xbb\xbf", b""), (b"", b"x"), (b"", b"\n{}"), (b"\v", b""), (b"[", b"]"), (b"", b"\0")]
+    around = [(b"", b"")] * 80 + [(b"\xef\xbb\xbf", b""), (b"", b"x"), (b"", b"\n{}"), (b"\v", b""), (b"[", b"]"), (b"", b"\0")]
     before, after = draw.of(around)
     return before + data + after
 
@@ -479,16 +496,17 @@ def odd_words(draw):
     words += options(draw)
     for _ in range(draw.of([1, 1, 2, 3])):
         at = draw.below(len(words) + 1)
-        what = draw.below(7)
+        what = draw.below(8)
         if what == 0:
             words[at : at + 1] = []
         elif what == 1:
             words[at : at + 1] = [draw.of(ODD_WORDS)]
-        elif what == 2:
+        elif what < 4:
             # The three inputs, one of which may be an output.
-            words[draw.between(1, 3) % len(words)] = draw.of(["o.pgm", "o.asc", "o.csv", "O.pgm", "./o.csv", "o", ""])
-        elif what == 3:
-            words.append(draw.of(words))
+            here = draw.between(1, 3)
+            words[here : here + 1] = [draw.of(["o.pgm", "o.asc", "o.csv", "O.pgm", "./o.csv", "o", ""])]
+        elif what == 4:
+            words.append(draw.of(words or ODD_WORDS))
         else:
             # Odd options come behind the operands, where they are looked at.
             words.insert(draw.of([at, len(words), len(words)]), draw.of([odd_option(draw), draw.of(ODD_WORDS)]))
@@ -561,8 +579,8 @@ def survey_case(draw):
     first = draw.of([0, 0, 1, 1, 2, 3, draw.between(-8, 8), -1024, 1024, draw.between(-width, width)])
     shift = max(-50, min(50, first + draw.below(count)))
     pair = pair_of(draw, width, height, shift)
-    if draw.chance(6):
-        pair[1] = pair_of(draw, *sides_of(draw, 700), shift)[1]
+    if draw.chance(8):
+        pair[1] = pair_of(draw, *draw.of([(width + 1, height), (width, height + 1), (height, width)]), shift)[1]
     sections = sections_of(draw, width, height)
     if draw.chance(12):
         sides = [wrong_warp(draw, width, height), draw.of([warp_of, wrong_warp])(draw, width, height)]
