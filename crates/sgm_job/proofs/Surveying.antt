@@ -13,9 +13,9 @@ use Rattle.sgm_base.specs.Columns.{right_column}
 use Rattle.sgm_census.specs.Windows.{WindowSides}
 use Rattle.sgm_energy.specs.Energies.{path_sum}
 use Rattle.sgm_energy.specs.Rays.{Pixel, pixel_at, Problem}
-use Rattle.sgm_select.specs.Selection.{agree, base, checked, disparity, least_index, matched}
+use Rattle.sgm_select.specs.Selection.{agree, base, checked, disparities_of, disparity, least_index, matched}
 use Rattle.sgm_base.specs.Values.{AtMost}
-use Rattle.sgm_job.specs.Survey.{disparities, disparities_of, left_plane, matching, right_plane}
+use Rattle.sgm_job.specs.Survey.{disparities, left_plane, matching, right_plane}
 
 -- the map of the planes is that of the images
 pub map_is : (left right : Picture) (calib : Calibration) (a b : Values) (span : Disparities) (window : WindowSides) (p1 far : ℕ) → a ≡ left_plane left calib → b ≡ right_plane right calib → span ≡ calib.span → window ≡ calib.window

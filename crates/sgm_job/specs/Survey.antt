@@ -6,14 +6,12 @@ use Rattle.sgm_base.specs.declared.side.Side.{Side}
 use Rattle.sgm_base.specs.declared.side.Side.TheVariants.{Left, Right}
 use Rattle.sgm_base.specs.Sides.{Sides}
 use Rattle.sgm_base.specs.Picture.{Picture}
-use Rattle.sgm_base.specs.Values.{Values, values_of}
+use Rattle.sgm_base.specs.Values.{Values}
 use Rattle.sgm_base.specs.Disparities.{Disparities}
 use Rattle.sgm_census.specs.Windows.{WindowSides}
-use Rattle.sgm_census.specs.Codes.{codes_of}
-use Rattle.sgm_base.specs.Values.{row_by_row}
-use Rattle.sgm_census.specs.Costs.{census_cost}
-use Rattle.sgm_energy.specs.Rays.{pixel_at, Problem, fixed_problem}
-use Rattle.sgm_select.specs.Selection.{disparity}
+use Rattle.sgm_census.specs.Matching.{plane_problem}
+use Rattle.sgm_energy.specs.Rays.{Problem}
+use Rattle.sgm_select.specs.Selection.{disparities_of}
 use Rattle.sgm_rectify.specs.declared.warp.Warp.{Warp}
 use Rattle.sgm_rectify.specs.Faults.{warp_fault}
 use Rattle.sgm_rectify.specs.Rectified.{rectified_values, sides_of}
@@ -28,17 +26,9 @@ use Rattle.sgm_job.specs.declared.job.SurveyFault.TheVariants as fault
 
 -- ---- the disparities
 
--- the problem of matching two planes: the cost of an index at a pixel is that of the census codes
+-- the problem of matching two planes
 abbrev pub matching : Values → Values → Disparities → WindowSides → Penalties → Problem
-matching left right span window penalties =
-    let left_codes = codes_of left window in
-    let right_codes = codes_of right window in
-    fixed_problem left.width left.height span.count (λ p d. census_cost left_codes right_codes span.first p.x p.y d) penalties.p1 penalties.p2
-
--- the disparity of each pixel, row by row
-abbrev pub disparities_of : Problem → Values → Values → ℤ → Values
-disparities_of g left right first =
-    values_of g.width g.height (row_by_row g.width g.height (λ x y. disparity g left right first (pixel_at x y)))
+matching left right span window penalties = plane_problem left right window span penalties.p1 penalties.p2
 
 -- the planes that are matched: the rectified images
 abbrev pub left_plane : Picture → Calibration → Values

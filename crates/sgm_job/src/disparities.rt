@@ -6,9 +6,9 @@ ghost use Rattle.sgm_energy.specs.Pens.{p1_of, p2_of};
 ghost use Rattle.sgm_energy.specs.Rays.{Problem, pixel_at};
 ghost use Rattle.sgm_energy.specs.Rows.{HoldsRow};
 ghost use Rattle.sgm_energy.specs.Energies.{path_sum};
-ghost use Rattle.sgm_select.specs.Selection.{disparity};
+ghost use Rattle.sgm_select.specs.Selection.{disparities_of, disparity};
 ghost use Rattle.sgm_base.specs.Values.{AtMost};
-ghost use Rattle.sgm_job.specs.Survey.{matching, disparities_of};
+ghost use Rattle.sgm_job.specs.Survey.{matching};
 ghost use Rattle.sgm_job.specs.Volumes.{HoldsVolume, SuitsPlane, SuitsVolume};
 
 use crate::costs::cost_volume;

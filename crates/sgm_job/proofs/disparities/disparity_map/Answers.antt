@@ -10,7 +10,8 @@ use Rattle.std.specs.declared.alloc.AllocError.{AllocError}
 use Rattle.sgm_energy.specs.Rays.{Problem}
 use Rattle.sgm_base.specs.Values.{Values}
 use Rattle.sgm_base.specs.Values.{AtMost}
-use Rattle.sgm_job.specs.Survey.{matching, disparities_of}
+use Rattle.sgm_select.specs.Selection.{disparities_of}
+use Rattle.sgm_job.specs.Survey.{matching}
 use Rattle.sgm_job.specs.Volumes.{HoldsVolume, SuitsVolume}
 use Rattle.sgm_job.proofs.Surveying.{rows_low}
 use Rattle.sgm_job.proofs.disparities.disparity_map.Goals as goal
