@@ -1,4 +1,4 @@
-use Rattle.std.proofs.Common.{◌≡◌, ◌+◌, ◌+ℤ◌, ap, ◌∙◌, arith, length, pos, rules, w64}
+use Rattle.std.proofs.Common.{◌≡◌, ◌+◌, ◌+ℤ◌, ap, ◌∙◌, arith, pos, rules, w64}
 use Rattle.std.proofs.lemmas.Int.{to_z-of_z}
 use Rattle.sgm_base.specs.Disparities.{Disparities}
 use Rattle.sgm_select.proofs.Keys.{keys_more}

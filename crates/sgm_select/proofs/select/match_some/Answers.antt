@@ -1,4 +1,4 @@
-use Rattle.std.proofs.Common.{◌≡◌, ◌+◌, ◌-◌, ◌<◌, length, ap, ◌∙◌, subst, arith, slice_index}
+use Rattle.std.proofs.Common.{◌≡◌, ◌+◌, ◌-◌, length, ap, ◌∙◌, subst, arith, slice_index}
 use Rattle.std.proofs.lemmas.List.{get_or-take, get_or-replicate}
 use Rattle.sgm_select.specs.declared.select.TheConstants.{NO_KEY}
 use Rattle.sgm_select.specs.Keys.{IsLeastKey}
