@@ -8,7 +8,8 @@ use sgm_io::Shelf;
 
 /// The words call for exactly one verdict over what a shelf holds that tells it.
 pub fn one_verdict<S: Shelf>()
-    ensures some { IsTrue S.tells → (words : List (List ℕ)) (shelf : S) → (v : Verdict) × CallsFor words (S.held shelf) v }
+    ensures some { IsTrue S.tells → (words : List (List ℕ)) (shelf : S)
+        → (v : Verdict) × CallsFor words (S.held shelf) v }
     ensures only { (words : List (List ℕ)) (held : Held) (one other : Verdict)
         → CallsFor words held one → CallsFor words held other → one ≡ other }
 {}
