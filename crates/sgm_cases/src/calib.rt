@@ -141,7 +141,7 @@ fn push_calib(text: &mut String, calib: &Calib) -> Result<(), AllocError> {
 
 /// The answer to the case of that text.
 pub fn answer(alloc: Global, case: &str) -> Result<String, AllocError> {
-    let bytes = escapes::bytes(alloc, case)?;
+    let bytes = escapes::unescaped(alloc, case)?;
     let mut text = String::new(alloc);
     match read(alloc, &bytes) {
         Ok(calib) => push_calib(&mut text, &calib)?,

@@ -84,7 +84,7 @@ impl Bytes {
 }
 
 /// The bytes that a text stands for.
-pub fn bytes(alloc: Global, text: &str) -> Result<Vec<u8>, AllocError> {
+pub fn unescaped(alloc: Global, text: &str) -> Result<Vec<u8>, AllocError> {
     let mut read = Bytes {
         bytes: Vec::new(alloc),
         start: 0,
