@@ -28,14 +28,16 @@ begin() {
 #!/usr/bin/env bash
 printf '[%s]' "$@"
 printf ' in %s with %s\n' "$PWD" "${GLIBC_TUNABLES-none}"
+sed -n 's/^flags:.*\(.\)$/\1/p' /proc/$$/fdinfo/[12] >"$(dirname "$0")/streams"
 exit 7
 PROGRAM
     cat >"$repository/bin/rt" <<RT
 #!/usr/bin/env bash
-echo "\$*" >>'$repository/calls'
+echo "in \$PWD: \$*" >>'$repository/calls'
 echo checking >&2
 echo printed by the program
 [ -e '$repository/broken' ] && exit 1
+[ -e '$repository/unchanged' ] && exit
 cp '$work/made' '$repository/crates/sgm_cli/out/sgm_cli'
 RT
     chmod +x "$work/made" "$repository/bin/rt"
@@ -103,7 +105,7 @@ is status "$status" 7
 is "the program's words" "$out" "[match][a b][][c
 d][*] in $repository with glibc.malloc.hugetlb=1"
 has_line "standard error" "$err" "sgm: first build: this proves every crate, about 1 to 1 minutes;"
-is "how rt was called" "$(sed 's/ --cpu x86-64-v3//' calls)" "run -- demo 0"
+is "how rt was called" "$(sed 's/ --cpu x86-64-v3//' calls)" "in $repository/crates/sgm_cli: run -- demo 0"
 started
 is "status without words" "$status" 7
 is "standard error of a later start" "$err" ""
@@ -132,6 +134,12 @@ age
 touch docs/page.md crates/low/must-fail/one.edit README.md
 started demo 1
 is "builds after a change of a page and of an edit" "$(calls)" $((count + 1))
+# A build that makes the same program and so leaves the file as it is.
+age
+touch unchanged crates.txt
+started demo 1
+started demo 1
+is "builds after one that changed nothing" "$(calls)" $((count + 2))
 
 begin unbuilt
 touch broken
@@ -185,16 +193,18 @@ for pair in "" glibc.malloc.arena_max=1 glibc.malloc.hugetlb=0 glibc.malloc.huge
     is "with '$pair'" "$out" "[demo][0] in $repository with $wanted"
 done
 
-# A stream that was closed stays one that nothing can be written to.
+# In the place of a stream that was closed stands something that is open for reading alone: its mode is 0.
 begin closed
 started demo 0
 PATH=$path ./sgm demo 0 >&- 2>"$work/err"
 is "status with a closed standard output" $? 7
 grep -q "write error" "$work/err"
 is "the program's fault" $? 0
+is "the mode of what stands in its place" "$(head -n 1 crates/sgm_cli/out/streams)" 0
 PATH=$path ./sgm demo 0 2>&- >"$work/out"
 is "standard output beside a closed standard error" "$(cat "$work/out")" \
     "[demo][0] in $repository with glibc.malloc.hugetlb=1"
+is "the modes of both streams" "$(tr '\n' ' ' <crates/sgm_cli/out/streams)" "1 0 "
 
 echo "launcher: $passed passed, $failed failed"
 [ "$failed" = 0 ]

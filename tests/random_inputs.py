@@ -4,6 +4,7 @@
 takes a microsecond for each pixel, disparity and direction.
 """
 
+import copy
 import json
 import os
 
@@ -122,6 +123,10 @@ def pgm(draw, width, height, maxval, samples, is_plain=True):
 
 def faulty_pgm(draw, width, height, maxval, samples):
     """A picture with a fault of a kind that has a line of its own, most of the time."""
+    if maxval not in (255, 65535) and draw.chance(50):
+        samples = list(samples)
+        samples[draw.below(len(samples))] = draw.of([maxval + 1, 255 if maxval < 256 else 65535])
+        return pgm(draw, width, height, maxval, samples, draw.chance(50))
     whole = pgm(draw, width, height, maxval, samples, draw.chance(50))
     if draw.chance(50):
         return damaged(draw, whole)
@@ -202,8 +207,10 @@ RANGES = {
 ODD_VALUES = [
     *map(Raw, "1.0 1e0 -0 0.5 1e400 1e-400 -1 01 +1 .5 1. 1e 0x1 NaN Infinity true false null nul [] {} [1] {{ ] '1'".split()),
     *map(Raw, ['""', '"1"', '"\\u0031"', '"\\ud800"', '"\\ud83d\\ude00"', '"\\x"', '"a\tb"', '{"a":1}', "[[[]]]", "[1,]", "1 2"]),
-    *map(Raw, map(str, [2**31, 2**32, 2**53 + 1, 2**63 - 1, 2**63, -(2**63), -(2**63) - 1, 2**64 - 1, 2**64, 10**40, 10**400])),
+    *map(Raw, map(str, [2**31, 2**32, 2**53 + 1, 2**64 - 1, 2**64, 10**40, 10**400])),
 ]
+# Whole numbers at the ends of 64 bits, and what isn't written as one.
+ODD_NUMBERS = [*map(str, [2**63 - 1, 2**63, -(2**63), -(2**63) - 1]), "1.0", "-0", "1e0", "0.0"]
 NAMES = "version disparities first count census width height penalties p1 p2 warp left right kind matrix step cols rows nodes"
 NAMES = (NAMES + " camera focal grid cell regions name col base top x").split()
 
@@ -333,19 +340,20 @@ def json_text(draw, value, is_loose):
     return space() + made + space()
 
 
-def places(value, path=""):
-    """Each pair of an object and the elements of its lists: the object or list, the index, the path."""
+def places(value, path="", depth=1):
+    """Each pair of an object and some elements of its lists: the object or list, the index, the path, and how many
+    objects and lists it stands in."""
     if isinstance(value, Pairs):
         for index, (name, it) in enumerate(value):
             here = f"{path}.{name}" if path else name
-            yield value, index, here
-            yield from places(it, here)
+            yield value, index, here, depth
+            yield from places(it, here, depth + 1)
     elif isinstance(value, list):
-        # Of a long list of numbers a few elements will do.
+        # Of a long list of numbers one or two elements will do.
         numbered = list(enumerate(value))
-        for index, it in numbered[:3] + numbered[3:][-2:]:
-            yield value, index, path
-            yield from places(it, path)
+        for index, it in numbered if len(value) < 4 else [numbered[0], numbered[-1]]:
+            yield value, index, path, depth
+            yield from places(it, path, depth + 1)
 
 
 def range_of(path):
@@ -356,47 +364,63 @@ def range_of(path):
     return -1099511627776, 1099511627776
 
 
-def deep(draw, value):
-    """The value inside of many lists or objects; beyond 127 of them it isn't read."""
-    times = draw.of([1, 2, 100, 120, 125, 126, 127, 128, 129, 200])
+def deep(draw, value, depth):
+    """The value inside of many lists or objects; beyond 127 of them, with those around it, nothing is read."""
+    times = draw.of([1, 2, 126 - depth, 127 - depth, 127 - depth, 128 - depth, 128 - depth, 129 - depth, 200])
     text = json.dumps(value) if isinstance(value, int) else "0"
     if draw.chance(50):
         return Raw("[" * times + text + "]" * times)
     return Raw('{"a":' * times + text + "}" * times)
 
 
+def related(draw, whole, holder):
+    """A number on which a range may rest: another one of the same object or of the whole, or their difference; or the
+    next one to it."""
+    numbers = [it for _, it in holder if isinstance(it, int)] if isinstance(holder, Pairs) else []
+    others = [part[at][1] if isinstance(part, Pairs) else part[at] for part, at, _, _ in places(whole)]
+    others = [it for it in others if isinstance(it, int) and abs(it) < 5000] or [0]
+    one = draw.of((numbers or others) if draw.chance(50) else others)
+    return draw.of([one, one - draw.of(numbers or others)]) + draw.of([-1, 0, 1])
+
+
 def change(draw, whole):
     """Changes the calibration in one place."""
-    holder, index, path = draw.of(list(places(whole)))
+    holder, index, path, depth = draw.of(list(places(whole)))
     is_pair = isinstance(holder, Pairs)
     name, value = holder[index] if is_pair else (None, holder[index])
     put = lambda it: holder.__setitem__(index, (name, it) if is_pair else it)
     low, high = range_of(path)
-    what = draw.below(10)
+    what = draw.below(12)
     if what < 1:
         del holder[index]
-    elif what < 3:
+    elif what < 2:
         put(draw.of(ODD_VALUES))
-    elif what < 6:
+    elif what < 3:
+        put(Raw(draw.of(ODD_NUMBERS)))
+    elif what < 5:
         put(draw.of([low - 1, low, high, high + 1, 0, draw.between(low, high)]))
     elif what < 7:
+        put(related(draw, whole, holder))
+    elif what < 8:
         other = draw.of([draw.of(ODD_VALUES), low, high, value])
         holder.insert(draw.below(len(holder) + 1), (name, other) if is_pair else other)
-    elif what < 8 and is_pair:
+    elif what < 9 and is_pair:
         holder[index] = (draw.of([draw.of(NAMES), name + "s", name.upper(), name + " ", ""]), value)
-    elif what < 9:
-        put(deep(draw, value))
+    elif what < 10:
+        put(deep(draw, value, depth))
     else:
-        inner = [part[at][1] for part, at, _ in places(whole) if isinstance(part, Pairs)]
+        inner = [part[at][1] for part, at, _, _ in places(whole) if isinstance(part, Pairs)]
         target = draw.of([whole] + [it for it in inner if isinstance(it, Pairs)])
-        target.insert(draw.below(len(target) + 1), (draw.of(NAMES), draw.of([value, 0, draw.of(ODD_VALUES)])))
+        target.insert(draw.below(len(target) + 1), (draw.of(NAMES), draw.of([copy.deepcopy(value), 0, draw.of(ODD_VALUES)])))
 
 
 def is_long(whole):
     """Whether the grid that was made would have too many cells for the reference."""
-    sides = {name: value for holder, index, path in places(whole) if path.startswith("grid.") for name, value in [holder[index]]}
-    values = [value for value in (sides.get("cols"), sides.get("rows")) if isinstance(value, int)]
-    return len(values) == 2 and values[0] * values[1] > 100000
+    sides = {"grid.cols": 1, "grid.rows": 1}
+    for holder, index, path, _ in places(whole):
+        if path in sides and isinstance(holder, Pairs) and isinstance(holder[index][1], int):
+            sides[path] = max(sides[path], holder[index][1])
+    return sides["grid.cols"] * sides["grid.rows"] > 100000
 
 
 def faulty_calibration(draw, width, height):
@@ -406,7 +430,7 @@ def faulty_calibration(draw, width, height):
         sides = Pairs([("left", warp_of(draw, width, height)), ("right", warp_of(draw, width, height))])
         sections = {"warp": sides if draw.chance(70) else None, "camera": camera_of(draw), "grid": grid}
         whole = settings(draw, draw.between(-3, 3), draw.between(1, 6), **sections, regions=regions_of(draw, grid))
-        for _ in range(draw.of([0, 1, 1, 1, 2, 3])):
+        for _ in range(draw.of([1, 1, 1, 1, 2, 3])):
             change(draw, whole)
         if not is_long(whole):
             break
@@ -445,19 +469,29 @@ def options(draw):
     return draw.shuffled(made)
 
 
+def odd_option(draw):
+    name, most = draw.of([("strips", 64), ("workers", 16)])
+    return f"{name}={draw.of(['', '0', '00', '1', most - 1, most, most + 1, f'0{most}', f'0{most + 1}', 10 * most, -1])}"
+
+
 def odd_words(draw):
     words = list(GOOD_WORDS) if draw.chance(80) else ["demo", draw.of(["5", "x", "", "4294967296", "0" * 30])]
     words += options(draw)
     for _ in range(draw.of([1, 1, 2, 3])):
         at = draw.below(len(words) + 1)
-        what = draw.below(4)
+        what = draw.below(7)
         if what == 0:
             words[at : at + 1] = []
         elif what == 1:
             words[at : at + 1] = [draw.of(ODD_WORDS)]
+        elif what == 2:
+            # The three inputs, one of which may be an output.
+            words[draw.between(1, 3) % len(words)] = draw.of(["o.pgm", "o.asc", "o.csv", "O.pgm", "./o.csv", "o", ""])
+        elif what == 3:
+            words.append(draw.of(words))
         else:
             # Odd options come behind the operands, where they are looked at.
-            words.insert(draw.of([at, len(words)]), draw.of(ODD_WORDS))
+            words.insert(draw.of([at, len(words), len(words)]), draw.of([odd_option(draw), draw.of(ODD_WORDS)]))
     return words
 
 
@@ -501,7 +535,7 @@ def picture_case(draw):
     calibration = json_text(draw, settings(draw, draw.between(-2, 2), draw.between(1, 6)), False).encode()
     pair = pair_of(draw, width, height, is_plain=False)
     if draw.chance(75):
-        maxval = draw.of([1, 255, 256, 65535])
+        maxval = draw.of([1, 254, 255, 256, 1000, 65535])
         samples = textured(draw, width, height, maxval, 0)[0]
         pair[draw.of([0, 1, 1])] = faulty_pgm(draw, width, height, maxval, samples)
     return GOOD_WORDS + options(draw), files_of(pair, calibration)
@@ -583,7 +617,8 @@ KINDS = {
     "words": words_case,
     "places": place_case,
 }
-TURNS = "surveys calibrations pictures surveys calibrations words surveys calibrations pictures places".split()
+TURNS = "surveys calibrations words calibrations pictures surveys calibrations places words calibrations pictures surveys"
+TURNS = TURNS.split()
 
 
 def case_of(seed, number):

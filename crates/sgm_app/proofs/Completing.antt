@@ -5,41 +5,32 @@ use Rattle.std.proofs.lemmas.Slice.Eq.{bytes_eq-Decides}
 use Rattle.std.proofs.lemmas.List.Elements.{All-contains, Contains-append_right}
 use Rattle.std.proofs.lemmas.Bool.{cases_lt}
 use Rattle.sgm_base.specs.Picture.{Picture}
-use Rattle.sgm_base.specs.declared.side.Side.{Side}
-use Rattle.sgm_base.specs.declared.side.Side.TheVariants as side
-use Rattle.sgm_base.specs.declared.limits.TheConstants.{MAX_IMAGE_BYTES}
 use Rattle.sgm_io.specs.Held.{Held}
 use Rattle.sgm_io.specs.Counts.{Rose}
 use Rattle.sgm_pgm.specs.declared.fault.PgmFault.{PgmFault}
-use Rattle.sgm_calib.specs.Calibration.{Calibration, plain}
+use Rattle.sgm_calib.specs.Calibration.{Calibration}
 use Rattle.sgm_calib.specs.declared.keys.CalibFault.{CalibFault}
-use Rattle.sgm_calib.specs.declared.keys.TheConstants.{MAX_CALIB_BYTES}
-use Rattle.sgm_grid.specs.Cells.{Cells}
-use Rattle.sgm_report.specs.Areas.{Area}
-use Rattle.sgm_report.specs.declared.volumes.RegionTally.{RegionTally}
-use Rattle.sgm_job.specs.Survey.{Survey, surveyed}
-use Rattle.sgm_job.specs.declared.job.SurveyFault.{SurveyFault}
-use Rattle.sgm_app.specs.Words.{Operands, is_plain, IsInputName, IsOutputName}
+use Rattle.sgm_words.specs.Operands.{Operands, is_plain, IsInputName, IsOutputName}
+use Rattle.sgm_words.specs.declared.usage.UsageFault.{UsageFault}
+use Rattle.sgm_words.specs.declared.options.Options.{Options}
+use Rattle.sgm_words.specs.declared.options.Options.TheVariants as options
+use Rattle.sgm_words.specs.declared.files.Input.{Input}
+use Rattle.sgm_words.specs.declared.files.Input.TheVariants as input
+use Rattle.sgm_words.specs.declared.files.Output.{Output}
+use Rattle.sgm_words.specs.declared.files.Output.TheVariants.{Disparity, Heights, Report, Summary}
+use Rattle.sgm_outcome.specs.declared.outcome.Refusal.{Refusal}
+use Rattle.sgm_outcome.specs.declared.outcome.Refusal.TheVariants.{TooLong}
+use Rattle.sgm_outcome.specs.declared.outcome.Outcome.{Outcome}
+use Rattle.sgm_outcome.specs.declared.outcome.Outcome.TheVariants.{Done, Usage, Refused, ReadFault, WriteFault, NoMemory}
 use Rattle.sgm_app.specs.Readings.{Readings}
-use Rattle.sgm_app.specs.Texts.{summary_text, demo_text}
-use Rattle.sgm_app.specs.Pair.{pair_image}
-use Rattle.sgm_app.specs.Verdict.{Verdict, OutputFile, usage, absent, refused, files, fetched, calib_fetched, with_image, with_calib, with_survey, refusal_of, calib_of, outputs, judged, matched, demoed, verdict_of, outputs_of, IsFiles}
-use Rattle.sgm_app.specs.Judge.{IsNamed}
+use Rattle.sgm_app.specs.Texts.{Texts}
+use Rattle.sgm_app.specs.Outputs.{OutputFile, IsNamed, files_of}
+use Rattle.sgm_app.specs.Verdict.{Verdict, usage, absent, refused, files, fetched, calib_fetched, most_bytes, texts_for, demo_for, unless_refused, calib_of, judged, matched, demoed, outputs_of, IsFiles}
+use Rattle.sgm_app.specs.Calls.{MatchCallsFor, ReadCallsFor}
 use Rattle.sgm_app.specs.Ends.{FilesStand, NoneBefore, order_of, ShownBy, Faults, ReadRose, FileRose, CountsShow, OutCountsShow, RunCounts}
 use Rattle.sgm_app.specs.Deliver.{FilesPut}
 use Rattle.sgm_app.specs.Complete.{NoReadRose, OnlyReadRose, NoWriteRose, IsUnlessMemory, IsComplete, IsDemoComplete, RunComplete, IsNoFileFault, NoneRose}
-use Rattle.sgm_app.specs.declared.words.UsageFault.{UsageFault}
-use Rattle.sgm_app.specs.declared.words.Options.{Options}
-use Rattle.sgm_app.specs.declared.words.Options.TheVariants as options
-use Rattle.sgm_app.specs.declared.outcome.Input.{Input}
-use Rattle.sgm_app.specs.declared.outcome.Input.TheVariants as input
-use Rattle.sgm_app.specs.declared.outcome.Output.{Output}
-use Rattle.sgm_app.specs.declared.outcome.Output.TheVariants.{Disparity, Heights, Report, Summary}
-use Rattle.sgm_app.specs.declared.outcome.Refusal.{Refusal}
-use Rattle.sgm_app.specs.declared.outcome.Refusal.TheVariants.{TooLong, Pgm, Calib}
-use Rattle.sgm_app.specs.declared.outcome.Outcome.{Outcome}
-use Rattle.sgm_app.specs.declared.outcome.Outcome.TheVariants.{Done, Usage, Refused, ReadFault, WriteFault, NoMemory}
-use Rattle.sgm_app.proofs.Holding.{Distinct, in_cases, in_none}
+use Rattle.sgm_app.proofs.Holding.{Distinct, in_none}
 use Rattle.sgm_app.proofs.Named.{all_named, all_distinct}
 use Rattle.sgm_app.proofs.VerdictLaws.{none_judged}
 
@@ -54,60 +45,40 @@ proper_none asked v none = record {
   distinct = let P : List OutputFile → Type 0 = λ fs. Distinct fs in subst P (sym none) tt;
 }
 
-proper_image : (asked : Operands) (s : Side) (reading : Result Picture PgmFault) (next : Picture → Verdict) → ((p : Picture) → IsProper asked (next p)) → IsProper asked (with_image s reading next)
-proper_image asked s (Err fault) next later = proper_none asked (refused (Pgm s fault)) refl
-proper_image asked s (Ok image) next later = later image
-
-proper_calib : (asked : Operands) (reading : Result Calibration CalibFault) (next : Calibration → Verdict) → ((c : Calibration) → IsProper asked (next c)) → IsProper asked (with_calib reading next)
-proper_calib asked (Err fault) next later = proper_none asked (refused (Calib fault)) refl
-proper_calib asked (Ok calib) next later = later calib
-
-proper_survey : (asked : Operands) (wanted : Result Survey SurveyFault) (next : Survey → Verdict) → ((s : Survey) → IsProper asked (next s)) → IsProper asked (with_survey wanted next)
-proper_survey asked (Err fault) next later = proper_none asked (refused (refusal_of fault)) refl
-proper_survey asked (Ok survey) next later = later survey
-
-proper_files : (asked : Operands) (calib : Calibration) (survey : Survey) → IsProper asked (files (outputs asked calib survey) (summary_text survey.disp))
-proper_files asked calib survey = record {
-  named = λ file c. All-contains (IsNamed asked) (outputs asked calib survey) file (all_named asked calib survey) c;
-  distinct = all_distinct asked calib survey;
+proper_judged : (asked : Operands) (wanted : Result Texts Refusal) → IsProper asked (unless_refused wanted (λ texts. files (files_of asked.out texts) texts.summary))
+proper_judged asked (Err refusal) = proper_none asked (refused refusal) refl
+proper_judged asked (Ok texts) = record {
+  named = λ file c. All-contains (IsNamed asked) (files_of asked.out texts) file (all_named asked texts) c;
+  distinct = all_distinct asked.out texts;
 }
 
-proper_judged : (asked : Operands) (left right : Result Picture PgmFault) (calib : Result Calibration CalibFault) → IsProper asked (judged asked left right calib)
-unfolding judged
-proper_judged asked left right calib =
-    proper_image asked side.Left left _ (λ a.
-    proper_image asked side.Right right _ (λ b.
-    proper_calib asked calib _ (λ c.
-    proper_survey asked (surveyed a b c) _ (λ s. proper_files asked c s))))
-
-proper_fetched : (asked : Operands) (i : Input) (most : ℕ) (held : Option (List ℕ)) (next : Verdict) → IsProper asked next → IsProper asked (fetched i most held next)
-proper_fetched asked i most None next later = proper_none asked (absent i) refl
-proper_fetched asked i most (Some bytes) next later = elim (nat_lt most (length bytes)) as (λ t. IsProper asked (if t then refused (TooLong i) else next)) [ true ↦ proper_none asked (refused (TooLong i)) refl | false ↦ later ]
+proper_fetched : (asked : Operands) (i : Input) (held : Option (List ℕ)) (next : Verdict) → IsProper asked next → IsProper asked (fetched i held next)
+proper_fetched asked i None next later = proper_none asked (absent i) refl
+proper_fetched asked i (Some bytes) next later = elim (nat_lt (most_bytes i) (length bytes)) as (λ t. IsProper asked (if t then refused (TooLong i) else next)) [ true ↦ proper_none asked (refused (TooLong i)) refl | false ↦ later ]
 
 proper_calib_fetched : (asked : Operands) (plain : Bool) (held : Option (List ℕ)) (next : Verdict) → IsProper asked next → IsProper asked (calib_fetched plain held next)
 proper_calib_fetched asked true held next later = later
-proper_calib_fetched asked false held next later = proper_fetched asked input.Calibration MAX_CALIB_BYTES held next later
+proper_calib_fetched asked false held next later = proper_fetched asked input.Calibration held next later
 
-pub proper_matched : (asked : Operands) (held : Held) (r : Readings) → IsProper asked (matched asked held r)
+proper_matched : (asked : Operands) (held : Held) (r : Readings) → IsProper asked (matched asked held r)
 unfolding matched
 proper_matched asked held r =
-    proper_fetched asked input.Left MAX_IMAGE_BYTES (held asked.left) _ (
-    proper_fetched asked input.Right MAX_IMAGE_BYTES (held asked.right) _ (
+    proper_fetched asked input.Left (held asked.left) _ (
+    proper_fetched asked input.Right (held asked.right) _ (
     proper_calib_fetched asked (is_plain asked) (held asked.calib) _ (
-    proper_judged asked r.left r.right (calib_of asked r))))
+    proper_judged asked (texts_for r.left r.right (calib_of asked r)))))
 
-proper_demo : (asked : Operands) (wanted : Result Survey SurveyFault) → IsProper asked (with_survey wanted (λ s. files [] (demo_text s.disp)))
-proper_demo asked (Err fault) = proper_none asked (refused (refusal_of fault)) refl
-proper_demo asked (Ok survey) = proper_none asked (files [] (demo_text survey.disp)) refl
+proper_demoed : (asked : Operands) (wanted : Result (List ℕ) Refusal) → IsProper asked (unless_refused wanted (λ summary. files [] summary))
+proper_demoed asked (Err refusal) = proper_none asked (refused refusal) refl
+proper_demoed asked (Ok summary) = proper_none asked (files [] summary) refl
 
-pub proper_demoed : (asked : Operands) (number : ℕ) → IsProper asked (demoed number)
-unfolding demoed
-proper_demoed asked number = proper_demo asked (surveyed (pair_image number side.Left 256 192) (pair_image number side.Right 256 192) plain)
+proper_along : (asked : Operands) (v w : Verdict) → v ≡ w → IsProper asked v → IsProper asked w
+proper_along asked v w same is = let P : Verdict → Type 0 = λ x. IsProper asked x in subst P same is
 
-pub proper_verdict : (read : Result Options UsageFault) (asked : Operands) (held : Held) (r : Readings) → IsProper asked (verdict_of read asked held r)
-proper_verdict (Err fault) asked held r = proper_none asked (usage fault) refl
-proper_verdict (Ok (options.Match strips workers)) asked held r = proper_matched asked held r
-proper_verdict (Ok (options.Demo number strips workers)) asked held r = proper_demoed asked number
+pub proper_verdict : (read : Result Options UsageFault) (asked : Operands) (held : Held) (v : Verdict) → ReadCallsFor read asked held v → IsProper asked v
+proper_verdict (Err fault) asked held v calls = proper_along asked _ v calls (proper_none asked (usage fault) refl)
+proper_verdict (Ok (options.Match strips workers)) asked held v calls = proper_along asked _ v calls.is (proper_matched asked held calls.readings)
+proper_verdict (Ok (options.Demo number strips workers)) asked held v calls = proper_along asked _ v calls (proper_demoed asked (demo_for number))
 
 -- an output has one name
 one_name : (asked : Operands) (output : Output) (a b : List ℕ) → IsOutputName asked output a → IsOutputName asked output b → a ≡ b
@@ -174,9 +145,9 @@ pub data FetchAbsent (i : Input) (held : Option (List ℕ)) (next : Verdict) (wh
   here : held ≡ None → i ≡ which → FetchAbsent i held next which
   later : (bytes : List ℕ) → held ≡ Some bytes → next ≡ absent which → FetchAbsent i held next which
 
-fetch_absent : (i : Input) (most : ℕ) (held : Option (List ℕ)) (next : Verdict) (which : Input) → fetched i most held next ≡ absent which → FetchAbsent i held next which
-fetch_absent i most None next which e = let same : i ≡ which = cc in here refl same
-fetch_absent i most (Some bytes) next which e = elim (nat_lt most (length bytes)) as (λ t. (if t then refused (TooLong i) else next) ≡ absent which → FetchAbsent i (Some bytes) next which) [
+fetch_absent : (i : Input) (held : Option (List ℕ)) (next : Verdict) (which : Input) → fetched i held next ≡ absent which → FetchAbsent i held next which
+fetch_absent i None next which e = let same : i ≡ which = cc in here refl same
+fetch_absent i (Some bytes) next which e = elim (nat_lt (most_bytes i) (length bytes)) as (λ t. (if t then refused (TooLong i) else next) ≡ absent which → FetchAbsent i (Some bytes) next which) [
   | true ↦ λ bad. absurd (cc)
   | false ↦ λ on. later bytes refl on
 ] e
@@ -219,8 +190,8 @@ at_calib asked held l r own left right none = record {
   some input.Right name lt is = none_differs (held name) r (ap (λ (n : List ℕ). held n) is ∙ right)
   some input.Calibration name lt is = absurd (omega arith)
 
-no_more : (asked : Operands) (left right : Result Picture PgmFault) (calib : Result Calibration CalibFault) (which : Input) → judged asked left right calib ≡ absent which → ⊥
-no_more asked left right calib which e = (none_judged 3 asked left right calib).present which (below which) e
+no_more : (out : List ℕ) (left right : Result Picture PgmFault) (calib : Result Calibration CalibFault) (which : Input) → judged out left right calib ≡ absent which → ⊥
+no_more out left right calib which e = (none_judged 3 out left right calib).present which (below which) e
   where
     below : (i : Input) → order_of i < 3
     below input.Left = omega arith
@@ -231,24 +202,24 @@ no_more asked left right calib which e = (none_judged 3 asked left right calib).
 pub first_absent : (asked : Operands) (held : Held) (r : Readings) (which : Input) → matched asked held r ≡ absent which → IsFirstAbsent asked held which
 unfolding matched
 first_absent asked held r which e =
-    let last = judged asked r.left r.right (calib_of asked r) in
+    let last = judged asked.out r.left r.right (calib_of asked r) in
     let third = calib_fetched (is_plain asked) (held asked.calib) last in
-    let second = fetched input.Right MAX_IMAGE_BYTES (held asked.right) third in
+    let second = fetched input.Right (held asked.right) third in
     let P : Input → Type 0 = λ i. IsFirstAbsent asked held i in
-    elim (fetch_absent input.Left MAX_IMAGE_BYTES (held asked.left) second which e) [
+    elim (fetch_absent input.Left (held asked.left) second which e) [
       | here none is ↦ subst P is (at_left asked held none)
-      | later l left e' ↦ elim (fetch_absent input.Right MAX_IMAGE_BYTES (held asked.right) third which e') [
+      | later l left e' ↦ elim (fetch_absent input.Right (held asked.right) third which e') [
         | here none is ↦ subst P is (at_right asked held l left none)
         | later r' right e'' ↦ third_absent asked held r which l r' left right (is_plain asked) refl e''
       ]
     ]
   where
     third_absent : (asked : Operands) (held : Held) (r : Readings) (which : Input) (l r' : List ℕ) → held asked.left ≡ Some l → held asked.right ≡ Some r' → (plain : Bool) → is_plain asked ≡ plain
-        → calib_fetched plain (held asked.calib) (judged asked r.left r.right (calib_of asked r)) ≡ absent which → IsFirstAbsent asked held which
-    third_absent asked held r which l r' left right true own e = absurd (no_more asked r.left r.right (calib_of asked r) which e)
-    third_absent asked held r which l r' left right false own e = elim (fetch_absent input.Calibration MAX_CALIB_BYTES (held asked.calib) (judged asked r.left r.right (calib_of asked r)) which e) [
+        → calib_fetched plain (held asked.calib) (judged asked.out r.left r.right (calib_of asked r)) ≡ absent which → IsFirstAbsent asked held which
+    third_absent asked held r which l r' left right true own e = absurd (no_more asked.out r.left r.right (calib_of asked r) which e)
+    third_absent asked held r which l r' left right false own e = elim (fetch_absent input.Calibration (held asked.calib) (judged asked.out r.left r.right (calib_of asked r)) which e) [
       | here none is ↦ let P : Input → Type 0 = λ i. IsFirstAbsent asked held i in subst P is (at_calib asked held l r' own left right none)
-      | later bytes there e' ↦ absurd (no_more asked r.left r.right (calib_of asked r) which e')
+      | later bytes there e' ↦ absurd (no_more asked.out r.left r.right (calib_of asked r) which e')
     ]
 
 -- both names differ, or they are one
@@ -269,9 +240,9 @@ same_order input.Right input.Calibration e = absurd (omega arith)
 same_order input.Calibration input.Left e = absurd (omega arith)
 same_order input.Calibration input.Right e = absurd (omega arith)
 
-demo_files : (wanted : Result Survey SurveyFault) → outputs_of (with_survey wanted (λ s. files [] (demo_text s.disp))) ≡ []
-demo_files (Err fault) = refl
-demo_files (Ok survey) = refl
+demo_files : (wanted : Result (List ℕ) Refusal) → outputs_of (unless_refused wanted (λ summary. files [] summary)) ≡ []
+demo_files (Err refusal) = refl
+demo_files (Ok summary) = refl
 
 -- a fault of writing is one of the summary
 abbrev pub SummaryAlone : Outcome → Type 0
@@ -283,14 +254,14 @@ SummaryAlone (ReadFault i) = Unit {0}
 SummaryAlone NoMemory = Unit {0}
 
 -- a demo that touches no file leaves them as they should stand
-pub demo_put : (number : ℕ) (outcome : Outcome) (old : Held) → ShownBy (demoed number) outcome → SummaryAlone outcome → FilesPut outcome (demoed number) old old
-unfolding demoed
-demo_put number Done old shown only = let none = demo_files (surveyed (pair_image number side.Left 256 192) (pair_image number side.Right 256 192) plain) in rw none refl
-demo_put number (Usage fault) old shown only = refl
-demo_put number (Refused refusal) old shown only = refl
-demo_put number (ReadFault i) old shown only = refl
-demo_put number (WriteFault output) old shown only = let none = demo_files (surveyed (pair_image number side.Left 256 192) (pair_image number side.Right 256 192) plain) in inr (only, rw none refl)
-demo_put number NoMemory old shown only = inl refl
+pub demo_put : (number : ℕ) (v : Verdict) (outcome : Outcome) (old : Held) → demoed number ≡ v → SummaryAlone outcome → FilesPut outcome v old old
+demo_put number v Done old is only = let none : outputs_of v ≡ [] = sym (ap (λ (x : Verdict). outputs_of x) is) ∙ demo_files (demo_for number) in rw none refl
+demo_put number v (Usage fault) old is only = refl
+demo_put number v (Refused refusal) old is only = refl
+demo_put number v (ReadFault i) old is only = refl
+demo_put number v (WriteFault output) old is only =
+    let none : outputs_of v ≡ [] = sym (ap (λ (x : Verdict). outputs_of x) is) ∙ demo_files (demo_for number) in inr (only, rw none refl)
+demo_put number v NoMemory old is only = inl refl
 
 pub summary_alone : (outcome : Outcome) (before now : Faults) → OutCountsShow outcome before now → SummaryAlone outcome
 summary_alone Done before now counts = tt
@@ -313,23 +284,23 @@ at_other asked held v i at before now shown rose is first only = elim (decided r
   | inr other ↦ absurd (only at first.asks.0 rose.name first.asks.1 rose.is_name other rose.reads.rose)
 ]
 
-completes_only : (asked : Operands) (held : Held) (r : Readings) (outcome : Outcome) (before now : Faults) → ShownBy (matched asked held r) outcome → CountsShow asked outcome before now →
-    (i : Input) → matched asked held r ≡ absent i → OnlyReadRose asked i before now → IsUnlessMemory outcome (ReadFault i)
-completes_only asked held r Done before now shown counts i is only = absurd (no_absent (matched asked held r) i shown is)
-completes_only asked held r (Usage fault) before now shown counts i is only = absurd counts
-completes_only asked held r (Refused refusal) before now shown counts i is only = absurd (cc)
-completes_only asked held r (ReadFault at) before now shown counts i is only =
-    inl (ap (λ (x : Input). ReadFault x) (at_other asked held (matched asked held r) i at before now shown counts is (first_absent asked held r i is) only))
-completes_only asked held r (WriteFault output) before now shown counts i is only = absurd (no_absent (matched asked held r) i shown is)
-completes_only asked held r NoMemory before now shown counts i is only = inr refl
+completes_only : (asked : Operands) (held : Held) (v : Verdict) (outcome : Outcome) (before now : Faults) → MatchCallsFor asked held v → ShownBy v outcome → CountsShow asked outcome before now →
+    (i : Input) → v ≡ absent i → OnlyReadRose asked i before now → IsUnlessMemory outcome (ReadFault i)
+completes_only asked held v Done before now calls shown counts i is only = absurd (no_absent v i shown is)
+completes_only asked held v (Usage fault) before now calls shown counts i is only = absurd counts
+completes_only asked held v (Refused refusal) before now calls shown counts i is only = absurd (cc)
+completes_only asked held v (ReadFault at) before now calls shown counts i is only =
+    inl (ap (λ (x : Input). ReadFault x) (at_other asked held v i at before now shown counts is (first_absent asked held calls.readings i (calls.is ∙ is)) only))
+completes_only asked held v (WriteFault output) before now calls shown counts i is only = absurd (no_absent v i shown is)
+completes_only asked held v NoMemory before now calls shown counts i is only = inr refl
 
-completes : (asked : Operands) (held new : Held) (r : Readings) (outcome : Outcome) (before now : Faults) → ShownBy (matched asked held r) outcome → FilesStand outcome (matched asked held r) held new → CountsShow asked outcome before now →
-    IsComplete asked (matched asked held r) outcome before now
-completes asked held new r outcome before now shown stands counts = record {
-  files = completes_files asked (matched asked held r) outcome held new before now (proper_matched asked held r) shown stands counts;
-  refused_for = completes_refused asked (matched asked held r) outcome before now shown counts;
-  absent_one = completes_absent asked (matched asked held r) outcome before now shown counts;
-  absent_only = completes_only asked held r outcome before now shown counts;
+completes : (asked : Operands) (held new : Held) (v : Verdict) (outcome : Outcome) (before now : Faults) → MatchCallsFor asked held v → ShownBy v outcome → FilesStand outcome v held new → CountsShow asked outcome before now →
+    IsComplete asked v outcome before now
+completes asked held new v outcome before now calls shown stands counts = record {
+  files = completes_files asked v outcome held new before now (proper_along asked _ v calls.is (proper_matched asked held calls.readings)) shown stands counts;
+  refused_for = completes_refused asked v outcome before now shown counts;
+  absent_one = completes_absent asked v outcome before now shown counts;
+  absent_only = completes_only asked held v outcome before now calls shown counts;
 }
 
 completes_demo : (v : Verdict) (outcome : Outcome) (before now : Faults) → ShownBy v outcome → OutCountsShow outcome before now → IsDemoComplete v outcome before now
@@ -344,11 +315,11 @@ completes_demo v (WriteFault output) before now shown counts = record { files = 
 completes_demo v NoMemory before now shown counts = record { files = λ is out. inr refl; refused_for = λ r e. inr refl }
 
 -- over the words
-pub completes_run : (read : Result Options UsageFault) (asked : Operands) (held new : Held) (r : Readings) (outcome : Outcome) (before now : Faults) → ShownBy (verdict_of read asked held r) outcome → FilesStand outcome (verdict_of read asked held r) held new
-    → RunCounts read asked outcome before now → RunComplete read asked (verdict_of read asked held r) outcome before now
-completes_run (Err fault) asked held new r outcome before now shown stands counts = tt
-completes_run (Ok (options.Match strips workers)) asked held new r outcome before now shown stands counts = completes asked held new r outcome before now shown stands counts
-completes_run (Ok (options.Demo number strips workers)) asked held new r outcome before now shown stands counts = completes_demo (demoed number) outcome before now shown counts
+pub completes_run : (read : Result Options UsageFault) (asked : Operands) (held new : Held) (v : Verdict) (outcome : Outcome) (before now : Faults) → ReadCallsFor read asked held v → ShownBy v outcome → FilesStand outcome v held new
+    → RunCounts read asked outcome before now → RunComplete read asked v outcome before now
+completes_run (Err fault) asked held new v outcome before now calls shown stands counts = tt
+completes_run (Ok (options.Match strips workers)) asked held new v outcome before now calls shown stands counts = completes asked held new v outcome before now calls shown stands counts
+completes_run (Ok (options.Demo number strips workers)) asked held new v outcome before now calls shown stands counts = completes_demo v outcome before now shown counts
 
 -- where no count of the shelf rose there is no fault of a file
 match_no_file : (asked : Operands) (outcome : Outcome) (before now : Faults) → NoneRose before.reads now.reads → NoneRose before.writes now.writes → CountsShow asked outcome before now → IsNoFileFault outcome

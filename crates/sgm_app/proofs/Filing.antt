@@ -5,9 +5,9 @@ use Rattle.std.proofs.Math.Seq.{take-suc, drop-cons}
 use Rattle.sgm_io.specs.Held.{Held, put, extend}
 use Rattle.sgm_io.specs.Keep.{name_of, AddsPrefix}
 use Rattle.sgm_io.proofs.HeldLaws.{extend-put}
-use Rattle.sgm_app.specs.Verdict.{OutputFile}
+use Rattle.sgm_words.specs.declared.files.Output.{Output}
+use Rattle.sgm_app.specs.Outputs.{OutputFile}
 use Rattle.sgm_app.specs.Deliver.{BeginsFile, EndsIn, after_files, IsStopAt, Stops}
-use Rattle.sgm_app.specs.declared.outcome.Output.{Output}
 use Rattle.sgm_app.specs.declared.stops.WriteStop.{WriteStop}
 use Rattle.sgm_app.specs.declared.stops.WriteStop.TheVariants as stop
 

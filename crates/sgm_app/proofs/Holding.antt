@@ -3,12 +3,13 @@ use Rattle.std.proofs.Common.{◌≡◌, inl, inr, ◌⊎◌, ℕ, zero, suc, ar
 use Rattle.std.specs.Str.{bytes_eq}
 use Rattle.std.proofs.lemmas.Slice.Eq.{bytes_eq-Decides}
 use Rattle.sgm_io.specs.Held.{Held, put}
-use Rattle.sgm_app.specs.Verdict.{Verdict, OutputFile, outputs_of}
-use Rattle.sgm_app.specs.Ends.{is_named, Hold, StoppedIn, FilesStand}
+use Rattle.sgm_words.specs.declared.files.Output.{Output}
+use Rattle.sgm_outcome.specs.declared.outcome.Outcome.{Outcome}
+use Rattle.sgm_app.specs.Outputs.{OutputFile, is_named}
+use Rattle.sgm_app.specs.Verdict.{Verdict, outputs_of}
+use Rattle.sgm_app.specs.Ends.{Hold, StoppedIn, FilesStand}
 use Rattle.sgm_app.specs.Deliver.{after_files, BeginsFile, EndsIn, FilesPut}
-use Rattle.sgm_app.specs.declared.outcome.Output.{Output}
-use Rattle.sgm_app.specs.declared.outcome.Outcome.{Outcome}
-use Rattle.sgm_app.specs.declared.outcome.Outcome.TheVariants.{Done, Usage, Refused, ReadFault, WriteFault, NoMemory}
+use Rattle.sgm_outcome.specs.declared.outcome.Outcome.TheVariants.{Done, Usage, Refused, ReadFault, WriteFault, NoMemory}
 
 -- no two of the files have one name
 abbrev pub Distinct : List OutputFile → Type 0
@@ -23,11 +24,11 @@ pub put_other : (name bytes other : List ℕ) (held : Held) → bytes_eq other n
 unfolding put
 put_other name bytes other held e = rw e refl
 
-or_left : (a b : Bool) → (a || b) ≡ false → a ≡ false
+pub or_left : (a b : Bool) → (a || b) ≡ false → a ≡ false
 or_left true b e = absurd (cc)
 or_left false b e = refl
 
-or_right : (a b : Bool) → (a || b) ≡ false → b ≡ false
+pub or_right : (a b : Bool) → (a || b) ≡ false → b ≡ false
 or_right true b e = absurd (cc)
 or_right false b e = e
 
@@ -65,7 +66,7 @@ hold wanted old new distinct is = record {
   others = λ name none. ap (λ (h : Held). h name) is ∙ others_stay wanted name old none;
 }
 
-named-append : (xs ys : List OutputFile) (name : List ℕ) → is_named (xs ++ ys) name ≡ (is_named xs name || is_named ys name)
+pub named-append : (xs ys : List OutputFile) (name : List ℕ) → is_named (xs ++ ys) name ≡ (is_named xs name || is_named ys name)
 named-append [] ys name = refl
 named-append (x ∷ xs) ys name = ap (λ (b : Bool). bytes_eq name x.name || b) (named-append xs ys name) ∙ or_groups (bytes_eq name x.name) (is_named xs name) (is_named ys name)
 

@@ -1,13 +1,12 @@
 pub mod Completing
+pub mod Delivering
 pub mod Filing
+pub mod Finishing
 pub mod Holding
-pub mod Joins
 pub mod Named
 pub mod OneVerdict
-pub mod PairLaws
-pub mod Parts
+pub mod TextSteps
 pub mod Reading
 pub mod Steps
 pub mod Tallied
 pub mod VerdictLaws
-pub mod WordLaws

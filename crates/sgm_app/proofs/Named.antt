@@ -1,37 +1,37 @@
 -- The files of a match have the names of their outputs, which differ.
-use Rattle.std.proofs.Common.{◌≡◌, ◌++◌, ◌<◌, ℕ, zero, suc, Bool, true, false, ◌||◌, List, [], ◌∷◌, length, Option, Some, None, refl, sym, ap, subst, ◌∙◌, arith, All, codes, rules}
+use Rattle.std.proofs.Common.{◌≡◌, ◌++◌, ℕ, Bool, true, false, ◌||◌, List, [], ◌∷◌, Option, Some, None, IsSomeAnd, refl, ap, ◌∙◌, All, codes, rules, unwrap_or}
 use Rattle.std.specs.Str.{bytes_eq}
 use Rattle.std.proofs.lemmas.Slice.Eq.{bytes_eq-Decides}
 use Rattle.std.proofs.lemmas.List.{append_cancel_left}
 use Rattle.std.proofs.lemmas.List.Elements.{All-append}
-use Rattle.sgm_grid.specs.Cells.{Cells}
-use Rattle.sgm_report.specs.Areas.{Area}
-use Rattle.sgm_report.specs.declared.volumes.RegionTally.{RegionTally}
-use Rattle.sgm_calib.specs.Calibration.{Calibration}
-use Rattle.sgm_job.specs.Survey.{Survey}
-use Rattle.sgm_app.specs.Words.{Operands}
-use Rattle.sgm_app.specs.Verdict.{OutputFile, disparity_file, heights_files, report_files, outputs}
-use Rattle.sgm_app.specs.Judge.{IsNamed}
+use Rattle.sgm_words.specs.Operands.{Operands}
+use Rattle.sgm_words.specs.declared.files.Output.TheVariants.{Disparity, Heights, Report}
+use Rattle.sgm_app.specs.Texts.{Texts}
+use Rattle.sgm_app.specs.Outputs.{IsNamed, file_of, files_with, files_of}
 use Rattle.sgm_app.proofs.Holding.{Distinct}
 
 -- ---- the names are those of the outputs
 
-heights_named : (asked : Operands) (grid : Option Cells) → All (IsNamed asked) (heights_files asked grid)
+heights_named : (asked : Operands) (text : Option (List ℕ)) → All (IsNamed asked) (files_with asked.out Heights text)
 heights_named asked None = search rules
-heights_named asked (Some grid) = search rules
+heights_named asked (Some text) = search rules
 
-report_named : (asked : Operands) (areas : Option (List Area)) (tallies : Option (List RegionTally)) → All (IsNamed asked) (report_files asked areas tallies)
-report_named asked None tallies = search rules
-report_named asked (Some areas) None = search rules
-report_named asked (Some areas) (Some tallies) = search rules
+report_named : (asked : Operands) (text : Option (List ℕ)) → All (IsNamed asked) (files_with asked.out Report text)
+report_named asked None = search rules
+report_named asked (Some text) = search rules
 
-disparity_named : (asked : Operands) (survey : Survey) → All (IsNamed asked) (disparity_file asked survey ∷ [])
-disparity_named asked survey = search rules
+disparity_named : (asked : Operands) (text : List ℕ) → All (IsNamed asked) (file_of asked.out Disparity text ∷ [])
+disparity_named asked text = search rules
 
-pub all_named : (asked : Operands) (calib : Calibration) (survey : Survey) → All (IsNamed asked) (outputs asked calib survey)
-all_named asked calib survey =
-    All-append (IsNamed asked) (disparity_file asked survey ∷ []) _ (disparity_named asked survey)
-    (All-append (IsNamed asked) (heights_files asked survey.grid) _ (heights_named asked survey.grid) (report_named asked calib.regions survey.tallies))
+pub all_named : (asked : Operands) (texts : Texts) → All (IsNamed asked) (files_of asked.out texts)
+all_named asked texts =
+    All-append (IsNamed asked) (file_of asked.out Disparity texts.disparity ∷ []) _ (disparity_named asked texts.disparity)
+    (All-append (IsNamed asked) (files_with asked.out Heights texts.heights) _ (heights_named asked texts.heights) (report_named asked texts.report))
+
+-- the name of an output's file
+pub name_is : (ending : Option (List ℕ)) (out name : List ℕ) → IsSomeAnd ending (λ e. name ≡ out ++ e) → name ≡ out ++ unwrap_or ending []
+name_is None out name is = absurd is
+name_is (Some e) out name is = is
 
 -- ---- the names differ
 
@@ -42,21 +42,15 @@ apart out a b other = elim (bytes_eq (out ++ a) (out ++ b)) as (λ t. bytes_eq (
   | false ↦ λ e. refl
 ] refl
 
-files_distinct : (asked : Operands) (survey : Survey) (grid : Option Cells) (areas : Option (List Area)) (tallies : Option (List RegionTally))
-    → Distinct (disparity_file asked survey ∷ heights_files asked grid ++ report_files asked areas tallies)
-files_distinct asked survey None None tallies = (refl, tt)
-files_distinct asked survey None (Some areas) None = (refl, tt)
-files_distinct asked survey None (Some areas) (Some tallies) =
-    (ap (λ b. b || false) (apart asked.out (codes ".pgm") (codes ".csv") refl), (refl, tt))
-files_distinct asked survey (Some grid) None tallies =
-    (ap (λ b. b || false) (apart asked.out (codes ".pgm") (codes ".asc") refl), (refl, tt))
-files_distinct asked survey (Some grid) (Some areas) None =
-    (ap (λ b. b || false) (apart asked.out (codes ".pgm") (codes ".asc") refl), (refl, tt))
-files_distinct asked survey (Some grid) (Some areas) (Some tallies) = (
-  ap (λ b. b || (bytes_eq (asked.out ++ codes ".pgm") (asked.out ++ codes ".csv") || false)) (apart asked.out (codes ".pgm") (codes ".asc") refl)
-      ∙ ap (λ b. b || false) (apart asked.out (codes ".pgm") (codes ".csv") refl),
-  (ap (λ b. b || false) (apart asked.out (codes ".asc") (codes ".csv") refl), (refl, tt)),
+files_distinct : (out disparity : List ℕ) (heights report : Option (List ℕ)) → Distinct (file_of out Disparity disparity ∷ files_with out Heights heights ++ files_with out Report report)
+files_distinct out disparity None None = (refl, tt)
+files_distinct out disparity None (Some report) = (ap (λ b. b || false) (apart out (codes ".pgm") (codes ".csv") refl), (refl, tt))
+files_distinct out disparity (Some heights) None = (ap (λ b. b || false) (apart out (codes ".pgm") (codes ".asc") refl), (refl, tt))
+files_distinct out disparity (Some heights) (Some report) = (
+  ap (λ b. b || (bytes_eq (out ++ codes ".pgm") (out ++ codes ".csv") || false)) (apart out (codes ".pgm") (codes ".asc") refl)
+      ∙ ap (λ b. b || false) (apart out (codes ".pgm") (codes ".csv") refl),
+  (ap (λ b. b || false) (apart out (codes ".asc") (codes ".csv") refl), (refl, tt)),
 )
 
-pub all_distinct : (asked : Operands) (calib : Calibration) (survey : Survey) → Distinct (outputs asked calib survey)
-all_distinct asked calib survey = files_distinct asked survey survey.grid calib.regions survey.tallies
+pub all_distinct : (out : List ℕ) (texts : Texts) → Distinct (files_of out texts)
+all_distinct out texts = files_distinct out texts.disparity texts.heights texts.report

@@ -8,7 +8,7 @@ use Rattle.sgm_pgm.specs.declared.fault.PgmFault.{PgmFault}
 use Rattle.sgm_calib.specs.Calibration.{Calibration, plain}
 use Rattle.sgm_calib.specs.Read.{Reads as ReadsCalib}
 use Rattle.sgm_calib.specs.declared.keys.CalibFault.{CalibFault}
-use Rattle.sgm_app.specs.Words.{Operands, is_plain}
+use Rattle.sgm_words.specs.Operands.{Operands, is_plain}
 use Rattle.sgm_app.specs.Readings.{Readings, IsReading, AreReadings}
 use Rattle.sgm_app.specs.Gather.{HasCalib, AtHand}
 use Rattle.sgm_app.specs.Judge.{CalibReads}

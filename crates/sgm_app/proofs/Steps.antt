@@ -1,28 +1,50 @@
--- From one step of a verdict to the next.
-use Rattle.std.proofs.Common.{◌≡◌, ◌<◌, ℕ, List, [], ◌∷◌, length, Option, arith, sym, subst, ◌∙◌, Result, Ok, Err, MatchResult}
-use Rattle.sgm_app.specs.Deliver.{FinishesFiles}
-use Rattle.sgm_app.specs.declared.outcome.Outcome.TheVariants.{Done, Usage, Refused, ReadFault, WriteFault, NoMemory}
-use Rattle.sgm_app.specs.Stops.{judge_outcome}
-use Rattle.sgm_app.specs.declared.stops.JudgeStop.{JudgeStop}
-use Rattle.sgm_app.specs.Verdict.{Verdict, OutputFile}
-use Rattle.sgm_app.specs.Ends.{ShownBy, WritingStands}
-use Rattle.sgm_app.specs.declared.outcome.Outcome.{Outcome}
+-- From one step to the next, and what a stop shows.
+use Rattle.std.proofs.Common.{◌≡◌, ◌∙◌, ℕ, List, refl, sym, ap, subst, Result, Ok, Err, MatchResult, IsErrAnd}
+use Rattle.sgm_job.specs.Survey.{Survey}
+use Rattle.sgm_job.specs.Answers.{Answers}
+use Rattle.sgm_job.specs.declared.job.SurveyFault.{SurveyFault}
+use Rattle.sgm_job.specs.declared.job.SurveyError.{SurveyError}
+use Rattle.sgm_job.specs.declared.job.SurveyError.TheVariants as survey
+use Rattle.sgm_outcome.specs.declared.outcome.Outcome.{Outcome}
+use Rattle.sgm_outcome.specs.declared.outcome.Refusal.{Refusal}
+use Rattle.sgm_app.specs.Judge.{StopsFor}
+use Rattle.sgm_app.specs.Ends.{ShownBy}
+use Rattle.sgm_app.specs.Stops.{texts_outcome, survey_stop}
+use Rattle.sgm_app.specs.Verdict.{Verdict, or_refused, ◌>>=◌, refusal_of, unless_refused}
+use Rattle.sgm_app.specs.declared.stops.TextsError.{TextsError}
+use Rattle.sgm_app.specs.declared.stops.TextsError.TheVariants.{Refused, NoMemory}
 
--- a verdict that goes on as another one shows what that one shows
+-- a verdict that is another one shows what that one shows
 pub shown_along : (v w : Verdict) (outcome : Outcome) → v ≡ w → ShownBy w outcome → ShownBy v outcome
 shown_along v w outcome same shown = let P : Verdict → Type 0 = λ x. ShownBy x outcome in subst P (sym same) shown
 
--- a stage that ends a verdict which goes on as another one
-pub ends_along : {A : Type 0} (P : A → Verdict → Type 0) (v w : Verdict) (r : Result A JudgeStop) → v ≡ w → MatchResult r (λ a. P a w) (λ stop. ShownBy w (judge_outcome stop)) → MatchResult r (λ a. P a v) (λ stop. ShownBy v (judge_outcome stop))
-ends_along P v w (Ok a) same h = let Q : Verdict → Type 0 = λ x. P a x in subst Q (sym same) h
-ends_along P v w (Err stop) same h = shown_along v w (judge_outcome stop) same h
+-- a stop that is wanted is shown by the verdict
+pub stop_shown : {T : Type 0} (wanted : Result T Refusal) (next : T → Verdict) (stop : TextsError) → StopsFor wanted stop → ShownBy (unless_refused wanted next) (texts_outcome stop)
+stop_shown {T} wanted next (Refused refusal) is = ap (λ (w : Result T Refusal). unless_refused w next) is
+stop_shown wanted next NoMemory is = tt
 
--- where a file was written, none is being written after Done
-pub finishes : (fs : List OutputFile) (outcome : Outcome) (first old new : Option (List ℕ)) → 0 < length fs → old ≡ first → FinishesFiles fs outcome old new → WritingStands outcome first new
-finishes [] outcome first old new some same h = absurd (omega arith)
-finishes (f ∷ fs) Done first old new some same h = h
-finishes (f ∷ fs) (Usage fault) first old new some same h = h ∙ same
-finishes (f ∷ fs) (Refused refusal) first old new some same h = h ∙ same
-finishes (f ∷ fs) (ReadFault input) first old new some same h = h ∙ same
-finishes (f ∷ fs) (WriteFault output) first old new some same h = h
-finishes (f ∷ fs) NoMemory first old new some same h = h
+-- what is wanted goes on with a value
+pub goes_on : {T U : Type 0} (first : Result T Refusal) (next : T → Result U Refusal) (x : T) → first ≡ Ok x → (first >>= next) ≡ next x
+goes_on {T} first next x is = ap (λ (w : Result T Refusal). w >>= next) is
+
+-- a step that stops stops all
+pub stops_on : {T U : Type 0} (first : Result T Refusal) (next : T → Result U Refusal) (stop : TextsError) → StopsFor first stop → StopsFor (first >>= next) stop
+stops_on {T} first next (Refused refusal) is = ap (λ (w : Result T Refusal). w >>= next) is
+stops_on first next NoMemory is = tt
+
+pub stops_along : {T : Type 0} (v w : Result T Refusal) (stop : TextsError) → v ≡ w → StopsFor w stop → StopsFor v stop
+stops_along {T} v w stop same is = let P : Result T Refusal → Type 0 = λ x. StopsFor x stop in subst P (sym same) is
+
+-- a stop that is handed on
+pub handed_on : {T R : Type 0} (P : R → Type 0) (wanted : Result T Refusal) (r : Result R TextsError) (stop : TextsError) → IsErrAnd r (λ e. e ≡ stop) → StopsFor wanted stop → MatchResult r P (StopsFor wanted)
+handed_on P wanted (Ok x) stop is for = absurd is
+handed_on P wanted (Err e) stop is for = let Q : TextsError → Type 0 = λ s. StopsFor wanted s in subst Q (sym is) for
+
+-- a survey that was answered is the one that is wanted
+pub survey_goes : (wanted : Result Survey SurveyFault) (made : Survey) → wanted ≡ Ok made → or_refused refusal_of wanted ≡ Ok made
+survey_goes wanted made is = ap (λ (w : Result Survey SurveyFault). or_refused refusal_of w) is
+
+-- a survey that wasn't is the refusal, or there was no memory
+pub survey_stops : (wanted : Result Survey SurveyFault) (error : SurveyError) → Answers wanted (Err error) → StopsFor (or_refused refusal_of wanted) (survey_stop error)
+survey_stops wanted (survey.Fault fault) is = ap (λ (w : Result Survey SurveyFault). or_refused refusal_of w) is
+survey_stops wanted survey.NoMemory is = tt

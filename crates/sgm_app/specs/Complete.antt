@@ -1,17 +1,18 @@
 -- What the outcome must be where no count of faults stands in the way.
 use Rattle.std.specs.Prelude.{◌≡◌, ◌≢◌, ◌⊎◌, ⊤, ℕ, List, Contains, Result, Ok, Err}
 use Rattle.sgm_io.specs.Counts.{Counts, Rose}
-use Rattle.sgm_app.specs.Words.{Operands, IsInputName}
-use Rattle.sgm_app.specs.Verdict.{Verdict, absent, refused, IsFiles, OutputFile, outputs_of}
+use Rattle.sgm_words.specs.Operands.{Operands, IsInputName}
+use Rattle.sgm_words.specs.declared.usage.UsageFault.{UsageFault}
+use Rattle.sgm_words.specs.declared.options.Options.{Options}
+use Rattle.sgm_words.specs.declared.options.Options.TheVariants as options
+use Rattle.sgm_words.specs.declared.files.Input.{Input}
+use Rattle.sgm_words.specs.declared.files.Output.TheVariants.{Summary}
+use Rattle.sgm_outcome.specs.declared.outcome.Refusal.{Refusal}
+use Rattle.sgm_outcome.specs.declared.outcome.Outcome.{Outcome}
+use Rattle.sgm_outcome.specs.declared.outcome.Outcome.TheVariants.{Done, Usage, Refused, ReadFault, WriteFault, NoMemory}
+use Rattle.sgm_app.specs.Outputs.{OutputFile}
+use Rattle.sgm_app.specs.Verdict.{Verdict, absent, refused, IsFiles, outputs_of}
 use Rattle.sgm_app.specs.Ends.{Faults}
-use Rattle.sgm_app.specs.declared.words.UsageFault.{UsageFault}
-use Rattle.sgm_app.specs.declared.words.Options.{Options}
-use Rattle.sgm_app.specs.declared.words.Options.TheVariants as options
-use Rattle.sgm_app.specs.declared.outcome.Input.{Input}
-use Rattle.sgm_app.specs.declared.outcome.Output.TheVariants.{Summary}
-use Rattle.sgm_app.specs.declared.outcome.Refusal.{Refusal}
-use Rattle.sgm_app.specs.declared.outcome.Outcome.{Outcome}
-use Rattle.sgm_app.specs.declared.outcome.Outcome.TheVariants.{Done, Usage, Refused, ReadFault, WriteFault, NoMemory}
 
 -- no count of reading an input's name rose
 abbrev pub NoReadRose : Operands → Faults → Faults → Type 0

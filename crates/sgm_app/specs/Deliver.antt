@@ -1,17 +1,20 @@
 -- Writing the outputs, one after the other.
 use Rattle.std.specs.Prelude.{◌≡◌, ◌⊎◌, ⊤, ℕ, List, [], ◌∷◌, ◌++◌, Option, None, All, Result, Ok, Err}
 use Rattle.sgm_io.specs.Held.{Held, put, IsPrefix}
-use Rattle.sgm_app.specs.Words.{Operands}
-use Rattle.sgm_app.specs.Verdict.{Verdict, OutputFile, outputs_of}
-use Rattle.sgm_app.specs.Judge.{IsNamed}
+use Rattle.sgm_io.specs.Unfinished.{NameSet, with_name, without_name}
+use Rattle.sgm_words.specs.Operands.{Operands}
+use Rattle.sgm_words.specs.declared.files.Output.{Output}
+use Rattle.sgm_words.specs.declared.files.Output.TheVariants.{Summary}
+use Rattle.sgm_outcome.specs.declared.outcome.Outcome.{Outcome}
+use Rattle.sgm_outcome.specs.declared.outcome.Outcome.TheVariants.{Done, Usage, Refused, ReadFault, WriteFault, NoMemory}
+use Rattle.sgm_app.specs.Outputs.{OutputFile, IsNamed}
+use Rattle.sgm_app.specs.Verdict.{Verdict, outputs_of}
 use Rattle.sgm_app.specs.Ends.{CountsShow, Faults}
 use Rattle.sgm_app.specs.Stops.{write_outcome}
-use Rattle.sgm_app.specs.declared.outcome.Output.{Output}
-use Rattle.sgm_app.specs.declared.outcome.Output.TheVariants.{Summary}
-use Rattle.sgm_app.specs.declared.outcome.Outcome.{Outcome}
-use Rattle.sgm_app.specs.declared.outcome.Outcome.TheVariants.{Done, Usage, Refused, ReadFault, WriteFault, NoMemory}
 use Rattle.sgm_app.specs.declared.stops.WriteStop.{WriteStop}
 use Rattle.sgm_app.specs.declared.stops.WriteStop.TheVariants as stop
+
+-- ---- what is held
 
 -- what is held once these files were written, one after the other
 abbrev pub after_files : List OutputFile → Held → Held
@@ -45,35 +48,6 @@ abbrev pub StopsAtFile : {T : Type 0} → Output → Result T WriteStop → Type
 StopsAtFile output (Ok done) = ⊤
 StopsAtFile output (Err stop) = IsStopAt output stop
 
--- after Ok no name is being written
-abbrev pub EndsWriting : {T : Type 0} → Result T WriteStop → Option (List ℕ) → Type 0
-EndsWriting (Ok done) new = new ≡ None
-EndsWriting (Err stop) new = ⊤
-
--- after Ok no name is being written, where a file was written, and else the one as before
-abbrev pub FilesWriting : {T : Type 0} → List OutputFile → Result T WriteStop → Option (List ℕ) → Option (List ℕ) → Type 0
-FilesWriting [] (Ok done) old new = new ≡ old
-FilesWriting (file ∷ later) (Ok done) old new = new ≡ None
-FilesWriting wanted (Err stop) old new = ⊤
-
--- after Done no name is being written, where a file was written, and else the one as before
-abbrev pub FinishesFiles : List OutputFile → Outcome → Option (List ℕ) → Option (List ℕ) → Type 0
-FinishesFiles [] Done old new = new ≡ old
-FinishesFiles (file ∷ later) Done old new = new ≡ None
-FinishesFiles wanted (Usage fault) old new = new ≡ old
-FinishesFiles wanted (Refused refusal) old new = new ≡ old
-FinishesFiles wanted (ReadFault input) old new = new ≡ old
-FinishesFiles wanted (WriteFault output) old new = ⊤
-FinishesFiles wanted NoMemory old new = ⊤
-
--- where the file has the name of its output, the counts show the stop
-abbrev pub FileCounts : OutputFile → WriteStop → Faults → Faults → Type 0
-FileCounts file stop before now = (asked : Operands) → IsNamed asked file → CountsShow asked (write_outcome stop) before now
-
--- where the files have the names of their outputs, the counts show the stop
-abbrev pub FilesCounts : List OutputFile → WriteStop → Faults → Faults → Type 0
-FilesCounts wanted stop before now = (asked : Operands) → All (IsNamed asked) wanted → CountsShow asked (write_outcome stop) before now
-
 -- the run stopped in one of the files
 abbrev pub Stops : List OutputFile → WriteStop → Held → Held → Type 0
 Stops wanted (stop.Unwritten output) old new = EndsIn output wanted old new
@@ -92,3 +66,48 @@ FilesPut (Refused refusal) verdict old new = new ≡ old
 FilesPut (ReadFault input) verdict old new = new ≡ old
 FilesPut (WriteFault output) verdict old new = EndsIn output (outputs_of verdict) old new ⊎ ((output ≡ Summary) × (new ≡ after_files (outputs_of verdict) old))
 FilesPut NoMemory verdict old new = (new ≡ old) ⊎ ((output : Output) × EndsIn output (outputs_of verdict) old new)
+
+-- ---- which names are being written, and which are unfinished
+
+-- after Ok no name is being written
+abbrev pub EndsWriting : {T : Type 0} → Result T WriteStop → Option (List ℕ) → Type 0
+EndsWriting (Ok done) new = new ≡ None
+EndsWriting (Err stop) new = ⊤
+
+-- the names that are unfinished once these files were written, one after the other
+abbrev pub after_finishing : List OutputFile → NameSet → NameSet
+after_finishing [] unfinished = unfinished
+after_finishing (file ∷ later) unfinished = after_finishing later (without_name file.name unfinished)
+
+-- the file is as before, or is unfinished
+abbrev pub LeavesFile : OutputFile → NameSet → NameSet → Type 0
+LeavesFile file old new = (new ≡ old) ⊎ (new ≡ with_name file.name old)
+
+-- the file is finished, or was begun at most
+abbrev pub FinishesFile : {T : Type 0} → OutputFile → Result T WriteStop → NameSet → NameSet → Type 0
+FinishesFile file (Ok done) old new = new ≡ without_name file.name old
+FinishesFile file (Err stop) old new = LeavesFile file old new
+
+-- the files before that of a stop are finished, that one was begun at most
+pub record LeavesOne (wanted : List OutputFile) (stop : WriteStop) (old new : NameSet) : Type 0 where
+  pub before : List OutputFile
+  pub file : OutputFile
+  pub later : List OutputFile
+  pub split : wanted ≡ before ++ file ∷ later
+  pub is_stop : IsStopAt file.output stop
+  pub left : LeavesFile file (after_finishing before old) new
+
+-- all files are finished, or the run stopped in one of them
+abbrev pub FinishesFiles : {T : Type 0} → List OutputFile → Result T WriteStop → NameSet → NameSet → Type 0
+FinishesFiles wanted (Ok done) old new = new ≡ after_finishing wanted old
+FinishesFiles wanted (Err stop) old new = LeavesOne wanted stop old new
+
+-- ---- the counts
+
+-- where the file has the name of its output, the counts show the stop
+abbrev pub FileCounts : OutputFile → WriteStop → Faults → Faults → Type 0
+FileCounts file stop before now = (asked : Operands) → IsNamed asked file → CountsShow asked (write_outcome stop) before now
+
+-- where the files have the names of their outputs, the counts show the stop
+abbrev pub FilesCounts : List OutputFile → WriteStop → Faults → Faults → Type 0
+FilesCounts wanted stop before now = (asked : Operands) → All (IsNamed asked) wanted → CountsShow asked (write_outcome stop) before now

@@ -1,26 +1,21 @@
 -- What stands after a run, and what caused its outcome.
 use Rattle.std.specs.Prelude.{◌≡◌, ◌≢◌, ◌⊎◌, ℕ, ◌<◌, ◌≤◌, ⊤, List, [], ◌∷◌, ◌++◌, Option, None, Some, Bool, false, Contains, Result, Ok, Err}
-use Rattle.std.specs.List.{list_any}
-use Rattle.std.specs.Str.{bytes_eq}
 use Rattle.sgm_io.specs.Held.{Held, IsPrefix}
 use Rattle.sgm_io.specs.Counts.{Counts, NoneFell, RoseAt, Rose}
 use Rattle.sgm_io.specs.Sink.{GrowsByPrefix}
-use Rattle.sgm_app.specs.Words.{Operands, IsInputName, IsOutputName}
-use Rattle.sgm_app.specs.Verdict.{Verdict, OutputFile, absent, refused, usage, outputs_of, summary_of, IsFiles}
-use Rattle.sgm_app.specs.declared.words.UsageFault.{UsageFault}
-use Rattle.sgm_app.specs.declared.words.Options.{Options}
-use Rattle.sgm_app.specs.declared.words.Options.TheVariants as options
-use Rattle.sgm_app.specs.declared.outcome.Input.{Input}
-use Rattle.sgm_app.specs.declared.outcome.Input.TheVariants.{Left, Right, Calibration}
-use Rattle.sgm_app.specs.declared.outcome.Output.{Output}
-use Rattle.sgm_app.specs.declared.outcome.Output.TheVariants.{Summary}
-use Rattle.sgm_app.specs.declared.outcome.Refusal.TheVariants.{TooLong}
-use Rattle.sgm_app.specs.declared.outcome.Outcome.{Outcome}
-use Rattle.sgm_app.specs.declared.outcome.Outcome.TheVariants.{Done, Usage, Refused, ReadFault, WriteFault, NoMemory}
-
--- the name is that of one of the files
-abbrev pub is_named : List OutputFile → List ℕ → Bool
-is_named wanted name = list_any (λ file. bytes_eq name file.name) wanted
+use Rattle.sgm_words.specs.Operands.{Operands, IsInputName, IsOutputName}
+use Rattle.sgm_words.specs.declared.usage.UsageFault.{UsageFault}
+use Rattle.sgm_words.specs.declared.options.Options.{Options}
+use Rattle.sgm_words.specs.declared.options.Options.TheVariants as options
+use Rattle.sgm_words.specs.declared.files.Input.{Input}
+use Rattle.sgm_words.specs.declared.files.Input.TheVariants.{Left, Right, Calibration}
+use Rattle.sgm_words.specs.declared.files.Output.{Output}
+use Rattle.sgm_words.specs.declared.files.Output.TheVariants.{Summary}
+use Rattle.sgm_outcome.specs.declared.outcome.Refusal.TheVariants.{TooLong}
+use Rattle.sgm_outcome.specs.declared.outcome.Outcome.{Outcome}
+use Rattle.sgm_outcome.specs.declared.outcome.Outcome.TheVariants.{Done, Usage, Refused, ReadFault, WriteFault, NoMemory}
+use Rattle.sgm_app.specs.Outputs.{OutputFile, is_named}
+use Rattle.sgm_app.specs.Verdict.{Verdict, absent, refused, usage, outputs_of, summary_of, IsFiles}
 
 -- each file holds its text, and every other name is as before
 pub record Hold (wanted : List OutputFile) (old new : Held) : Type 0 where

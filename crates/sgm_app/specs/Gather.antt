@@ -2,13 +2,13 @@
 use Rattle.std.specs.Prelude.{◌≡◌, ⊤, ℕ, List, Bool, true, false, Option, None, Some, Result, Ok, Err, Vec}
 use Rattle.std.specs.declared.alloc.Global.{Global}
 use Rattle.sgm_io.specs.Held.{Held}
-use Rattle.sgm_app.specs.Words.{Operands, IsInputName, is_plain}
+use Rattle.sgm_words.specs.Operands.{Operands, is_plain}
+use Rattle.sgm_words.specs.declared.files.Input.{Input}
+use Rattle.sgm_words.specs.declared.files.Input.TheVariants as input
 use Rattle.sgm_app.specs.Verdict.{Verdict, fetched, calib_fetched}
 use Rattle.sgm_app.specs.Ends.{ShownBy, NoneBefore, order_of, CountsShow, Faults}
 use Rattle.sgm_app.specs.Stops.{fetch_outcome}
 use Rattle.sgm_app.specs.declared.gather.Inputs.{Inputs}
-use Rattle.sgm_app.specs.declared.outcome.Input.{Input}
-use Rattle.sgm_app.specs.declared.outcome.Input.TheVariants as input
 use Rattle.sgm_app.specs.declared.stops.FetchStop.{FetchStop}
 
 -- a stop at this step of a verdict is shown by the verdict, however it would go on
@@ -16,9 +16,9 @@ abbrev pub StopsAt : (Verdict → Verdict) → Input → FetchStop → Type 0
 StopsAt step input stop = (next : Verdict) → NoneBefore (order_of input) next → ShownBy (step next) (fetch_outcome stop)
 
 -- the bytes that are held, and the verdict goes on; or a stop
-abbrev pub FetchesInput : Input → ℕ → Option (List ℕ) → Result (Vec ℕ Global) FetchStop → Type 0
-FetchesInput input most held (Ok bytes) = (held ≡ Some bytes.items) × ((next : Verdict) → fetched input most held next ≡ next)
-FetchesInput input most held (Err stop) = StopsAt (fetched input most held) input stop
+abbrev pub FetchesInput : Input → Option (List ℕ) → Result (Vec ℕ Global) FetchStop → Type 0
+FetchesInput input held (Ok bytes) = (held ≡ Some bytes.items) × ((next : Verdict) → fetched input held next ≡ next)
+FetchesInput input held (Err stop) = StopsAt (fetched input held) input stop
 
 -- nothing for the plain calibration, else the bytes that are held
 abbrev pub HasCalib : Bool → Option (List ℕ) → Option (Vec ℕ Global) → Type 0
@@ -37,10 +37,6 @@ pub record AtHand (asked : Operands) (held : Held) (inputs : Inputs) : Type 0 wh
   pub left : held asked.left ≡ Some inputs.left.items
   pub right : held asked.right ≡ Some inputs.right.items
   pub calib : HasCalib (is_plain asked) (held asked.calib) inputs.calib
-
--- where the name is that of the input, the counts show the stop
-abbrev pub FetchCounts : Input → List ℕ → FetchStop → Faults → Faults → Type 0
-FetchCounts input name stop before now = (asked : Operands) → IsInputName asked input name → CountsShow asked (fetch_outcome stop) before now
 
 -- the counts show the stop
 abbrev pub StopCounts : Operands → FetchStop → Faults → Faults → Type 0

@@ -1,5 +1,5 @@
 -- How the inputs read.
-use Rattle.std.specs.Prelude.{⊤, ℕ, ◌<◌, List, All, Option, None, Some, IfSome, Result}
+use Rattle.std.specs.Prelude.{⊤, ℕ, List, Option, None, Some, Result}
 use Rattle.sgm_base.specs.Picture.{Picture}
 use Rattle.sgm_io.specs.Held.{Held}
 use Rattle.sgm_pgm.specs.declared.fault.PgmFault.{PgmFault}
@@ -7,7 +7,7 @@ use Rattle.sgm_pgm.specs.Read.{Reads}
 use Rattle.sgm_calib.specs.Calibration.{Calibration}
 use Rattle.sgm_calib.specs.Read.{Reads as ReadsCalib}
 use Rattle.sgm_calib.specs.declared.keys.CalibFault.{CalibFault}
-use Rattle.sgm_app.specs.Words.{Operands}
+use Rattle.sgm_words.specs.Operands.{Operands}
 
 -- each input as an image or a calibration, or as the first fault that its bytes have
 pub record Readings : Type 0 where
@@ -25,7 +25,3 @@ pub record AreReadings (asked : Operands) (held : Held) (readings : Readings) : 
   pub left : IsReading Reads (held asked.left) readings.left
   pub right : IsReading Reads (held asked.right) readings.right
   pub calib : IsReading ReadsCalib (held asked.calib) readings.calib
-
--- what is held are lists of bytes
-abbrev pub HoldsBytes : Held → Type 0
-HoldsBytes held = (name : List ℕ) → IfSome (held name) (λ contents. All (λ b. b < 256) contents)

@@ -1,8 +1,14 @@
 -- The texts that are written.
-use Rattle.std.specs.Prelude.{ℕ, ◌+◌, ◌*◌, List, ◌++◌, Option, codes, decimal, map, sum, count_by, is_some}
+use Rattle.std.specs.Prelude.{ℕ, ◌+◌, ◌*◌, List, ◌++◌, Option, None, Some, codes, decimal, map, sum, count_by, is_some, option_map}
 use Rattle.std.specs.Option.{option_map_or}
 use Rattle.sgm_base.specs.Values.{Values}
 use Rattle.sgm_pgm.specs.Write.{text_of}
+use Rattle.sgm_grid.specs.Text.{grid_text}
+use Rattle.sgm_report.specs.Areas.{Area}
+use Rattle.sgm_report.specs.Table.{table_text}
+use Rattle.sgm_report.specs.declared.volumes.RegionTally.{RegionTally}
+use Rattle.sgm_calib.specs.Calibration.{Calibration}
+use Rattle.sgm_job.specs.Survey.{Survey}
 
 -- the sample of a pixel: 0 where there is no disparity, otherwise its value and 16
 abbrev pub sample_of : Option ℕ → ℕ
@@ -23,3 +29,24 @@ summary_text disparities =
 -- the summary of a demo: the same line, and the sum of the samples
 unfoldable pub demo_text : Values → List ℕ
 demo_text disparities = summary_text disparities ++ (codes "sum " ++ decimal (sum (samples_of disparities)) ++ codes "\n")
+
+-- the report of these regions, where there are some and they have their tallies
+abbrev pub report_text : Option (List Area) → Option (List RegionTally) → Option (List ℕ)
+report_text (Some areas) (Some tallies) = Some (table_text areas tallies)
+report_text _ _ = None
+
+-- all texts of a survey, under no names yet
+pub record Texts : Type 0 where
+  pub disparity : List ℕ
+  pub heights : Option (List ℕ)
+  pub report : Option (List ℕ)
+  pub summary : List ℕ
+
+-- the texts of a survey: the disparities, the heights where there is a grid, the report where there are regions
+abbrev pub texts_of : Calibration → Survey → Texts
+texts_of calib survey = record {
+  disparity = disparity_text survey.disp;
+  heights = option_map grid_text survey.grid;
+  report = report_text calib.regions survey.tallies;
+  summary = summary_text survey.disp;
+}

@@ -1,12 +1,15 @@
 //! Writing the files, and then the summary.
-ghost use Rattle.std.specs.Prelude.{IsTrue, All, string_bytes};
-ghost use Rattle.sgm_app.specs.Words.{Operands};
-ghost use Rattle.sgm_app.specs.Judge.{IsNamed};
-ghost use Rattle.sgm_app.specs.Ends.{StageCounts, ShownBy, OutStands, OutUntouched, CountsShow, faults};
-ghost use Rattle.sgm_app.specs.Deliver.{WritesFile, StopsAtFile, EndsWriting, FileCounts, WritesFiles, FilesWriting, FilesCounts, FilesPut, FinishesFiles};
+ghost use Rattle.std.specs.Prelude.{◌≡◌, ◌<◌, length, IsTrue, All};
+ghost use Rattle.sgm_words.specs.Operands.{Operands};
+ghost use Rattle.sgm_outcome.specs.declared.outcome.Outcome.TheVariants.{Done};
+ghost use Rattle.sgm_app.specs.Outputs.{IsNamed};
 ghost use Rattle.sgm_app.specs.Verdict.{files};
+ghost use Rattle.sgm_app.specs.Ends.{StageCounts, ShownBy, OutStands, OutUntouched, WritingStands, CountsShow, faults};
+ghost use Rattle.sgm_app.specs.Unfinished.{AreFinished, UnfinishedStands};
+ghost use Rattle.sgm_app.specs.Deliver.{WritesFile, StopsAtFile, EndsWriting, FinishesFile, FileCounts};
+ghost use Rattle.sgm_app.specs.Deliver.{WritesFiles, FinishesFiles, FilesCounts, FilesPut};
 
-use crate::judge::{OutputText, Work};
+use crate::files::{Delivery, OutputText};
 use crate::stops::WriteStop;
 use crate::{Outcome, Output};
 use sgm_io::{KeepError, Shelf, Sink, append_whole, write_whole};
@@ -15,6 +18,7 @@ fn write_file<S: Shelf>(shelf: &mut S, file: &OutputText) -> Result<(), WriteSto
     ensures held { IsTrue S.tells → WritesFile file.now result (S.held shelf.old) (S.held shelf.new) }
     ensures stop { StopsAtFile file.now.output result }
     ensures writing { EndsWriting result (S.writing shelf.new) }
+    ensures unfinished { FinishesFile file.now result (S.unfinished shelf.old) (S.unfinished shelf.new) }
     ensures counts { StageCounts (FileCounts file.now) result
         (S.read_faults shelf.old) (S.write_faults shelf.old) (S.read_faults shelf.new) (S.write_faults shelf.new) }
 {
@@ -37,7 +41,8 @@ fn write_file<S: Shelf>(shelf: &mut S, file: &OutputText) -> Result<(), WriteSto
 
 fn write_files<S: Shelf>(shelf: &mut S, files: &[OutputText]) -> Result<(), WriteStop>
     ensures held { IsTrue S.tells → WritesFiles files.now result (S.held shelf.old) (S.held shelf.new) }
-    ensures writing { FilesWriting files.now result (S.writing shelf.old) (S.writing shelf.new) }
+    ensures writing { 0 < length files.now → EndsWriting result (S.writing shelf.new) }
+    ensures unfinished { FinishesFiles files.now result (S.unfinished shelf.old) (S.unfinished shelf.new) }
     ensures counts { StageCounts (FilesCounts files.now) result
         (S.read_faults shelf.old) (S.write_faults shelf.old) (S.read_faults shelf.new) (S.write_faults shelf.new) }
 {
@@ -50,19 +55,22 @@ fn write_files<S: Shelf>(shelf: &mut S, files: &[OutputText]) -> Result<(), Writ
     Ok(())
 }
 
-/// Writes the files, and then the summary.
-pub fn deliver<S: Shelf, O: Sink>(shelf: &mut S, out: &mut O, work: &Work) -> Outcome
-    ensures shown { ShownBy (files work.now.files.items (string_bytes work.now.summary)) result }
-    ensures files { IsTrue S.tells → FilesPut result (files work.now.files.items (string_bytes work.now.summary)) (S.held shelf.old) (S.held shelf.new) }
-    ensures out { IsTrue O.tells → OutStands result (files work.now.files.items (string_bytes work.now.summary)) (O.written out.old) (O.written out.new) }
+/// Writes the files, and then the summary. It takes no memory of its own.
+pub fn deliver<S: Shelf, O: Sink>(shelf: &mut S, out: &mut O, delivery: &Delivery) -> Outcome
+    ensures shown { ShownBy (files delivery.now.files.items delivery.now.summary.items) result }
+    ensures files { IsTrue S.tells → FilesPut result (files delivery.now.files.items delivery.now.summary.items) (S.held shelf.old) (S.held shelf.new) }
+    ensures out { IsTrue O.tells → OutStands result (files delivery.now.files.items delivery.now.summary.items) (O.written out.old) (O.written out.new) }
     ensures untouched { IsTrue O.tells → OutUntouched result (O.written out.old) (O.written out.new) }
-    ensures writing { FinishesFiles work.now.files.items result (S.writing shelf.old) (S.writing shelf.new) }
-    ensures counts { (asked : Operands) → All (IsNamed asked) work.now.files.items → CountsShow asked result
+    ensures writing { WritingStands result (S.writing shelf.old) (S.writing shelf.new) }
+    ensures unfinished { (asked : Operands) → All (IsNamed asked) delivery.now.files.items
+        → UnfinishedStands asked result (S.unfinished shelf.old) (S.unfinished shelf.new) }
+    ensures finished { result ≡ Done → AreFinished delivery.now.files.items (S.unfinished shelf.new) }
+    ensures counts { (asked : Operands) → All (IsNamed asked) delivery.now.files.items → CountsShow asked result
         (faults (S.read_faults shelf.old) (S.write_faults shelf.old) (O.faults out.old))
         (faults (S.read_faults shelf.new) (S.write_faults shelf.new) (O.faults out.new)) }
 {
-    match write_files(shelf, &work.files) {
-        Ok(()) => match write_whole(out, work.summary.as_bytes()) {
+    match write_files(shelf, &delivery.files) {
+        Ok(()) => match write_whole(out, &delivery.summary) {
             Ok(()) => Outcome::Done,
             Err(_) => Outcome::WriteFault(Output::Summary),
         },

@@ -2,22 +2,20 @@
 #![tactic(auto)]
 
 mod deliver;
+mod demo;
+mod files;
 mod gather;
-mod generated;
 mod judge;
 pub mod laws;
-mod line;
-mod outcome;
+mod pipeline;
 mod stops;
 mod texts;
 mod top;
-mod words;
 
-pub use generated::pair;
-pub use line::write_fault;
-pub use outcome::{Input, Outcome, Output, Refusal};
+pub use sgm_outcome::{Outcome, Refusal, write_fault};
+pub use sgm_pair::pair;
+pub use sgm_words::{Input, Options, Output, UsageFault, read_words};
 pub use top::run;
-pub use words::{Options, UsageFault, read_words};
 
 #[cfg(test)]
 mod tests;

@@ -1,8 +1,11 @@
 //! What ends a stage of a run before its end.
 ghost use Rattle.std.specs.Prelude.{◌≡◌};
-ghost use Rattle.sgm_app.specs.Stops.{fetch_outcome, judge_outcome, write_outcome};
+ghost use Rattle.sgm_app.specs.Stops.{fetch_outcome, texts_outcome, write_outcome};
+ghost use Rattle.sgm_app.specs.Verdict.{refusal_of};
 
 use crate::{Input, Outcome, Output, Refusal};
+use sgm_job::{SurveyError, SurveyFault};
+use std::alloc::AllocError;
 
 /// What ends the fetching of the inputs.
 #[derive(Clone, Copy, Debug, PartialEq, Eq)]
@@ -12,9 +15,9 @@ pub enum FetchStop {
     NoMemory,
 }
 
-/// What ends the judging of the inputs and the making of the texts.
+/// What ends the judging of the inputs, the survey and the making of the texts.
 #[derive(Clone, Copy, Debug, PartialEq, Eq)]
-pub enum JudgeStop {
+pub enum TextsError {
     Refused(Refusal),
     NoMemory,
 }
@@ -38,13 +41,13 @@ impl FetchStop {
     }
 }
 
-impl JudgeStop {
+impl TextsError {
     pub fn outcome(self) -> Outcome
-        ensures { result ≡ judge_outcome self }
+        ensures { result ≡ texts_outcome self }
     {
         match self {
-            JudgeStop::Refused(refusal) => Outcome::Refused(refusal),
-            JudgeStop::NoMemory => Outcome::NoMemory,
+            TextsError::Refused(refusal) => Outcome::Refused(refusal),
+            TextsError::NoMemory => Outcome::NoMemory,
         }
     }
 }
@@ -56,6 +59,40 @@ impl WriteStop {
         match self {
             WriteStop::Unwritten(output) => Outcome::WriteFault(output),
             WriteStop::NoMemory => Outcome::NoMemory,
+        }
+    }
+}
+
+impl From<AllocError> for TextsError {
+    ghost use Rattle.sgm_app.specs.declared.stops.TextsError.TheVariants.{NoMemory};
+
+    ghost from_gives = { λ _ error. error ≡ NoMemory };
+
+    fn from(_: AllocError) -> TextsError {
+        TextsError::NoMemory
+    }
+}
+
+// The refusal for a survey's fault.
+fn refusal_for(fault: SurveyFault) -> Refusal
+    ensures { result ≡ refusal_of fault }
+{
+    match fault {
+        SurveyFault::SizesDiffer { left, right } => Refusal::SizesDiffer { left, right },
+        SurveyFault::VolumeTooLarge { cells } => Refusal::VolumeTooLarge { cells },
+        SurveyFault::Warp { side, fault } => Refusal::Warp(side, fault),
+    }
+}
+
+impl From<SurveyError> for TextsError {
+    ghost use Rattle.sgm_app.specs.Stops.{survey_stop};
+
+    ghost from_gives = { λ error stop. stop ≡ survey_stop error };
+
+    fn from(error: SurveyError) -> TextsError {
+        match error {
+            SurveyError::Fault(fault) => TextsError::Refused(refusal_for(fault)),
+            SurveyError::NoMemory => TextsError::NoMemory,
         }
     }
 }

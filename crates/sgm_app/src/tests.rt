@@ -1,8 +1,8 @@
-mod command_line;
+mod calls;
 mod ended;
 mod fixtures;
-mod generated_pair;
 mod outputs;
+mod pairs;
+mod recording;
 mod refusals;
 mod trips;
-mod warped;

@@ -1,8 +1,11 @@
 pub mod Answers
 pub mod Firsts
+pub mod Kept
+pub mod KeyLemmas
 pub mod ListLemmas
 pub mod Names
+pub mod Objects
 pub mod RegionLemmas
-pub mod SectionLemmas
+pub mod TableLemmas
 pub mod Top
 pub mod WarpLemmas

@@ -8,8 +8,9 @@ use Rattle.serde_json.specs.Find.{get, as_array}
 use Rattle.serde_json.specs.View.{view, items_of, items_view}
 use Rattle.serde_json.specs.declared.value.Value.{Value}
 use Rattle.sgm_calib.specs.declared.keys.CalibFault.TheVariants.{Type_, Range}
-use Rattle.sgm_calib.specs.Table.{whole, Field, between}
-use Rattle.sgm_calib.specs.Checks.{list_of, list_or_none, elements, numbers, is_number_list, is_full, numbers_fault_of, numbers_fault, value_at}
+use Rattle.sgm_calib.specs.declared.place.Place.{Place}
+use Rattle.sgm_calib.specs.Rows.{Row, whole, key_at, is_in_range}
+use Rattle.sgm_calib.specs.Checks.{list_of, list_or_none, elements, numbers, is_number_list, is_full, numbers_fault_of, numbers_fault, value_of}
 
 -- the whole number of a value, and 0 where it is none
 abbrev pub amount : Data → ℤ
@@ -30,12 +31,12 @@ elements-items d vs is_list = sym (list_of-items_of (map view vs)) ∙ ap list_o
 pub numbers-items : (d : Data) (vs : List Value) → map view vs ≡ elements d → map (λ v. amount (view v)) vs ≡ numbers d
 numbers-items d vs are = sym (map_of_map amount view vs) ∙ ap (map amount) are
 
--- the tests of a list's values: each is a whole number; there are so many, each from low to high
+-- the tests of a list's values: each is a whole number; there are so many, each in range
 abbrev pub are_whole : List Value → Bool
 are_whole vs = list_all (λ v. is_some (whole (view v))) vs
 
-abbrev pub are_full : List Value → ℕ → ℤ → ℤ → Bool
-are_full vs count low high = length vs == count && list_all (λ v. between low high (amount (view v))) vs
+abbrev pub are_full : List Value → ℕ → (ℤ → Bool) → Bool
+are_full vs count range = length vs == count && list_all (λ v. range (amount (view v))) vs
 
 is_number_list-items : (d : Data) (vs : List Value) → is_some (as_array d) ≡ true → map view vs ≡ elements d → is_number_list d ≡ are_whole vs
 is_number_list-items d vs is_list are =
@@ -43,25 +44,25 @@ is_number_list-items d vs is_list are =
     ∙ ap (list_all (λ e. is_some (whole e))) (sym are)
     ∙ list_all-map (λ e. is_some (whole e)) view vs
 
-is_full-items : (d : Data) (vs : List Value) (count : ℕ) (low high : ℤ) → map view vs ≡ elements d
-    → is_full count (between low high) (numbers d) ≡ are_full vs count low high
-is_full-items d vs count low high are =
-    ap (is_full count (between low high)) (sym (numbers-items d vs are))
-    ∙ ap (λ n. n == count && list_all (between low high) (map (λ v. amount (view v)) vs)) (length-map vs (λ v. amount (view v)))
-    ∙ ap (λ b. length vs == count && b) (list_all-map (between low high) (λ v. amount (view v)) vs)
+is_full-items : (d : Data) (vs : List Value) (count : ℕ) (range : ℤ → Bool) → map view vs ≡ elements d
+    → is_full count range (numbers d) ≡ are_full vs count range
+is_full-items d vs count range are =
+    ap (is_full count range) (sym (numbers-items d vs are))
+    ∙ ap (λ n. n == count && list_all range (map (λ v. amount (view v)) vs)) (length-map vs (λ v. amount (view v)))
+    ∙ ap (λ b. length vs == count && b) (list_all-map range (λ v. amount (view v)) vs)
 
 -- what is wrong with a list of numbers that is there, by the tests of its values
-pub numbers_fault-items : (holder d : Data) (f : Field) (count : ℕ) (low high : ℤ) (vs : List Value) (tested full : Bool)
-    → Some d ≡ get f.name holder → is_some (as_array d) ≡ true → map view vs ≡ elements d
-    → tested ≡ are_whole vs → full ≡ are_full vs count low high
-    → numbers_fault holder f count (between low high) ≡ (if not tested then Some (Type_ f.key) else if not full then Some (Range f.key) else None)
+pub numbers_fault-items : (place : Place) (holder d : Data) (row : Row) (count : ℕ) (vs : List Value) (tested full : Bool)
+    → Some d ≡ get row.name holder → is_some (as_array d) ≡ true → map view vs ≡ elements d
+    → tested ≡ are_whole vs → full ≡ are_full vs count (is_in_range row.form place holder)
+    → numbers_fault place holder row count ≡ (if not tested then Some (Type_ (key_at place row)) else if not full then Some (Range (key_at place row)) else None)
 unfolding numbers_fault
-numbers_fault-items holder d f count low high vs tested full is_there is_list are is_tested is_counted =
-    ap (numbers_fault_of f.key count (between low high)) (sym is_there)
-    ∙ ap (λ b. if not b then Some (Type_ f.key) else if not (is_full count (between low high) (numbers d)) then Some (Range f.key) else None) (is_number_list-items d vs is_list are ∙ sym is_tested)
-    ∙ ap (λ b. if not tested then Some (Type_ f.key) else if not b then Some (Range f.key) else None) (is_full-items d vs count low high are ∙ sym is_counted)
+numbers_fault-items place holder d row count vs tested full is_there is_list are is_tested is_counted =
+    ap (numbers_fault_of (key_at place row) count (is_in_range row.form place holder)) (sym is_there)
+    ∙ ap (λ b. if not b then Some (Type_ (key_at place row)) else if not (is_full count (is_in_range row.form place holder) (numbers d)) then Some (Range (key_at place row)) else None) (is_number_list-items d vs is_list are ∙ sym is_tested)
+    ∙ ap (λ b. if not tested then Some (Type_ (key_at place row)) else if not b then Some (Range (key_at place row)) else None) (is_full-items d vs count (is_in_range row.form place holder) are ∙ sym is_counted)
 
--- the numbers under a name, where they are there
-pub numbers-there : (holder d : Data) (name : List ℕ) (vs : List Value) → Some d ≡ get name holder → map view vs ≡ elements d
-    → map (λ v. amount (view v)) vs ≡ numbers (value_at name holder)
-numbers-there holder d name vs is_there are = numbers-items d vs are ∙ ap (λ o. numbers (unwrap_or o null)) is_there
+-- the numbers of a key, where they are there
+pub numbers-there : (holder d : Data) (row : Row) (vs : List Value) → Some d ≡ get row.name holder → map view vs ≡ elements d
+    → map (λ v. amount (view v)) vs ≡ numbers (value_of row holder)
+numbers-there holder d row vs is_there are = numbers-items d vs are ∙ ap (λ o. numbers (unwrap_or o null)) is_there

@@ -1,6 +1,7 @@
 -- What contracts see of a calibration, and what every calibration keeps.
 use Rattle.std.specs.Prelude.{ℕ, ◌≤◌, pos, List, All, Option, None, IfSome, is_some, IsTrue, length}
 use Rattle.sgm_base.specs.Disparities.{Disparities}
+use Rattle.sgm_base.specs.declared.limits.TheConstants.{MAX_REGIONS}
 use Rattle.sgm_census.specs.Windows.{WindowSides}
 use Rattle.sgm_rectify.specs.declared.warp.Warp.{Warp}
 use Rattle.sgm_rectify.specs.declared.warp.Warp.TheVariants.{Identity}
@@ -51,4 +52,4 @@ pub record IsCalibration (calib : Calibration) : Type 0 where
   pub grid_has_camera : IfSome calib.grid (λ _. IsTrue (is_some calib.camera))
   pub regions_have_grid : IfSome calib.regions (λ _. IsTrue (is_some calib.grid))
   pub regions_inside : IfSome calib.grid (λ spec. IfSome calib.regions (λ areas. All (IsArea spec) areas))
-  pub regions_few : IfSome calib.regions (λ areas. length areas ≤ 1000)
+  pub regions_few : IfSome calib.regions (λ areas. length areas ≤ MAX_REGIONS)

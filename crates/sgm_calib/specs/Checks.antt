@@ -1,10 +1,9 @@
 -- The checks of one key, of one object and of one list. For a key the order is that it is missing, its type, its range; for
 -- an object its type, an unknown name, its keys.
-use Rattle.std.specs.Prelude.{◌≡◌, ⊤, ℕ, ◌==◌, ℤ, pos, Bool, true, false, ◌&&◌, not, if◌then◌else◌, List, [], ◌∷◌, ◌++◌, length, IsTrue, is_none, is_some, map, Option, Some, None, unwrap_or, Result, Ok, Err}
-use Rattle.std.specs.List.{list_any, list_all}
+use Rattle.std.specs.Prelude.{◌≡◌, ⊤, ℕ, ◌==◌, ◌*◌, ℤ, pos, Bool, true, false, ◌&&◌, not, if◌then◌else◌, List, [], ◌∷◌, ◌++◌, length, IsTrue, is_none, is_some, map, Option, Some, None, unwrap_or, Result, Ok, Err}
+use Rattle.std.specs.List.{list_all}
 use Rattle.std.specs.Option.{option_or}
 use Rattle.std.specs.Result.{result_err}
-use Rattle.std.specs.Str.{bytes_eq}
 use Rattle.serde_json.specs.Data.{Data, null, Items, no_items, item, Members, no_members, member}
 use Rattle.serde_json.specs.Find.{get, as_array, as_object, as_str}
 use Rattle.sgm_calib.specs.declared.keys.Key.{Key}
@@ -12,7 +11,11 @@ use Rattle.sgm_calib.specs.declared.keys.CalibFault.{CalibFault}
 use Rattle.sgm_calib.specs.declared.keys.CalibFault.TheVariants.{Missing, Unknown, Type_, Range}
 use Rattle.sgm_calib.specs.declared.keys.CalibError.{CalibError}
 use Rattle.sgm_calib.specs.declared.keys.CalibError.TheVariants.{Fault, NoMemory}
-use Rattle.sgm_calib.specs.Table.{whole, Field, Row}
+use Rattle.sgm_calib.specs.declared.place.Place.{Place}
+use Rattle.sgm_calib.specs.Kinds.{is_kind}
+use Rattle.sgm_calib.specs.Rows.{Row, Form, object as object_form, warps, kind, name as name_form, regions, matrix, nodes, key_at, whole, count_of, is_in_range}
+use Rattle.sgm_report.specs.Areas.{is_region_name}
+use Rattle.sgm_calib.specs.Table.{is_known, mesh_cols, mesh_rows}
 
 -- the first fault of some checks
 abbrev pub first_of : List (Option CalibFault) → Option CalibFault
@@ -31,55 +34,45 @@ or_wrong_type key None = Err (Type_ key)
 or_wrong_type key (Some a) = Ok a
 
 abbrev pub or_missing : {A : Type 0} → Key → (Data → Option A) → Option Data → Result A CalibFault
-or_missing key kind None = Err (Missing key)
-or_missing key kind (Some d) = or_wrong_type key (kind d)
+or_missing key read None = Err (Missing key)
+or_missing key read (Some d) = or_wrong_type key (read d)
 
--- the whole number of a key in its object, or what is wrong: it is missing, or its type
-unfoldable pub number_in : Data → Field → Result ℤ CalibFault
-number_in holder field = or_missing field.key whole (get field.name holder)
-
--- the text of a key in its object, or what is wrong: it is missing, or its type
-unfoldable pub text_in : Data → Field → Result (List ℕ) CalibFault
-text_in holder field = or_missing field.key as_str (get field.name holder)
+-- what a key's value is, or what is wrong: it is missing, or its type
+abbrev pub typed_in : {A : Type 0} → (Data → Option A) → Place → Data → Row → Result A CalibFault
+typed_in read place holder row = or_missing (key_at place row) read (get row.name holder)
 
 -- the fault where a value is out of range
 abbrev pub or_out_of_range : {A : Type 0} → CalibFault → (A → Bool) → Result A CalibFault → Result A CalibFault
 or_out_of_range fault range (Err earlier) = Err earlier
 or_out_of_range fault range (Ok a) = if range a then Ok a else Err fault
 
--- the number of a row in its object, or what is wrong: it is missing, its type, its range
-abbrev pub row_in : Data → Row → Result ℤ CalibFault
-row_in holder row = or_out_of_range (Range row.field.key) (row.range holder) (number_in holder row.field)
+-- the whole number of a key in its object, or what is wrong: it is missing, its type, its range
+unfoldable pub number_in : Place → Data → Row → Result ℤ CalibFault
+number_in place holder row =
+    or_out_of_range (Range (key_at place row)) (is_in_range row.form place holder) (typed_in whole place holder row)
 
 -- ---- objects
 
-abbrev pub is_name : List (List ℕ) → List ℕ → Bool
-is_name names name = list_any (λ known. bytes_eq known name) names
-
--- whether an object has no name but these
-abbrev pub has_only : List (List ℕ) → Members → Bool
-has_only names no_members = true
-has_only names (member name d ms) = is_name names name && has_only names ms
+-- whether an object of that kind has no name but those that the table gives it
+abbrev pub has_only : Row → List ℕ → Members → Bool
+has_only holder word no_members = true
+has_only holder word (member key d ms) = is_known holder word key && has_only holder word ms
 
 abbrev pub unknown_fault : Key → Bool → Option CalibFault
 unknown_fault key true = None
 unknown_fault key false = Some (Unknown key)
 
-abbrev pub members_fault : Key → List (List ℕ) → Option Members → Option CalibFault
-members_fault key names None = Some (Type_ key)
-members_fault key names (Some ms) = unknown_fault key (has_only names ms)
+abbrev pub members_fault : Key → Row → List ℕ → Option Members → Option CalibFault
+members_fault key holder word None = Some (Type_ key)
+members_fault key holder word (Some ms) = unknown_fault key (has_only holder word ms)
 
--- what is wrong with an object itself: its type, or a name that isn't among these
-unfoldable pub object_fault : Key → List (List ℕ) → Data → Option CalibFault
-object_fault key names d = members_fault key names (as_object d)
+-- what is wrong with an object itself: its type, or a name that the table doesn't give an object of that kind
+unfoldable pub object_fault : Place → Row → List ℕ → Data → Option CalibFault
+object_fault place holder word d = members_fault (key_at place holder) holder word (as_object d)
 
 abbrev pub type_fault : {A : Type 0} → Key → Option A → Option CalibFault
 type_fault key None = Some (Type_ key)
 type_fault key (Some a) = None
-
--- what is wrong with the numbers of an object, by their rows
-abbrev pub rows_fault : List Row → Data → Option CalibFault
-rows_fault rows d = first_of (map (λ row. result_err (row_in d row)) rows)
 
 -- ---- lists
 
@@ -114,20 +107,48 @@ numbers_fault_of key count range (Some d) =
     else if not (is_full count range (numbers d)) then Some (Range key)
     else None
 
--- What is wrong with a list of whole numbers in its object: it is missing, its type or an element's, its count or an
+-- What is wrong with a list of so many whole numbers in its object: it is missing, its type or an element's, its count or an
 -- element's range.
-unfoldable pub numbers_fault : Data → Field → ℕ → (ℤ → Bool) → Option CalibFault
-numbers_fault holder field count range = numbers_fault_of field.key count range (get field.name holder)
+unfoldable pub numbers_fault : Place → Data → Row → ℕ → Option CalibFault
+numbers_fault place holder row count = numbers_fault_of (key_at place row) count (is_in_range row.form place holder) (get row.name holder)
+
+-- ---- keys whose values have no keys of their own
+
+-- the text of a key in its object, or what is wrong: it is missing, its type, its range
+unfoldable pub text_in : (List ℕ → Bool) → Place → Data → Row → Result (List ℕ) CalibFault
+text_in range place holder row = or_out_of_range (Range (key_at place row)) range (typed_in as_str place holder row)
+
+-- how many numbers the nodes of a mesh are: two for each
+abbrev pub node_numbers : Data → ℕ
+node_numbers side = 2 * count_of mesh_cols side * count_of mesh_rows side
+
+abbrev pub key_fault_of : Form → Place → Data → Row → Option CalibFault
+key_fault_of object_form place holder row = None
+key_fault_of warps place holder row = None
+key_fault_of regions place holder row = None
+key_fault_of kind place holder row = result_err (text_in is_kind place holder row)
+key_fault_of name_form place holder row = result_err (text_in is_region_name place holder row)
+key_fault_of (matrix low high) place holder row = numbers_fault place holder row 9
+key_fault_of (nodes low high) place holder row = numbers_fault place holder row (node_numbers holder)
+key_fault_of _ place holder row = result_err (number_in place holder row)
+
+-- what is wrong with a key of an object
+abbrev pub key_fault : Place → Data → Row → Option CalibFault
+key_fault place holder row = key_fault_of row.form place holder row
+
+-- the first fault of some keys of an object
+abbrev pub keys_fault : Place → Data → List Row → Option CalibFault
+keys_fault place holder rows = first_of (map (key_fault place holder) rows)
 
 -- ---- values
 
--- the value under a name
-abbrev pub value_at : List ℕ → Data → Data
-value_at name d = unwrap_or (get name d) null
+-- the value of a key in its object
+abbrev pub value_of : Row → Data → Data
+value_of row d = unwrap_or (get row.name d) null
 
--- the text under a name
-abbrev pub text_at : List ℕ → Data → List ℕ
-text_at name d = unwrap_or (as_str (value_at name d)) []
+-- the text of a key in its object
+abbrev pub text_of : Row → Data → List ℕ
+text_of row d = unwrap_or (as_str (value_of row d)) []
 
 -- ---- answers
 

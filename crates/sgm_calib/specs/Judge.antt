@@ -1,6 +1,6 @@
--- What the key table says of a value: the calibration, or the first fault. The order is that of the numbers, depth first;
+-- What the key table says of a value: the calibration, or the first fault. The order is that of the table's rows;
 -- `version` alone comes before the unknown names of the value itself.
-use Rattle.std.specs.Prelude.{ℕ, ℤ, pos, unsigned_abs, Bool, if◌then◌else◌, List, [], ◌∷◌, map, codes, Option, Some, None, option_map, Result, Ok, Err}
+use Rattle.std.specs.Prelude.{Bool, if◌then◌else◌, List, [], ◌∷◌, map, Option, Some, None, option_map, Result, Ok, Err}
 use Rattle.std.specs.Option.{option_or}
 use Rattle.std.specs.Result.{result_err}
 use Rattle.serde_json.specs.Data.{Data}
@@ -11,42 +11,54 @@ use Rattle.sgm_height.specs.declared.camera.Camera.{Camera}
 use Rattle.sgm_grid.specs.declared.grid_spec.GridSpec.{GridSpec}
 use Rattle.sgm_calib.specs.declared.keys.CalibFault.{CalibFault}
 use Rattle.sgm_calib.specs.declared.keys.CalibFault.TheVariants.{Version, Missing}
+use Rattle.sgm_calib.specs.declared.place.TheConstants.{PLAIN}
 use Rattle.sgm_calib.specs.Calibration.{Calibration, Penalties}
-use Rattle.sgm_calib.specs.Table.{key, whole_at, field, Section, between, Entry, section, warps, regions, entries, top_names, names_of}
-use Rattle.sgm_calib.specs.Checks.{first_of, number_in, or_out_of_range, object_fault, type_fault, rows_fault, value_at}
+use Rattle.sgm_calib.specs.Table as table
+use Rattle.sgm_calib.specs.Table.{rows_in}
+use Rattle.sgm_calib.specs.Rows.{Row, Form, object, warps, regions, key_at, whole, number_of, count_of, is_in_range, is_required}
+use Rattle.sgm_calib.specs.Checks.{first_of, typed_in, or_out_of_range, object_fault, type_fault, keys_fault, value_of}
 use Rattle.sgm_calib.specs.WarpKeys.{warps_fault, warp_in}
 use Rattle.sgm_calib.specs.RegionKeys.{regions_fault, regions_in}
 
--- what is wrong with the version: it is missing, its type, or it is another than 1
+-- what is wrong with the version: it is missing, its type, or it is none that is known
 unfoldable pub version_fault : Data → Option CalibFault
-version_fault top = result_err (or_out_of_range Version (between (pos 1) (pos 1)) (number_in top (field (key 2) (codes "version"))))
+version_fault top = result_err (or_out_of_range Version (is_in_range table.version.form PLAIN top) (typed_in whole PLAIN top table.version))
 
--- what is wrong with the object that a section is: the object itself, its keys by number
-unfoldable pub held_fault : Section → Data → Option CalibFault
-held_fault s d = option_or (object_fault s.field.key (names_of s.rows) d) (rows_fault s.rows d)
+abbrev pub itself_fault_of : Row → Bool → Option Data → Option CalibFault
+itself_fault_of row required None = if required then Some (Missing (key_at PLAIN row)) else None
+itself_fault_of row required (Some d) = object_fault PLAIN row [] d
 
-abbrev pub section_fault_of : Section → Bool → Option Data → Option CalibFault
-section_fault_of s required None = if required then Some (Missing s.field.key) else None
-section_fault_of s required (Some d) = held_fault s d
+-- what is wrong with an object of the value itself: it is missing and must be there, its type, or an unknown name
+unfoldable pub itself_fault : Data → Row → Option CalibFault
+itself_fault top row = itself_fault_of row (is_required row.presence top) (get row.name top)
 
--- what is wrong with a section: it is missing and must be there, or what is wrong with its object
-unfoldable pub section_fault : Data → Section → Option CalibFault
-section_fault top s = section_fault_of s (s.required top) (get s.field.name top)
+abbrev pub held_fault : Row → Option Data → Option CalibFault
+held_fault row None = None
+held_fault row (Some d) = keys_fault PLAIN d (rows_in row)
 
-abbrev pub entry_fault : Data → Entry → Option CalibFault
-entry_fault top (section s) = section_fault top s
-entry_fault top warps = warps_fault top
-entry_fault top regions = regions_fault top
+-- what is wrong with an object of whole numbers: the object itself, its keys
+unfoldable pub section_fault : Data → Row → Option CalibFault
+section_fault top row = option_or (itself_fault top row) (held_fault row (get row.name top))
+
+abbrev pub entry_fault_of : Form → Data → Row → Option CalibFault
+entry_fault_of object top row = section_fault top row
+entry_fault_of warps top row = warps_fault top
+entry_fault_of regions top row = regions_fault top
+entry_fault_of _ top row = None
+
+-- what is wrong with a key of the value itself; its version was checked before
+abbrev pub entry_fault : Data → Row → Option CalibFault
+entry_fault top row = entry_fault_of row.form top row
 
 -- ---- the value
 
 -- what is wrong with the value itself: its type, its version, an unknown name
 unfoldable pub top_fault : Data → Option CalibFault
-top_fault top = first_of (type_fault (key 1) (as_object top) ∷ version_fault top ∷ object_fault (key 1) top_names top ∷ [])
+top_fault top = first_of (type_fault (key_at PLAIN table.top) (as_object top) ∷ version_fault top ∷ object_fault PLAIN table.top [] top ∷ [])
 
 -- what is wrong with what stands in it
 unfoldable pub entries_fault : Data → Option CalibFault
-entries_fault top = first_of (map (entry_fault top) entries)
+entries_fault top = first_of (map (entry_fault top) table.top_keys)
 
 -- the first fault of a value, where it has one
 abbrev pub fault_in : Data → Option CalibFault
@@ -54,65 +66,53 @@ fault_in top = option_or (top_fault top) (entries_fault top)
 
 -- ---- the calibration that a value without a fault is
 
--- the whole number under the second name of the object under the first
-abbrev pub number_at : List ℕ → List ℕ → Data → ℤ
-number_at outer inner top = whole_at inner (value_at outer top)
+-- the disparities, the window and the penalties that an object is
+abbrev pub span_of : Data → Disparities
+span_of d = record { first = number_of table.first d; count = count_of table.count d }
 
-unfoldable pub span_in : Data → Disparities
-span_in top = record {
-  first = number_at (codes "disparities") (codes "first") top;
-  count = unsigned_abs (number_at (codes "disparities") (codes "count") top);
-}
+abbrev pub window_of : Data → WindowSides
+window_of d = record { width = count_of table.width d; height = count_of table.height d }
 
-unfoldable pub window_in : Data → WindowSides
-window_in top = record {
-  width = unsigned_abs (number_at (codes "census") (codes "width") top);
-  height = unsigned_abs (number_at (codes "census") (codes "height") top);
-}
-
-unfoldable pub penalties_in : Data → Penalties
-penalties_in top = record {
-  p1 = unsigned_abs (number_at (codes "penalties") (codes "p1") top);
-  p2 = unsigned_abs (number_at (codes "penalties") (codes "p2") top);
-}
+abbrev pub penalties_of : Data → Penalties
+penalties_of d = record { p1 = count_of table.p1 d; p2 = count_of table.p2 d }
 
 -- the camera that an object is
 unfoldable pub camera_of : Data → Camera
 camera_of d = record {
-  focal = whole_at (codes "focal") d;
-  baseline = whole_at (codes "baseline") d;
-  cx = whole_at (codes "cx") d;
-  cy = whole_at (codes "cy") d;
-  doffs = whole_at (codes "doffs") d;
-  mount = whole_at (codes "mount") d;
-  near = whole_at (codes "near") d;
-  far = whole_at (codes "far") d;
+  focal = number_of table.focal d;
+  baseline = number_of table.baseline d;
+  cx = number_of table.cx d;
+  cy = number_of table.cy d;
+  doffs = number_of table.doffs d;
+  mount = number_of table.mount d;
+  near = number_of table.near d;
+  far = number_of table.far d;
 }
 
 -- the grid that an object is
 unfoldable pub grid_of : Data → GridSpec
 grid_of d = record {
-  west = whole_at (codes "west") d;
-  south = whole_at (codes "south") d;
-  cell = whole_at (codes "cell") d;
-  cols = unsigned_abs (whole_at (codes "cols") d);
-  rows = unsigned_abs (whole_at (codes "rows") d);
+  west = number_of table.west d;
+  south = number_of table.south d;
+  cell = number_of table.cell d;
+  cols = count_of table.grid_cols d;
+  rows = count_of table.grid_rows d;
 }
 
 -- the camera and the grid of a value, where it has them
 unfoldable pub camera_in : Data → Option Camera
-camera_in top = option_map camera_of (get (codes "camera") top)
+camera_in top = option_map camera_of (get table.camera.name top)
 
 unfoldable pub grid_in : Data → Option GridSpec
-grid_in top = option_map grid_of (get (codes "grid") top)
+grid_in top = option_map grid_of (get table.grid.name top)
 
 abbrev pub calibration_in : Data → Calibration
 calibration_in top = record {
-  span = span_in top;
-  window = window_in top;
-  penalties = penalties_in top;
-  left = warp_in (codes "left") top;
-  right = warp_in (codes "right") top;
+  span = span_of (value_of table.disparities top);
+  window = window_of (value_of table.census top);
+  penalties = penalties_of (value_of table.penalties top);
+  left = warp_in table.left top;
+  right = warp_in table.right top;
   camera = camera_in top;
   grid = grid_in top;
   regions = regions_in top;

@@ -1,9 +1,11 @@
 pub mod Calibration
 pub mod Checks
 pub mod Judge
+pub mod Kinds
 pub mod Numbers
 pub mod Paths
 pub mod Read
 pub mod RegionKeys
+pub mod Rows
 pub mod Table
 pub mod WarpKeys

@@ -1,34 +1,25 @@
 -- How a key is printed.
-use Rattle.std.specs.Prelude.{ℕ, Bool, ◌&&◌, nat_le, if◌then◌else◌, List, [], ◌∷◌, ◌++◌, codes, decimal, slice_index_or}
+use Rattle.std.specs.Prelude.{ℕ, ◌==◌, Bool, false, ◌||◌, if◌then◌else◌, List, [], ◌++◌, codes, decimal, find, Option}
+use Rattle.std.specs.Option.{option_map_or}
 use Rattle.sgm_calib.specs.declared.keys.Key.{Key}
+use Rattle.sgm_calib.specs.Rows.{Row}
+use Rattle.sgm_calib.specs.Table.{keys, region_list, region}
 
--- the keys' paths by their numbers, the first of them at 1; for a key of a region what follows the region's place
-unfoldable pub parts : List (List ℕ)
-parts =
-    []
-    ∷ codes "top"
-    ∷ codes "version"
-    ∷ codes "disparities" ∷ codes "disparities.first" ∷ codes "disparities.count"
-    ∷ codes "census" ∷ codes "census.width" ∷ codes "census.height"
-    ∷ codes "penalties" ∷ codes "penalties.p1" ∷ codes "penalties.p2"
-    ∷ codes "warp"
-    ∷ codes "warp.left" ∷ codes "warp.left.kind" ∷ codes "warp.left.matrix" ∷ codes "warp.left.step"
-    ∷ codes "warp.left.cols" ∷ codes "warp.left.rows" ∷ codes "warp.left.nodes"
-    ∷ codes "warp.right" ∷ codes "warp.right.kind" ∷ codes "warp.right.matrix" ∷ codes "warp.right.step"
-    ∷ codes "warp.right.cols" ∷ codes "warp.right.rows" ∷ codes "warp.right.nodes"
-    ∷ codes "camera" ∷ codes "camera.focal" ∷ codes "camera.baseline" ∷ codes "camera.cx" ∷ codes "camera.cy"
-    ∷ codes "camera.doffs" ∷ codes "camera.mount" ∷ codes "camera.near" ∷ codes "camera.far"
-    ∷ codes "grid" ∷ codes "grid.west" ∷ codes "grid.south" ∷ codes "grid.cell" ∷ codes "grid.cols" ∷ codes "grid.rows"
-    ∷ codes "regions"
-    ∷ codes "]" ∷ codes "].name" ∷ codes "].col" ∷ codes "].row" ∷ codes "].cols" ∷ codes "].rows" ∷ codes "].base"
-    ∷ []
+-- the row of a number
+unfoldable pub row_of : ℕ → Option Row
+row_of number = find (λ row. row.number == number) keys
 
-unfoldable pub part_of : ℕ → List ℕ
-part_of number = slice_index_or parts number []
+-- whether a row is a region or a key of one
+abbrev pub is_of_region : Row → Bool
+is_of_region row = (row.object == region_list.number) || (row.object == region.number)
 
 -- whether a key belongs to a region
 abbrev pub has_index : ℕ → Bool
-has_index number = nat_le 43 number && nat_le number 49
+has_index number = option_map_or is_of_region (row_of number) false
+
+-- the path of a row, of a region's what follows its place in the list
+abbrev pub part_of : ℕ → List ℕ
+part_of number = option_map_or (λ row. row.path) (row_of number) []
 
 abbrev pub front_of : ℕ → List ℕ
 front_of number = if has_index number then codes "regions[" else part_of number

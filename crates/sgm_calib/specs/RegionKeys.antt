@@ -1,71 +1,47 @@
 -- The keys of the regions: a list of objects, each a rectangle of the grid's cells with its name and base.
-use Rattle.std.specs.Prelude.{ℕ, suc, ℤ, pos, negsuc, ◌-ℤ◌, unsigned_abs, if◌then◌else◌, nat_le, List, [], ◌∷◌, length, map, codes, Option, Some, None, option_map}
-use Rattle.std.specs.Result.{result_err}
+use Rattle.std.specs.Prelude.{ℕ, suc, if◌then◌else◌, nat_le, List, [], ◌∷◌, length, map, Option, Some, None, option_map}
 use Rattle.serde_json.specs.Data.{Data}
 use Rattle.serde_json.specs.Find.{get, as_array}
-use Rattle.sgm_report.specs.Areas.{Area, is_region_name}
-use Rattle.sgm_calib.specs.declared.keys.Key.{Key}
+use Rattle.sgm_base.specs.declared.limits.TheConstants.{MAX_REGIONS}
+use Rattle.sgm_report.specs.Areas.{Area}
 use Rattle.sgm_calib.specs.declared.keys.CalibFault.{CalibFault}
-use Rattle.sgm_calib.specs.declared.regions.RegionNumbers.{RegionNumbers}
 use Rattle.sgm_calib.specs.declared.keys.CalibFault.TheVariants.{Range}
-use Rattle.sgm_calib.specs.Table.{key, whole_at, Field, field, Row, row_of, between, names_of}
-use Rattle.sgm_calib.specs.Checks.{first_of, text_in, or_out_of_range, object_fault, type_fault, rows_fault, elements, value_at, text_at}
+use Rattle.sgm_calib.specs.declared.place.Place.{Place}
+use Rattle.sgm_calib.specs.declared.place.TheConstants.{PLAIN}
+use Rattle.sgm_calib.specs.declared.regions.RegionNumbers.{RegionNumbers}
+use Rattle.sgm_calib.specs.Table as table
+use Rattle.sgm_calib.specs.Rows.{key_at, number_of, count_of}
+use Rattle.sgm_calib.specs.Checks.{first_of, object_fault, type_fault, keys_fault, elements, value_of, text_of}
 
--- a key of the region at that place of the list
-abbrev pub region_key : ℕ → ℕ → Key
-region_key index number = record { number = number; index = index }
-
-abbrev pub name_field : ℕ → Field
-name_field index = field (region_key index 44) (codes "name")
-
--- the numbers of a region of a grid with so many columns and rows
-abbrev pub region_rows : ℤ → ℤ → ℕ → List Row
-region_rows grid_cols grid_rows index =
-    row_of (region_key index 45) (codes "col") (λ _. between (pos 0) (grid_cols -ℤ pos 1))
-    ∷ row_of (region_key index 46) (codes "row") (λ _. between (pos 0) (grid_rows -ℤ pos 1))
-    ∷ row_of (region_key index 47) (codes "cols") (λ d. between (pos 1) (grid_cols -ℤ whole_at (codes "col") d))
-    ∷ row_of (region_key index 48) (codes "rows") (λ d. between (pos 1) (grid_rows -ℤ whole_at (codes "row") d))
-    ∷ row_of (region_key index 49) (codes "base") (λ _. between (negsuc 1999999999) (pos 2000000000))
-    ∷ []
-
--- the names that the table gives a region
-abbrev pub region_names : List (List ℕ)
-region_names = codes "name" ∷ names_of (region_rows (pos 0) (pos 0) 0)
-
--- what is wrong with a region's name: it is missing, its type, its length or a byte of it
-unfoldable pub name_fault : ℕ → Data → Option CalibFault
-name_fault index d = result_err (or_out_of_range (Range (region_key index 44)) is_region_name (text_in d (name_field index)))
+-- the place of a region of a grid with so many columns and rows
+abbrev pub region_place : ℕ → ℕ → ℕ → Place
+region_place cols rows index = record { shift = 0; index = index; cols = cols; rows = rows }
 
 -- what is wrong with a region: its type, an unknown name, its keys
-unfoldable pub region_fault : ℤ → ℤ → ℕ → Data → Option CalibFault
-region_fault grid_cols grid_rows index d =
-    first_of (
-    object_fault (region_key index 43) region_names d
-    ∷ name_fault index d
-    ∷ rows_fault (region_rows grid_cols grid_rows index) d
-    ∷ [])
+unfoldable pub region_fault : Place → Data → Option CalibFault
+region_fault place d = first_of (object_fault place table.region [] d ∷ keys_fault place d table.region_keys ∷ [])
 
 -- what is wrong with the regions from that place of the list on
-abbrev pub region_faults : ℤ → ℤ → ℕ → List Data → List (Option CalibFault)
-region_faults grid_cols grid_rows index [] = []
-region_faults grid_cols grid_rows index (d ∷ ds) = region_fault grid_cols grid_rows index d ∷ region_faults grid_cols grid_rows (suc index) ds
+abbrev pub region_faults : ℕ → ℕ → ℕ → List Data → List (Option CalibFault)
+region_faults cols rows index [] = []
+region_faults cols rows index (d ∷ ds) = region_fault (region_place cols rows index) d ∷ region_faults cols rows (suc index) ds
 
-abbrev pub count_fault : ℕ → Option CalibFault
-count_fault count = if nat_le count 1000 then None else Some (Range (key 42))
+abbrev pub size_fault : ℕ → Option CalibFault
+size_fault count = if nat_le count MAX_REGIONS then None else Some (Range (key_at PLAIN table.region_list))
 
-abbrev pub regions_fault_of : ℤ → ℤ → Option Data → Option CalibFault
-regions_fault_of grid_cols grid_rows None = None
-regions_fault_of grid_cols grid_rows (Some d) =
+abbrev pub regions_fault_of : ℕ → ℕ → Option Data → Option CalibFault
+regions_fault_of cols rows None = None
+regions_fault_of cols rows (Some d) =
     first_of (
-    type_fault (key 42) (as_array d)
-    ∷ count_fault (length (elements d))
-    ∷ region_faults grid_cols grid_rows 0 (elements d))
+    type_fault (key_at PLAIN table.region_list) (as_array d)
+    ∷ size_fault (length (elements d))
+    ∷ region_faults cols rows 0 (elements d))
 
 -- what is wrong with the regions of a value: their type, their count, each of them
 unfoldable pub regions_fault : Data → Option CalibFault
 regions_fault top =
-    let grid = value_at (codes "grid") top in
-    regions_fault_of (whole_at (codes "cols") grid) (whole_at (codes "rows") grid) (get (codes "regions") top)
+    let grid = value_of table.grid top in
+    regions_fault_of (count_of table.grid_cols grid) (count_of table.grid_rows grid) (get table.region_list.name top)
 
 -- the region with that name and those numbers
 abbrev pub area_of : List ℕ → RegionNumbers → Area
@@ -81,14 +57,14 @@ area_of name numbers = record {
 -- the region that an object without a fault is
 unfoldable pub area_in : Data → Area
 area_in d = record {
-  name = text_at (codes "name") d;
-  col = unsigned_abs (whole_at (codes "col") d);
-  row = unsigned_abs (whole_at (codes "row") d);
-  cols = unsigned_abs (whole_at (codes "cols") d);
-  rows = unsigned_abs (whole_at (codes "rows") d);
-  base = whole_at (codes "base") d;
+  name = text_of table.region_name d;
+  col = count_of table.region_col d;
+  row = count_of table.region_row d;
+  cols = count_of table.region_cols d;
+  rows = count_of table.region_rows d;
+  base = number_of table.region_base d;
 }
 
 -- the regions of a value, where it has them
 unfoldable pub regions_in : Data → Option (List Area)
-regions_in top = option_map (λ d. map area_in (elements d)) (get (codes "regions") top)
+regions_in top = option_map (λ d. map area_in (elements d)) (get table.region_list.name top)

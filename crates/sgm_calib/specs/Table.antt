@@ -1,147 +1,212 @@
--- The key table of calibration files: the keys by their numbers, their names and types, and the ranges of numbers.
-use Rattle.std.specs.Prelude.{ℕ, ℤ, pos, negsuc, int_le, Bool, true, ◌&&◌, List, [], ◌∷◌, map, codes, Option, option_and_then, unwrap_or, is_some}
+-- The key table of calibration files: a row for each key, in the order of the checks. The names of an object, the keys' paths
+-- and the order of the checks follow from it.
+use Rattle.std.specs.Prelude.{ℕ, ◌+◌, ◌==◌, ℤ, pos, neg_ℤ, Bool, ◌&&◌, List, [], ◌∷◌, ◌++◌, codes, filter, map}
 use Rattle.std.specs.List.{list_any}
-use Rattle.std.specs.Ordering.{int_eq}
-use Rattle.serde_json.specs.Data.{Data}
-use Rattle.serde_json.specs.Find.{get, as_number, as_i64}
-use Rattle.sgm_calib.specs.declared.keys.Key.{Key}
+use Rattle.std.specs.Str.{bytes_eq}
+use Rattle.sgm_base.specs.declared.limits.TheConstants.{MAX_COUNT, MAX_FIRST, MAX_GRID_LINES, MAX_PENALTY, MAX_WINDOW_HEIGHT, MAX_WINDOW_WIDTH, MIN_FIRST, MIN_WINDOW_SIDE}
+use Rattle.sgm_grid.specs.declared.limits.TheConstants.{MAX_CELL, MAX_HEIGHT, MAX_PLACE}
+use Rattle.sgm_height.specs.declared.limits.TheConstants.{MAX_BASELINE, MAX_DEPTH, MAX_FOCAL, MAX_MOUNT, MAX_OFFSET}
+use Rattle.sgm_rectify.specs.declared.limits.TheConstants.{MAX_ENTRY, MAX_NODE, MAX_NODE_COUNT, MAX_STEP, MIN_ENTRY, MIN_NODE, MIN_NODE_COUNT, MIN_STEP}
+use Rattle.sgm_calib.specs.Rows.{Form, object, warps, kind, name, regions, between, odd, from, column, line, columns_from, lines_from, matrix, nodes, Presence, required, optional, with, of_kind, Row, is_given}
 
--- the key of a number that stands in no region
-abbrev pub key : ℕ → Key
-key number = record { number = number; index = 0 }
+-- the row of a key of the value itself, and of a key of an object
+abbrev pub entry : ℕ → List ℕ → Form → Presence → Row
+entry number key form presence = record { number = number; object = 1; name = key; path = key; form = form; presence = presence }
 
--- the whole number that a value is: a JSON number whose `as_i64` gives one
-abbrev pub whole : Data → Option ℤ
-whole d = option_and_then as_i64 (as_number d)
-
--- the whole number under a name of an object, and 0 where there is none
-abbrev pub whole_at : List ℕ → Data → ℤ
-whole_at name d = unwrap_or (option_and_then whole (get name d)) (pos 0)
-
--- whether an object has that name
-abbrev pub stands : List ℕ → Data → Bool
-stands name d = is_some (get name d)
-
--- a key, and its name in the object that has it
-pub record Field : Type 0 where
-  pub key : Key
-  pub name : List ℕ
-
-abbrev pub field : Key → List ℕ → Field
-field key name = record { key = key; name = name }
-
--- A row of the table: a key whose value is a whole number, and which numbers are in its range. The range may rest on the
--- object that has the key.
-pub record Row : Type 0 where
-  pub field : Field
-  pub range : Data → ℤ → Bool
-
-abbrev pub row_of : Key → List ℕ → (Data → ℤ → Bool) → Row
-row_of k name range = record { field = field k name; range = range }
-
-abbrev pub row : ℕ → List ℕ → (Data → ℤ → Bool) → Row
-row number name range = row_of (key number) name range
-
--- A row of the table with rows below it: a key whose value is an object, and the keys of that object. Whether it must be
--- there may rest on the value in which it stands.
-pub record Section : Type 0 where
-  pub field : Field
-  pub required : Data → Bool
-  pub rows : List Row
-
--- the numbers from low to high
-abbrev pub between : ℤ → ℤ → ℤ → Bool
-between low high z = int_le low z && int_le z high
-
--- the numbers of a list
-abbrev pub among : List ℤ → ℤ → Bool
-among allowed z = list_any (λ a. int_eq a z) allowed
-
-abbrev pub disparities : Section
-disparities = record {
-  field = field (key 3) (codes "disparities");
-  required = λ _. true;
-  rows =
-      row 4 (codes "first") (λ _. between (negsuc 1023) (pos 1024))
-      ∷ row 5 (codes "count") (λ _. between (pos 1) (pos 256))
-      ∷ [];
+abbrev pub given : Row → ℕ → List ℕ → Form → Presence → Row
+given holder number key form presence = record {
+  number = number;
+  object = holder.number;
+  name = key;
+  path = holder.path ++ codes "." ++ key;
+  form = form;
+  presence = presence;
 }
 
-abbrev pub census : Section
-census = record {
-  field = field (key 6) (codes "census");
-  required = λ _. true;
-  rows =
-      row 7 (codes "width") (λ _. among (pos 3 ∷ pos 5 ∷ pos 7 ∷ pos 9 ∷ []))
-      ∷ row 8 (codes "height") (λ _. among (pos 3 ∷ pos 5 ∷ pos 7 ∷ []))
-      ∷ [];
-}
+abbrev pub key_of : Row → ℕ → List ℕ → Form → Row
+key_of holder number key form = given holder number key form required
 
-abbrev pub penalties : Section
-penalties = record {
-  field = field (key 9) (codes "penalties");
-  required = λ _. true;
-  rows =
-      row 10 (codes "p1") (λ _. between (pos 1) (pos 4000))
-      ∷ row 11 (codes "p2") (λ d. between (whole_at (codes "p1") d) (pos 4000))
-      ∷ [];
-}
+-- the numbers from as far below 0 to as far above it
+abbrev within : ℤ → Form
+within most = between (neg_ℤ most) most
 
-abbrev pub camera : Section
-camera = record {
-  field = field (key 27) (codes "camera");
-  required = stands (codes "grid");
-  rows =
-      row 28 (codes "focal") (λ _. between (pos 1) (pos 16777216))
-      ∷ row 29 (codes "baseline") (λ _. between (pos 1) (pos 2000000000))
-      ∷ row 30 (codes "cx") (λ _. between (negsuc 16777215) (pos 16777216))
-      ∷ row 31 (codes "cy") (λ _. between (negsuc 16777215) (pos 16777216))
-      ∷ row 32 (codes "doffs") (λ _. between (negsuc 16777215) (pos 16777216))
-      ∷ row 33 (codes "mount") (λ _. between (pos 0) (pos 2000000000))
-      ∷ row 34 (codes "near") (λ _. between (pos 1) (pos 2000000000))
-      ∷ row 35 (codes "far") (λ d. between (whole_at (codes "near") d) (pos 2000000000))
-      ∷ [];
-}
+abbrev pub top : Row
+top = record { number = 1; object = 0; name = codes "top"; path = codes "top"; form = object; presence = required }
 
-abbrev pub grid : Section
-grid = record {
-  field = field (key 36) (codes "grid");
-  required = stands (codes "regions");
-  rows =
-      row 37 (codes "west") (λ _. between (negsuc 1999999999) (pos 2000000000))
-      ∷ row 38 (codes "south") (λ _. between (negsuc 1999999999) (pos 2000000000))
-      ∷ row 39 (codes "cell") (λ _. between (pos 1) (pos 1000000000))
-      ∷ row 40 (codes "cols") (λ _. between (pos 1) (pos 4096))
-      ∷ row 41 (codes "rows") (λ _. between (pos 1) (pos 4096))
-      ∷ [];
-}
+abbrev pub version : Row
+version = entry 2 (codes "version") (between (pos 1) (pos 1)) required
 
--- What stands in the value itself beside `version`, in the order of the numbers: an object of whole numbers, the warps of
--- the two sides, or the regions.
-pub data Entry : Type 0 where
-  section : Section → Entry
-  warps : Entry
-  regions : Entry
+abbrev pub disparities : Row
+disparities = entry 3 (codes "disparities") object required
 
-abbrev pub entries : List Entry
-entries =
-    section disparities
-    ∷ section census
-    ∷ section penalties
-    ∷ warps
-    ∷ section camera
-    ∷ section grid
-    ∷ regions
-    ∷ []
+abbrev pub first : Row
+first = key_of disparities 4 (codes "first") (between MIN_FIRST MAX_FIRST)
 
--- the names that the table gives the value itself, and those that it gives a section
-abbrev pub entry_name : Entry → List ℕ
-entry_name (section s) = s.field.name
-entry_name warps = codes "warp"
-entry_name regions = codes "regions"
+abbrev pub count : Row
+count = key_of disparities 5 (codes "count") (between (pos 1) (pos MAX_COUNT))
 
-abbrev pub top_names : List (List ℕ)
-top_names = codes "version" ∷ map entry_name entries
+abbrev pub census : Row
+census = entry 6 (codes "census") object required
 
-abbrev pub names_of : List Row → List (List ℕ)
-names_of rows = map (λ r. r.field.name) rows
+abbrev pub width : Row
+width = key_of census 7 (codes "width") (odd (pos MIN_WINDOW_SIDE) (pos MAX_WINDOW_WIDTH))
+
+abbrev pub height : Row
+height = key_of census 8 (codes "height") (odd (pos MIN_WINDOW_SIDE) (pos MAX_WINDOW_HEIGHT))
+
+abbrev pub penalties : Row
+penalties = entry 9 (codes "penalties") object required
+
+abbrev pub p1 : Row
+p1 = key_of penalties 10 (codes "p1") (between (pos 1) (pos MAX_PENALTY))
+
+abbrev pub p2 : Row
+p2 = key_of penalties 11 (codes "p2") (from (codes "p1") (pos MAX_PENALTY))
+
+abbrev pub warp : Row
+warp = entry 12 (codes "warp") warps optional
+
+abbrev pub left : Row
+left = key_of warp 13 (codes "left") object
+
+abbrev pub side_kind : Row
+side_kind = key_of left 14 (codes "kind") kind
+
+abbrev pub side_matrix : Row
+side_matrix = given left 15 (codes "matrix") (matrix MIN_ENTRY MAX_ENTRY) (of_kind (codes "projective"))
+
+abbrev pub mesh_step : Row
+mesh_step = given left 16 (codes "step") (between (pos MIN_STEP) (pos MAX_STEP)) (of_kind (codes "mesh"))
+
+abbrev pub mesh_cols : Row
+mesh_cols = given left 17 (codes "cols") (between (pos MIN_NODE_COUNT) (pos MAX_NODE_COUNT)) (of_kind (codes "mesh"))
+
+abbrev pub mesh_rows : Row
+mesh_rows = given left 18 (codes "rows") (between (pos MIN_NODE_COUNT) (pos MAX_NODE_COUNT)) (of_kind (codes "mesh"))
+
+abbrev pub mesh_nodes : Row
+mesh_nodes = given left 19 (codes "nodes") (nodes MIN_NODE MAX_NODE) (of_kind (codes "mesh"))
+
+abbrev pub right : Row
+right = key_of warp 20 (codes "right") object
+
+-- a key of the right side is that of the left one, seven numbers on
+abbrev on_right : Row → Row
+on_right row = given right (row.number + 7) row.name row.form row.presence
+
+abbrev pub camera : Row
+camera = entry 27 (codes "camera") object (with (codes "grid"))
+
+abbrev pub focal : Row
+focal = key_of camera 28 (codes "focal") (between (pos 1) MAX_FOCAL)
+
+abbrev pub baseline : Row
+baseline = key_of camera 29 (codes "baseline") (between (pos 1) MAX_BASELINE)
+
+abbrev pub cx : Row
+cx = key_of camera 30 (codes "cx") (within MAX_OFFSET)
+
+abbrev pub cy : Row
+cy = key_of camera 31 (codes "cy") (within MAX_OFFSET)
+
+abbrev pub doffs : Row
+doffs = key_of camera 32 (codes "doffs") (within MAX_OFFSET)
+
+abbrev pub mount : Row
+mount = key_of camera 33 (codes "mount") (between (pos 0) MAX_MOUNT)
+
+abbrev pub near : Row
+near = key_of camera 34 (codes "near") (between (pos 1) MAX_DEPTH)
+
+abbrev pub far : Row
+far = key_of camera 35 (codes "far") (from (codes "near") MAX_DEPTH)
+
+abbrev pub grid : Row
+grid = entry 36 (codes "grid") object (with (codes "regions"))
+
+abbrev pub west : Row
+west = key_of grid 37 (codes "west") (within MAX_PLACE)
+
+abbrev pub south : Row
+south = key_of grid 38 (codes "south") (within MAX_PLACE)
+
+abbrev pub cell : Row
+cell = key_of grid 39 (codes "cell") (between (pos 1) MAX_CELL)
+
+abbrev pub grid_cols : Row
+grid_cols = key_of grid 40 (codes "cols") (between (pos 1) (pos MAX_GRID_LINES))
+
+abbrev pub grid_rows : Row
+grid_rows = key_of grid 41 (codes "rows") (between (pos 1) (pos MAX_GRID_LINES))
+
+abbrev pub region_list : Row
+region_list = entry 42 (codes "regions") regions optional
+
+abbrev pub region : Row
+region = record { number = 43; object = region_list.number; name = codes "]"; path = codes "]"; form = object; presence = required }
+
+abbrev pub region_name : Row
+region_name = key_of region 44 (codes "name") name
+
+abbrev pub region_col : Row
+region_col = key_of region 45 (codes "col") column
+
+abbrev pub region_row : Row
+region_row = key_of region 46 (codes "row") line
+
+abbrev pub region_cols : Row
+region_cols = key_of region 47 (codes "cols") (columns_from (codes "col"))
+
+abbrev pub region_rows : Row
+region_rows = key_of region 48 (codes "rows") (lines_from (codes "row"))
+
+abbrev pub region_base : Row
+region_base = key_of region 49 (codes "base") (within MAX_HEIGHT)
+
+-- the keys of each object, of the value itself those after its version
+abbrev pub top_keys : List Row
+top_keys = disparities ∷ census ∷ penalties ∷ warp ∷ camera ∷ grid ∷ region_list ∷ []
+
+abbrev pub disparities_keys : List Row
+disparities_keys = first ∷ count ∷ []
+
+abbrev pub census_keys : List Row
+census_keys = width ∷ height ∷ []
+
+abbrev pub penalties_keys : List Row
+penalties_keys = p1 ∷ p2 ∷ []
+
+abbrev pub side_keys : List Row
+side_keys = side_kind ∷ side_matrix ∷ mesh_step ∷ mesh_cols ∷ mesh_rows ∷ mesh_nodes ∷ []
+
+abbrev pub camera_keys : List Row
+camera_keys = focal ∷ baseline ∷ cx ∷ cy ∷ doffs ∷ mount ∷ near ∷ far ∷ []
+
+abbrev pub grid_keys : List Row
+grid_keys = west ∷ south ∷ cell ∷ grid_cols ∷ grid_rows ∷ []
+
+abbrev pub region_keys : List Row
+region_keys = region_name ∷ region_col ∷ region_row ∷ region_cols ∷ region_rows ∷ region_base ∷ []
+
+-- the table
+unfoldable pub keys : List Row
+keys =
+    (top ∷ version ∷ [])
+    ++ (disparities ∷ disparities_keys)
+    ++ (census ∷ census_keys)
+    ++ (penalties ∷ penalties_keys)
+    ++ (warp ∷ [])
+    ++ (left ∷ side_keys)
+    ++ (right ∷ map on_right side_keys)
+    ++ (camera ∷ camera_keys)
+    ++ (grid ∷ grid_keys)
+    ++ (region_list ∷ [])
+    ++ (region ∷ region_keys)
+
+-- the keys of an object, in the order of their checks
+unfoldable pub rows_in : Row → List Row
+rows_in holder = filter (λ row. row.object == holder.number) keys
+
+-- whether the table gives an object of that kind the name
+unfoldable pub is_known : Row → List ℕ → List ℕ → Bool
+is_known holder word key = list_any (λ row. (row.object == holder.number) && is_given row.presence word && bytes_eq row.name key) keys

@@ -1,9 +1,9 @@
-ghost use Rattle.std.specs.Prelude.{◌≡◌, [], map, slice_index_or};
-ghost use Rattle.sgm_calib.specs.Paths.{part_of, has_index, front_of, back_of};
+ghost use Rattle.std.specs.Prelude.{◌≡◌, ◌==◌, option_map};
+ghost use Rattle.std.specs.List.{find};
+ghost use Rattle.sgm_calib.specs.Rows.{meant};
+ghost use Rattle.sgm_calib.specs.Paths.{row_of, part_of, has_index, front_of, back_of};
 
-/// The greatest length of a calibration file, in bytes.
-pub const MAX_CALIB_BYTES: usize = 16_777_216;
-
+use crate::table::{REGION, REGIONS, Row, rows};
 use std::alloc::AllocError;
 
 /// A key of the calibration file: its number in the key table, and for a key of a region the region's
@@ -14,76 +14,27 @@ pub struct Key {
     pub index: u32,
 }
 
-/// The keys' paths by their numbers, the first of them at 1. For a key of a region it is what follows the
-/// region's place.
-const PARTS: [&str; 50] = [
-    "",
-    "top",
-    "version",
-    "disparities",
-    "disparities.first",
-    "disparities.count",
-    "census",
-    "census.width",
-    "census.height",
-    "penalties",
-    "penalties.p1",
-    "penalties.p2",
-    "warp",
-    "warp.left",
-    "warp.left.kind",
-    "warp.left.matrix",
-    "warp.left.step",
-    "warp.left.cols",
-    "warp.left.rows",
-    "warp.left.nodes",
-    "warp.right",
-    "warp.right.kind",
-    "warp.right.matrix",
-    "warp.right.step",
-    "warp.right.cols",
-    "warp.right.rows",
-    "warp.right.nodes",
-    "camera",
-    "camera.focal",
-    "camera.baseline",
-    "camera.cx",
-    "camera.cy",
-    "camera.doffs",
-    "camera.mount",
-    "camera.near",
-    "camera.far",
-    "grid",
-    "grid.west",
-    "grid.south",
-    "grid.cell",
-    "grid.cols",
-    "grid.rows",
-    "regions",
-    "]",
-    "].name",
-    "].col",
-    "].row",
-    "].cols",
-    "].rows",
-    "].base",
-];
-
-fn text_at(texts: &[&'static str], index: usize) -> &'static str
-    ensures { result.now ≡ slice_index_or (map (λ text. text.now) texts.now) index [] }
+/// The first of the rows with that number.
+fn find_row(rows: &'static [Row], number: u8) -> Option<&'static Row>
+    ensures { option_map (λ row. row.now) result ≡ find (λ row. row.number == number) rows.now }
 {
-    if index < texts.len() {
-        texts[index]
-    } else {
-        ""
-    }
+    rows.iter().find(|row| row.number == number)
 }
 
-#[tactic(auto, unfolding(crate::specs::Paths::part_of, crate::specs::Paths::parts))]
+/// The row of that number.
+fn row_of(number: u8) -> Option<&'static Row>
+    ensures { option_map (λ row. meant row.now) result ≡ row_of number }
+{
+    find_row(rows(), number)
+}
+
 fn part(number: u8) -> &'static str
     ensures { result.now ≡ part_of number }
 {
-    text_at(&PARTS, number as usize)
+    match row_of(number) {
+        None => "",
+        Some(row) => row.path,
+    }
 }
 
 impl Key {
@@ -92,7 +43,10 @@ impl Key {
     pub fn has_index(&self) -> bool
         ensures { result ≡ has_index self.now.number }
     {
-        43 <= self.number && self.number <= 49
+        match row_of(self.number) {
+            None => false,
+            Some(row) => row.object == REGIONS.number || row.object == REGION.number,
+        }
     }
 
     /// The key's path, as `disparities.first`, or what stands before the index.

@@ -1,12 +1,12 @@
 //! What follows from the definitions alone. Each function is a law, and its body is empty.
 
-ghost use Rattle.std.specs.Prelude.{◌≡◌, ◌↔◌, ℕ, List, [], ◌∷◌, Option, Some, Ok, Result, IsTrue, codes};
+ghost use Rattle.std.specs.Prelude.{◌≡◌, ◌↔◌, ℕ, List, [], ◌∷◌, Option, Some, Ok, Result, IsTrue, ◌||◌, codes};
 ghost use Rattle.std.specs.List.{list_all};
 ghost use Rattle.sgm_calib.specs.Calibration.{Calibration, plain};
-ghost use Rattle.sgm_calib.specs.Table.{key, entries};
+ghost use Rattle.sgm_calib.specs.Table.{keys};
 ghost use Rattle.sgm_calib.specs.Checks.{first_of, IsFirst};
-ghost use Rattle.sgm_calib.specs.Numbers.{numbers, has_paths, HasRegionPaths};
-ghost use Rattle.sgm_calib.specs.Paths.{path_of};
+ghost use Rattle.sgm_calib.specs.Numbers.{numbers, has_path, HasRegionPaths};
+ghost use Rattle.sgm_calib.specs.Paths.{is_of_region};
 ghost use Rattle.sgm_calib.specs.Read.{Reads};
 ghost use Rattle.sgm_calib.specs.declared.keys.CalibFault.{CalibFault};
 
@@ -21,12 +21,12 @@ pub fn first_faults()
     ensures { (checks : List (Option CalibFault)) (fault : CalibFault) → (first_of checks ≡ Some fault) ↔ IsFirst checks fault }
 {}
 
-/// The checks go by the numbers of the keys, and each key's path is its name after the path of its object.
+/// The checks go in this order, and each key is printed as its name after the path of its object.
 pub fn numbers_and_paths()
-    ensures ascending { numbers ≡ 1 ∷ 2 ∷ 3 ∷ 4 ∷ 5 ∷ 6 ∷ 7 ∷ 8 ∷ 9 ∷ 10 ∷ 11 ∷ 12 ∷ 13 ∷ 14 ∷ 15 ∷ 16 ∷ 17 ∷ 18 ∷ 19 ∷ 20 ∷ 21 ∷ 22 ∷ 23 ∷ 24 ∷ 25 ∷ 26 ∷ 27 ∷ 28 ∷ 29 ∷ 30 ∷ 31 ∷ 32 ∷ 33 ∷ 34 ∷ 35 ∷ 36 ∷ 37 ∷ 38 ∷ 39 ∷ 40 ∷ 41 ∷ 42 ∷ 43 ∷ 44 ∷ 45 ∷ 46 ∷ 47 ∷ 48 ∷ 49 ∷ [] }
-    ensures top { path_of (key 1) ≡ codes "top" }
-    ensures version { path_of (key 2) ≡ codes "version" }
-    ensures others { IsTrue (list_all has_paths entries) }
+    ensures in_this_order { numbers ≡ 1 ∷ 2 ∷ 3 ∷ 4 ∷ 5 ∷ 6 ∷ 7 ∷ 8 ∷ 9 ∷ 10 ∷ 11 ∷ 12 ∷ 13 ∷ 14 ∷ 15 ∷ 16
+        ∷ 17 ∷ 18 ∷ 19 ∷ 20 ∷ 21 ∷ 22 ∷ 23 ∷ 24 ∷ 25 ∷ 26 ∷ 27 ∷ 28 ∷ 29 ∷ 30 ∷ 31 ∷ 32 ∷ 33 ∷ 34 ∷ 35 ∷ 36
+        ∷ 37 ∷ 38 ∷ 39 ∷ 40 ∷ 41 ∷ 42 ∷ 43 ∷ 44 ∷ 45 ∷ 46 ∷ 47 ∷ 48 ∷ 49 ∷ [] }
+    ensures paths { IsTrue (list_all (λ row. is_of_region row || has_path row) keys) }
     ensures regions { (index : ℕ) → HasRegionPaths index }
 {}
 

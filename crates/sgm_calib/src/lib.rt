@@ -1,25 +1,24 @@
-//! The calibration file: its key table in `specs/Table.antt`, and [`read`], which gives the calibration
-//! or the first fault by that table.
+//! The calibration file: its key table in `src/table.rt`, and [`read`], which gives the calibration or the
+//! first fault by that table.
 #![tactic(auto)]
 
 mod calib;
-mod fields;
+mod checks;
 mod keys;
+mod kind;
 pub mod laws;
 mod lists;
+mod place;
 mod reading;
 mod regions;
 mod sections;
+mod table;
 mod warps;
 
 pub use calib::Calib;
-pub use keys::{CalibError, CalibFault, Key, MAX_CALIB_BYTES};
+pub use keys::{CalibError, CalibFault, Key};
 pub use reading::read;
-pub use regions::MAX_REGIONS;
+pub use sgm_base::{MAX_CALIB_BYTES, MAX_REGIONS};
 
 #[cfg(test)]
-mod region_tests;
-#[cfg(test)]
 mod tests;
-#[cfg(test)]
-mod warp_tests;

@@ -1,13 +1,17 @@
 //! Lists of whole numbers.
 
-ghost use Rattle.std.specs.Prelude.{◌≡◌, ◌==◌, ◌&&◌, ◌≤ℤ◌, pos, map, length, All, IfOk, IfErr, IfSome, OnOk, is_some, unwrap_or, Some, None};
+ghost use Rattle.std.specs.Prelude.{◌≡◌, ◌+◌, ◌<◌, ◌==◌, ◌&&◌, ◌≤ℤ◌, pos, map, length, All, IfOk, IfErr, IfSome, OnOk, is_some, unwrap_or, Some, None};
 ghost use Rattle.std.specs.List.{list_all};
 ghost use Rattle.serde_json.specs.View.{view};
-ghost use Rattle.serde_json.specs.Find.{get, as_array};
-ghost use Rattle.sgm_calib.specs.Table.{field, between, whole};
-ghost use Rattle.sgm_calib.specs.Checks.{elements, numbers, numbers_fault, value_at};
+ghost use Rattle.serde_json.specs.Find.{as_array};
+ghost use Rattle.sgm_calib.specs.Table as table;
+ghost use Rattle.sgm_calib.specs.Rows.{whole, least, greatest, is_in_range, meant, form_meant, presence_meant};
+ghost use Rattle.sgm_calib.specs.Checks.{elements, numbers, numbers_fault, value_of};
 
-use crate::keys::{CalibFault, Key};
+use crate::checks::{is_in_range, key_at};
+use crate::keys::CalibFault;
+use crate::place::Place;
+use crate::table::Row;
 use serde_json::Value;
 
 /// The elements of a list, or None where the value is no list.
@@ -41,55 +45,54 @@ fn are_whole(items: &[Value]) -> bool
     items.iter().all(|item| is_whole(item))
 }
 
-fn is_between(value: &Value, low: i64, high: i64) -> bool
-    ensures { result ≡ between low high (unwrap_or (whole (view value.now)) (pos 0)) }
+/// Whether an element is in the range of a list's numbers.
+fn is_entry(object: &Value, row: &Row, place: Place, item: &Value) -> bool
+    ensures { result ≡ is_in_range (form_meant row.now.form) place (view object.now) (unwrap_or (whole (view item.now)) (pos 0)) }
 {
-    let number = number(value);
-    low <= number && number <= high
+    is_in_range(row, place, object, number(item))
 }
 
-fn are_between(items: &[Value], low: i64, high: i64) -> bool
-    ensures { result ≡ list_all (λ item. between low high (unwrap_or (whole (view item)) (pos 0))) items.now }
+fn are_entries(object: &Value, row: &Row, place: Place, items: &[Value]) -> bool
+    ensures { result ≡ list_all (λ item. is_in_range (form_meant row.now.form) place (view object.now) (unwrap_or (whole (view item)) (pos 0))) items.now }
 {
-    items.iter().all(|item| is_between(item, low, high))
+    items.iter().all(|item| is_entry(object, row, place, item))
 }
 
-/// Whether there are `count` items, each from `low` to `high`.
-fn is_full(items: &[Value], count: usize, low: i64, high: i64) -> bool
-    ensures { result ≡ (length items.now == count && list_all (λ item. between low high (unwrap_or (whole (view item)) (pos 0))) items.now) }
+/// Whether there are `count` items, each in the range of the list's numbers.
+fn is_full(object: &Value, row: &Row, place: Place, count: usize, items: &[Value]) -> bool
+    ensures { result ≡ (length items.now == count && list_all (λ item. is_in_range (form_meant row.now.form) place (view object.now) (unwrap_or (whole (view item)) (pos 0))) items.now) }
 {
-    items.len() == count && are_between(items, low, high)
+    items.len() == count && are_entries(object, row, place, items)
 }
 
-/// The whole numbers of a list in an object: `count` of them, each from `low` to `high`; or what is wrong:
-/// the list is missing, its type or an element's, its count or an element's range.
+/// The whole numbers of a list in an object: `count` of them; or what is wrong: the list is missing, its
+/// type or an element's, its count or an element's range.
 #[tactic(auto, unfolding(crate::specs::Checks::numbers_fault))]
-pub fn numbers_between<'a>(
+pub fn numbers<'a>(
     object: &'a Value,
-    key: Key,
-    name: &str,
+    row: &Row,
+    place: Place,
     count: usize,
-    low: i64,
-    high: i64,
 ) -> Result<&'a [Value], CalibFault>
-    ensures ok { OnOk result (numbers_fault (view object.now) (field key name.now) count (between low high) ≡ None) }
-    ensures value { IfOk result (λ items. map (λ item. unwrap_or (whole (view item)) (pos 0)) items.now ≡ numbers (value_at name.now (view object.now))) }
+    requires { row.now.number + place.shift < 256 }
+    ensures ok { OnOk result (numbers_fault place (view object.now) (meant row.now) count ≡ None) }
+    ensures value { IfOk result (λ items. map (λ item. unwrap_or (whole (view item)) (pos 0)) items.now ≡ numbers (value_of (meant row.now) (view object.now))) }
     ensures count { IfOk result (λ items. length items.now ≡ count) }
-    ensures range { IfOk result (λ items. All (λ item. (low ≤ℤ unwrap_or (whole (view item)) (pos 0)) × (unwrap_or (whole (view item)) (pos 0) ≤ℤ high)) items.now) }
-    ensures fault { IfErr result (λ f. numbers_fault (view object.now) (field key name.now) count (between low high) ≡ Some f) }
+    ensures range { IfOk result (λ items. All (λ item. (least (form_meant row.now.form) (view object.now) ≤ℤ unwrap_or (whole (view item)) (pos 0)) × (unwrap_or (whole (view item)) (pos 0) ≤ℤ greatest (form_meant row.now.form) place (view object.now))) items.now) }
+    ensures fault { IfErr result (λ f. numbers_fault place (view object.now) (meant row.now) count ≡ Some f) }
 {
-    let Some(value) = object.get(name) else {
-        return Err(CalibFault::Missing(key));
+    let Some(value) = object.get(row.name) else {
+        return Err(CalibFault::Missing(key_at(row, place)));
     };
     let Some(items) = elements(value) else {
-        return Err(CalibFault::Type_(key));
+        return Err(CalibFault::Type_(key_at(row, place)));
     };
     if !are_whole(items) {
-        return Err(CalibFault::Type_(key));
+        return Err(CalibFault::Type_(key_at(row, place)));
     }
-    if is_full(items, count, low, high) {
+    if is_full(object, row, place, count, items) {
         Ok(items)
     } else {
-        Err(CalibFault::Range(key))
+        Err(CalibFault::Range(key_at(row, place)))
     }
 }

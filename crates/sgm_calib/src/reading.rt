@@ -9,7 +9,7 @@ ghost use Rattle.sgm_calib.specs.Read.{Reads, ReadsAs, ReadsText};
 ghost use Rattle.sgm_calib.specs.declared.keys.CalibFault.{CalibFault};
 
 use crate::calib::Calib;
-use crate::fields::check_top;
+use crate::checks::check_top;
 use crate::keys::{CalibError, CalibFault};
 use crate::regions::regions;
 use crate::sections::{camera, census, disparities, grid, penalties};

@@ -1,36 +1,36 @@
 //! The objects of whole numbers that stand in a calibration file.
 
-ghost use Rattle.std.specs.Prelude.{◌≡◌, ◌≤ℤ◌, pos, negsuc, unsigned_abs, [], ◌∷◌, IsTrue, IfOk, OnOk, IfErr, IfSome, Some, None, is_some, codes};
+ghost use Rattle.std.specs.Prelude.{◌≡◌, ◌≤ℤ◌, ◌%◌, ◌==◌, pos, unsigned_abs, IsTrue, IfOk, OnOk, IfErr, IfSome, Some, None, is_some};
 ghost use Rattle.serde_json.specs.View.{view};
 ghost use Rattle.serde_json.specs.Find.{get};
+ghost use Rattle.sgm_base.specs.declared.limits.TheConstants.{MIN_FIRST, MAX_FIRST, MAX_COUNT, MAX_PENALTY, MIN_WINDOW_SIDE, MAX_WINDOW_WIDTH, MAX_WINDOW_HEIGHT};
 ghost use Rattle.sgm_height.specs.Camera.{IsCamera};
 ghost use Rattle.sgm_grid.specs.Cells.{IsGridSpec};
 ghost use Rattle.sgm_energy.specs.Pens.{p1_of, p2_of};
 ghost use Rattle.sgm_calib.specs.Table as table;
-ghost use Rattle.sgm_calib.specs.Table.{among, whole_at};
-ghost use Rattle.sgm_calib.specs.Checks.{rows_fault};
-ghost use Rattle.sgm_calib.specs.Judge.{section_fault, held_fault, span_in, window_in, penalties_in, camera_of, camera_in, grid_of, grid_in, number_at};
+ghost use Rattle.sgm_calib.specs.Rows.{number_of, count_of, meant, form_meant, presence_meant};
+ghost use Rattle.sgm_calib.specs.Checks.{keys_fault, value_of};
+ghost use Rattle.sgm_calib.specs.Judge.{section_fault, span_of, window_of, penalties_of, camera_of, camera_in, grid_of, grid_in};
 
-use crate::fields::{check_object, key, whole_among, whole_between};
+use crate::checks::{object_in, odd_or_whole, whole};
 use crate::keys::CalibFault;
+use crate::place::PLAIN;
+use crate::table::{
+    BASELINE, CAMERA, CELL, CENSUS, COUNT, CX, CY, DISPARITIES, DOFFS, FAR, FIRST, FOCAL, GRID,
+    GRID_COLS, GRID_ROWS, HEIGHT, MOUNT, NEAR, P1, P2, PENALTIES, SOUTH, WEST, WIDTH,
+};
 use serde_json::Value;
-use sgm_base::{MAX_GRID_LINES, Span};
+use sgm_base::Span;
 use sgm_census::Window;
 use sgm_energy::Pen;
-use sgm_grid::{GridSpec, MAX_CELL, MAX_PLACE};
-use sgm_height::{Camera, MAX_BASELINE, MAX_DEPTH, MAX_FOCAL, MAX_MOUNT, MAX_OFFSET};
-
-const CAMERA_NAMES: [&str; 8] = [
-    "focal", "baseline", "cx", "cy", "doffs", "mount", "near", "far",
-];
-
-const GRID_NAMES: [&str; 5] = ["west", "south", "cell", "cols", "rows"];
+use sgm_grid::GridSpec;
+use sgm_height::Camera;
 
 fn span(first: i64, count: i64) -> Span
-    requires first_low { negsuc 1023 ≤ℤ first }
-    requires first_high { first ≤ℤ pos 1024 }
+    requires first_low { MIN_FIRST ≤ℤ first }
+    requires first_high { first ≤ℤ MAX_FIRST }
     requires count_low { pos 1 ≤ℤ count }
-    requires count_high { count ≤ℤ pos 256 }
+    requires count_high { count ≤ℤ pos MAX_COUNT }
     ensures { result ≡ record { first = first; count = unsigned_abs count } }
 {
     Span {
@@ -39,24 +39,36 @@ fn span(first: i64, count: i64) -> Span
     }
 }
 
-#[tactic(auto, unfolding(crate::specs::Judge::section_fault, crate::specs::Judge::held_fault, crate::specs::Judge::span_in))]
-pub fn disparities(top: &Value) -> Result<Span, CalibFault>
-    ensures ok { OnOk result (section_fault (view top.now) table.disparities ≡ None) }
-    ensures value { IfOk result (λ span. span ≡ span_in (view top.now)) }
-    ensures fault { IfErr result (λ f. section_fault (view top.now) table.disparities ≡ Some f) }
+/// The disparities that an object is, once its names are known.
+fn span_of(object: &Value) -> Result<Span, CalibFault>
+    ensures ok { OnOk result (keys_fault PLAIN (view object.now) table.disparities_keys ≡ None) }
+    ensures value { IfOk result (λ span. span ≡ span_of (view object.now)) }
+    ensures fault { IfErr result (λ f. keys_fault PLAIN (view object.now) table.disparities_keys ≡ Some f) }
 {
-    let Some(object) = top.get("disparities") else {
-        return Err(CalibFault::Missing(key(3)));
-    };
-    check_object(object, key(3), &["first", "count"])?;
-    let first = whole_between(object, key(4), "first", -1024, 1024)?;
-    let count = whole_between(object, key(5), "count", 1, 256)?;
+    let first = whole(object, &FIRST, PLAIN)?;
+    let count = whole(object, &COUNT, PLAIN)?;
     Ok(span(first, count))
 }
 
+/// The disparities that are tried.
+#[tactic(auto, unfolding(crate::specs::Judge::section_fault))]
+pub fn disparities(top: &Value) -> Result<Span, CalibFault>
+    ensures ok { OnOk result (section_fault (view top.now) table.disparities ≡ None) }
+    ensures value { IfOk result (λ span. span ≡ span_of (value_of table.disparities (view top.now))) }
+    ensures fault { IfErr result (λ f. section_fault (view top.now) table.disparities ≡ Some f) }
+{
+    let found = object_in(top, &DISPARITIES)?;
+    let Some(object) = found else { unreachable!() };
+    span_of(object)
+}
+
 fn sides(width: i64, height: i64) -> Window
-    requires width_in { IsTrue (among (pos 3 ∷ pos 5 ∷ pos 7 ∷ pos 9 ∷ []) width) }
-    requires height_in { IsTrue (among (pos 3 ∷ pos 5 ∷ pos 7 ∷ []) height) }
+    requires width_low { pos MIN_WINDOW_SIDE ≤ℤ width }
+    requires width_high { width ≤ℤ pos MAX_WINDOW_WIDTH }
+    requires width_odd { IsTrue (unsigned_abs width % 2 == 1) }
+    requires height_low { pos MIN_WINDOW_SIDE ≤ℤ height }
+    requires height_high { height ≤ℤ pos MAX_WINDOW_HEIGHT }
+    requires height_odd { IsTrue (unsigned_abs height % 2 == 1) }
     ensures { result ≡ record { width = unsigned_abs width; height = unsigned_abs height } }
 {
     Window {
@@ -65,37 +77,33 @@ fn sides(width: i64, height: i64) -> Window
     }
 }
 
-/// The window that an object is, or its first fault.
-#[tactic(auto, unfolding(crate::specs::Judge::held_fault))]
-fn census_object(object: &Value) -> Result<Window, CalibFault>
-    ensures ok { OnOk result (held_fault table.census (view object.now) ≡ None) }
-    ensures width { IfOk result (λ w. w.width ≡ unsigned_abs (whole_at (codes "width") (view object.now))) }
-    ensures height { IfOk result (λ w. w.height ≡ unsigned_abs (whole_at (codes "height") (view object.now))) }
-    ensures fault { IfErr result (λ f. held_fault table.census (view object.now) ≡ Some f) }
+/// The window that an object is, once its names are known.
+fn window_of(object: &Value) -> Result<Window, CalibFault>
+    ensures ok { OnOk result (keys_fault PLAIN (view object.now) table.census_keys ≡ None) }
+    ensures value { IfOk result (λ window. window ≡ window_of (view object.now)) }
+    ensures fault { IfErr result (λ f. keys_fault PLAIN (view object.now) table.census_keys ≡ Some f) }
 {
-    check_object(object, key(6), &["width", "height"])?;
-    let width = whole_among(object, key(7), "width", &[3, 5, 7, 9])?;
-    let height = whole_among(object, key(8), "height", &[3, 5, 7])?;
+    let width = odd_or_whole(object, &WIDTH, PLAIN)?;
+    let height = odd_or_whole(object, &HEIGHT, PLAIN)?;
     Ok(sides(width, height))
 }
 
 /// The window of the census transform.
-#[tactic(auto, unfolding(crate::specs::Judge::section_fault, crate::specs::Judge::window_in))]
+#[tactic(auto, unfolding(crate::specs::Judge::section_fault))]
 pub fn census(top: &Value) -> Result<Window, CalibFault>
     ensures ok { OnOk result (section_fault (view top.now) table.census ≡ None) }
-    ensures value { IfOk result (λ window. window ≡ window_in (view top.now)) }
+    ensures value { IfOk result (λ window. window ≡ window_of (value_of table.census (view top.now))) }
     ensures fault { IfErr result (λ f. section_fault (view top.now) table.census ≡ Some f) }
 {
-    match top.get("census") {
-        None => Err(CalibFault::Missing(key(6))),
-        Some(object) => census_object(object),
-    }
+    let found = object_in(top, &CENSUS)?;
+    let Some(object) = found else { unreachable!() };
+    window_of(object)
 }
 
 fn pen(p1: i64, p2: i64) -> Pen
     requires low { pos 1 ≤ℤ p1 }
     requires ordered { p1 ≤ℤ p2 }
-    requires high { p2 ≤ℤ pos 4000 }
+    requires high { p2 ≤ℤ pos MAX_PENALTY }
     ensures p1 { p1_of result ≡ unsigned_abs p1 }
     ensures p2 { p2_of result ≡ unsigned_abs p2 }
 {
@@ -105,38 +113,47 @@ fn pen(p1: i64, p2: i64) -> Pen
     pen
 }
 
-#[tactic(auto, unfolding(crate::specs::Judge::section_fault, crate::specs::Judge::held_fault, crate::specs::Judge::penalties_in))]
+/// The penalties that an object is, once its names are known.
+fn pen_of(object: &Value) -> Result<Pen, CalibFault>
+    ensures ok { OnOk result (keys_fault PLAIN (view object.now) table.penalties_keys ≡ None) }
+    ensures p1 { IfOk result (λ pen. p1_of pen ≡ (penalties_of (view object.now)).p1) }
+    ensures p2 { IfOk result (λ pen. p2_of pen ≡ (penalties_of (view object.now)).p2) }
+    ensures fault { IfErr result (λ f. keys_fault PLAIN (view object.now) table.penalties_keys ≡ Some f) }
+{
+    let p1 = whole(object, &P1, PLAIN)?;
+    let p2 = whole(object, &P2, PLAIN)?;
+    Ok(pen(p1, p2))
+}
+
+/// The penalties of a change of the disparity.
+#[tactic(auto, unfolding(crate::specs::Judge::section_fault))]
 pub fn penalties(top: &Value) -> Result<Pen, CalibFault>
     ensures ok { OnOk result (section_fault (view top.now) table.penalties ≡ None) }
-    ensures p1 { IfOk result (λ pen. p1_of pen ≡ (penalties_in (view top.now)).p1) }
-    ensures p2 { IfOk result (λ pen. p2_of pen ≡ (penalties_in (view top.now)).p2) }
+    ensures p1 { IfOk result (λ pen. p1_of pen ≡ (penalties_of (value_of table.penalties (view top.now))).p1) }
+    ensures p2 { IfOk result (λ pen. p2_of pen ≡ (penalties_of (value_of table.penalties (view top.now))).p2) }
     ensures fault { IfErr result (λ f. section_fault (view top.now) table.penalties ≡ Some f) }
 {
-    let Some(object) = top.get("penalties") else {
-        return Err(CalibFault::Missing(key(9)));
-    };
-    check_object(object, key(9), &["p1", "p2"])?;
-    let p1 = whole_between(object, key(10), "p1", 1, 4000)?;
-    let p2 = whole_between(object, key(11), "p2", p1, 4000)?;
-    Ok(pen(p1, p2))
+    let found = object_in(top, &PENALTIES)?;
+    let Some(object) = found else { unreachable!() };
+    pen_of(object)
 }
 
 /// The camera that an object is, once its names are known.
 #[tactic(auto, unfolding(crate::specs::Judge::camera_of))]
-fn camera_numbers(object: &Value) -> Result<Camera, CalibFault>
-    ensures ok { OnOk result (rows_fault table.camera.rows (view object.now) ≡ None) }
+fn camera_of(object: &Value) -> Result<Camera, CalibFault>
+    ensures ok { OnOk result (keys_fault PLAIN (view object.now) table.camera_keys ≡ None) }
     ensures value { IfOk result (λ c. c ≡ camera_of (view object.now)) }
     ensures kept { IfOk result IsCamera }
-    ensures fault { IfErr result (λ f. rows_fault table.camera.rows (view object.now) ≡ Some f) }
+    ensures fault { IfErr result (λ f. keys_fault PLAIN (view object.now) table.camera_keys ≡ Some f) }
 {
-    let focal = whole_between(object, key(28), "focal", 1, MAX_FOCAL)?;
-    let baseline = whole_between(object, key(29), "baseline", 1, MAX_BASELINE)?;
-    let cx = whole_between(object, key(30), "cx", -MAX_OFFSET, MAX_OFFSET)?;
-    let cy = whole_between(object, key(31), "cy", -MAX_OFFSET, MAX_OFFSET)?;
-    let doffs = whole_between(object, key(32), "doffs", -MAX_OFFSET, MAX_OFFSET)?;
-    let mount = whole_between(object, key(33), "mount", 0, MAX_MOUNT)?;
-    let near = whole_between(object, key(34), "near", 1, MAX_DEPTH)?;
-    let far = whole_between(object, key(35), "far", near, MAX_DEPTH)?;
+    let focal = whole(object, &FOCAL, PLAIN)?;
+    let baseline = whole(object, &BASELINE, PLAIN)?;
+    let cx = whole(object, &CX, PLAIN)?;
+    let cy = whole(object, &CY, PLAIN)?;
+    let doffs = whole(object, &DOFFS, PLAIN)?;
+    let mount = whole(object, &MOUNT, PLAIN)?;
+    let near = whole(object, &NEAR, PLAIN)?;
+    let far = whole(object, &FAR, PLAIN)?;
     Ok(Camera {
         focal,
         baseline,
@@ -149,32 +166,20 @@ fn camera_numbers(object: &Value) -> Result<Camera, CalibFault>
     })
 }
 
-/// The camera that an object is, or its first fault.
-#[tactic(auto, unfolding(crate::specs::Judge::held_fault))]
-fn camera_object(object: &Value) -> Result<Camera, CalibFault>
-    ensures ok { OnOk result (held_fault table.camera (view object.now) ≡ None) }
-    ensures value { IfOk result (λ c. c ≡ camera_of (view object.now)) }
-    ensures kept { IfOk result IsCamera }
-    ensures fault { IfErr result (λ f. held_fault table.camera (view object.now) ≡ Some f) }
-{
-    check_object(object, key(27), &CAMERA_NAMES)?;
-    camera_numbers(object)
-}
-
 /// The camera, where there is one.
 #[tactic(auto, unfolding(crate::specs::Judge::section_fault, crate::specs::Judge::camera_in))]
 pub fn camera(top: &Value) -> Result<Option<Camera>, CalibFault>
     ensures ok { OnOk result (section_fault (view top.now) table.camera ≡ None) }
     ensures value { IfOk result (λ c. c ≡ camera_in (view top.now)) }
     ensures kept { IfOk result (λ c. IfSome c IsCamera) }
-    ensures asked { IfOk result (λ c. IfSome (get (codes "grid") (view top.now)) (λ _. IsTrue (is_some c))) }
+    ensures asked { IfOk result (λ c. IfSome (get table.grid.name (view top.now)) (λ _. IsTrue (is_some c))) }
     ensures fault { IfErr result (λ f. section_fault (view top.now) table.camera ≡ Some f) }
 {
-    match top.get("camera") {
-        None if top.get("grid").is_some() => Err(CalibFault::Missing(key(27))),
+    let found = object_in(top, &CAMERA)?;
+    match found {
         None => Ok(None),
         Some(object) => {
-            let camera = camera_object(object)?;
+            let camera = camera_of(object)?;
             Ok(Some(camera))
         }
     }
@@ -182,19 +187,17 @@ pub fn camera(top: &Value) -> Result<Option<Camera>, CalibFault>
 
 /// The grid that an object is, once its names are known.
 #[tactic(auto, unfolding(crate::specs::Judge::grid_of))]
-fn grid_numbers(object: &Value) -> Result<GridSpec, CalibFault>
-    ensures ok { OnOk result (rows_fault table.grid.rows (view object.now) ≡ None) }
+fn grid_of(object: &Value) -> Result<GridSpec, CalibFault>
+    ensures ok { OnOk result (keys_fault PLAIN (view object.now) table.grid_keys ≡ None) }
     ensures value { IfOk result (λ g. g ≡ grid_of (view object.now)) }
     ensures kept { IfOk result IsGridSpec }
-    ensures cols { IfOk result (λ g. pos g.cols ≡ whole_at (codes "cols") (view object.now)) }
-    ensures rows { IfOk result (λ g. pos g.rows ≡ whole_at (codes "rows") (view object.now)) }
-    ensures fault { IfErr result (λ f. rows_fault table.grid.rows (view object.now) ≡ Some f) }
+    ensures fault { IfErr result (λ f. keys_fault PLAIN (view object.now) table.grid_keys ≡ Some f) }
 {
-    let west = whole_between(object, key(37), "west", -MAX_PLACE, MAX_PLACE)?;
-    let south = whole_between(object, key(38), "south", -MAX_PLACE, MAX_PLACE)?;
-    let cell = whole_between(object, key(39), "cell", 1, MAX_CELL)?;
-    let cols = whole_between(object, key(40), "cols", 1, MAX_GRID_LINES as i64)?;
-    let rows = whole_between(object, key(41), "rows", 1, MAX_GRID_LINES as i64)?;
+    let west = whole(object, &WEST, PLAIN)?;
+    let south = whole(object, &SOUTH, PLAIN)?;
+    let cell = whole(object, &CELL, PLAIN)?;
+    let cols = whole(object, &GRID_COLS, PLAIN)?;
+    let rows = whole(object, &GRID_ROWS, PLAIN)?;
     Ok(GridSpec {
         west,
         south,
@@ -204,36 +207,20 @@ fn grid_numbers(object: &Value) -> Result<GridSpec, CalibFault>
     })
 }
 
-/// The grid that an object is, or its first fault.
-#[tactic(auto, unfolding(crate::specs::Judge::held_fault))]
-fn grid_object(object: &Value) -> Result<GridSpec, CalibFault>
-    ensures ok { OnOk result (held_fault table.grid (view object.now) ≡ None) }
-    ensures value { IfOk result (λ g. g ≡ grid_of (view object.now)) }
-    ensures kept { IfOk result IsGridSpec }
-    ensures cols { IfOk result (λ g. pos g.cols ≡ whole_at (codes "cols") (view object.now)) }
-    ensures rows { IfOk result (λ g. pos g.rows ≡ whole_at (codes "rows") (view object.now)) }
-    ensures fault { IfErr result (λ f. held_fault table.grid (view object.now) ≡ Some f) }
-{
-    check_object(object, key(36), &GRID_NAMES)?;
-    grid_numbers(object)
-}
-
 /// The grid, where there is one.
 #[tactic(auto, unfolding(crate::specs::Judge::section_fault, crate::specs::Judge::grid_in))]
 pub fn grid(top: &Value) -> Result<Option<GridSpec>, CalibFault>
     ensures ok { OnOk result (section_fault (view top.now) table.grid ≡ None) }
     ensures value { IfOk result (λ g. g ≡ grid_in (view top.now)) }
     ensures kept { IfOk result (λ g. IfSome g IsGridSpec) }
-    ensures cols { IfOk result (λ g. IfSome g (λ spec. pos spec.cols ≡ number_at (codes "grid") (codes "cols") (view top.now))) }
-    ensures rows { IfOk result (λ g. IfSome g (λ spec. pos spec.rows ≡ number_at (codes "grid") (codes "rows") (view top.now))) }
-    ensures asked { IfOk result (λ g. IfSome (get (codes "regions") (view top.now)) (λ _. IsTrue (is_some g))) }
+    ensures asked { IfOk result (λ g. IfSome (get table.region_list.name (view top.now)) (λ _. IsTrue (is_some g))) }
     ensures fault { IfErr result (λ f. section_fault (view top.now) table.grid ≡ Some f) }
 {
-    match top.get("grid") {
-        None if top.get("regions").is_some() => Err(CalibFault::Missing(key(36))),
+    let found = object_in(top, &GRID)?;
+    match found {
         None => Ok(None),
         Some(object) => {
-            let grid = grid_object(object)?;
+            let grid = grid_of(object)?;
             Ok(Some(grid))
         }
     }

@@ -1,5 +1,5 @@
 -- Words and their bits.
-use Rattle.std.proofs.Common.{◌≡◌, ℕ, ◌+◌, ◌-◌, ◌*◌, ◌/◌, ◌%◌, ◌^◌, ◌<◌, ◌≤◌, zero, suc, Bool, true, false, eqb, List, [], ◌∷◌, ◌++◌, length, refl, sym, ap, ◌∙◌, subst, arith, append_assoc, append-nil, length-append, bit_xor, count_ones, ◌⊎◌, inl, inr, drop}
+use Rattle.std.proofs.Common.{◌≡◌, ℕ, ◌+◌, ◌*◌, ◌/◌, ◌%◌, ◌^◌, ◌<◌, ◌≤◌, zero, suc, Bool, true, false, eqb, List, [], ◌∷◌, ◌++◌, length, refl, sym, ap, ◌∙◌, subst, arith, append_assoc, append-nil, length-append, bit_xor, count_ones, ◌⊎◌, inl, inr, drop}
 use Rattle.std.specs.List.{remove}
 use Rattle.std.proofs.lemmas.Bool.{cases_lt}
 use Rattle.std.proofs.lemmas.List.{take_at, drop_at}
@@ -40,16 +40,6 @@ bits_of-pushed n w m (b ∷ bs) e =
 pushed_one : (w : ℕ) (b : Bool) → 2 * w + from_bool b + 1 ≤ 2 * (w + 1)
 pushed_one w true = omega arith
 pushed_one w false = omega arith
-
--- there is room for one bit more
-pub room_more : (w m n k : ℕ) (b : Bool) → k < n → (w + 1) * 2 ^ (n - k) ≤ m → (2 * w + from_bool b + 1) * 2 ^ (n - (k + 1)) ≤ m
-room_more w m n k b h room =
-    let p = 2 ^ (n - (k + 1)) in
-    let more : (2 * w + from_bool b + 1) * p ≤ (2 * (w + 1)) * p = mul-le-mul_right p (pushed_one w b) in
-    let less : n - k ≡ suc (n - (k + 1)) = omega arith in
-    let power : 2 ^ (n - k) ≡ p * 2 = ap (λ z. 2 ^ z) less ∙ pow-suc 2 (n - (k + 1)) in
-    let whole : (w + 1) * 2 ^ (n - k) ≡ (w + 1) * (p * 2) = ap (λ z. (w + 1) * z) power in
-    omega (arith, room, more, whole)
 
 pub pushed_below : (w : ℕ) (bs : List Bool) → pushed w bs + 1 ≤ (w + 1) * 2 ^ length bs
 pushed_below w [] = omega arith

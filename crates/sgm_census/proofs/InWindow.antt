@@ -135,13 +135,3 @@ pub rows_more : {X : Type 0} (f : ℕ → List X) (n : ℕ) → flat_map f (rang
 rows_more f n =
     let next : n + 1 ≡ suc n = omega arith in
     ap (λ k. flat_map f (range_with_len 0 k)) next ∙ rows-push f 0 n n (omega arith)
-
-pub length-window_rows : (plane : Values) (window : WindowSides) (x y n : ℕ) → length (flat_map (window_row plane window x y) (range_with_len 0 n)) ≡ n * window.width
-length-window_rows plane window x y n = length-rows (window_row plane window x y) window.width 0 n (λ j. length-map-range_with_len (λ i. value_near plane window x y i j) 0 window.width)
-
-pub length-window_row : (plane : Values) (window : WindowSides) (x y j : ℕ) → length (window_row plane window x y j) ≡ window.width
-length-window_row plane window x y j = length-map-range_with_len (λ i. value_near plane window x y i j) 0 window.width
-
-pub window_values-is : (plane : Values) (window : WindowSides) (x y n : ℕ) → n ≡ window.height → flat_map (window_row plane window x y) (range_with_len 0 n) ≡ window_values plane window x y
-unfolding window_values
-window_values-is plane window x y n e = ap (λ k. flat_map (window_row plane window x y) (range_with_len 0 k)) e

@@ -1,9 +1,7 @@
 -- What is less than a centre, list by list.
-use Rattle.std.proofs.Common.{◌≡◌, ℕ, ◌+◌, ◌*◌, ◌^◌, ◌<◌, ◌≤◌, zero, suc, Bool, ltb, List, [], ◌∷◌, ◌++◌, map, length, take, get_or, Option, Some, None, option_map, refl, sym, ap, ◌∙◌, arith}
-use Rattle.std.proofs.lemmas.List.{take_more, map-append, length-map}
-use Rattle.sgm_census.proofs.Bits.{pushed_below}
+use Rattle.std.proofs.Common.{◌≡◌, ℕ, ◌+◌, ◌*◌, ◌<◌, zero, suc, Bool, ltb, List, [], ◌∷◌, ◌++◌, map, length, get_or, Option, Some, None, option_map, refl, sym, ap, ◌∙◌, arith}
+use Rattle.std.proofs.lemmas.List.{map-append, length-map}
 use Rattle.sgm_census.specs.Codes.{all_there, less_than}
-use Rattle.std.specs.List.{flat_map}
 use Rattle.std.specs.Int.{from_bool}
 use Rattle.sgm_census.specs.Packed.{pushed}
 
@@ -47,66 +45,17 @@ pub less_than_none : (centre : ℕ) (xs : List (Option ℕ)) (k : ℕ) (d : Opti
 unfolding less_than
 less_than_none centre xs k d h e = ap (λ o. option_map (map (λ v. ltb v centre)) o) (all_there_none xs k d h e)
 
-pub less_than-nil : (centre : ℕ) → less_than centre [] ≡ Some []
-unfolding less_than
-less_than-nil centre = refl
-
 pub less_than-one : (centre v : ℕ) → less_than centre (Some v ∷ []) ≡ Some (ltb v centre ∷ [])
 unfolding less_than
 less_than-one centre v = refl
 
-pushed-push : (w : ℕ) (bs : List Bool) (b : Bool) → pushed w (bs ++ b ∷ []) ≡ 2 * pushed w bs + from_bool b
+pub pushed-push : (w : ℕ) (bs : List Bool) (b : Bool) → pushed w (bs ++ b ∷ []) ≡ 2 * pushed w bs + from_bool b
 pushed-push w [] b = refl
 pushed-push w (x ∷ bs) b = pushed-push (2 * w + from_bool x) bs b
 
-pushed_joined : (w word : ℕ) (o : Option (List Bool)) (b : Bool) → option_map (pushed w) o ≡ Some word → option_map (pushed w) (joined o (Some (b ∷ []))) ≡ Some (2 * word + from_bool b)
-pushed_joined w word None b e = cc
-pushed_joined w word (Some bs) b e =
-    let same : pushed w bs ≡ word = cc in
-    ap (λ n. Some n) (pushed-push w bs b ∙ ap (λ n. 2 * n + from_bool b) same)
-
--- one value more
-pub pushed_more : (w word centre v : ℕ) (xs : List (Option ℕ)) (k : ℕ) (d : Option ℕ) → k < length xs → get_or xs k d ≡ Some v → option_map (pushed w) (less_than centre (take k xs)) ≡ Some word
-    → option_map (pushed w) (less_than centre (take (k + 1) xs)) ≡ Some (2 * word + from_bool (ltb v centre))
-pushed_more w word centre v xs k d h e f =
-    ap (λ ys. option_map (pushed w) (less_than centre ys)) (take_more xs k d h ∙ ap (λ y. take k xs ++ y ∷ []) e)
-    ∙ ap (λ o. option_map (pushed w) o) (less_than-append centre (take k xs) (Some v ∷ []) ∙ ap (λ o. joined (less_than centre (take k xs)) o) (less_than-one centre v))
-    ∙ pushed_joined w word (less_than centre (take k xs)) (ltb v centre) f
-
-pushed-append : (w : ℕ) (xs ys : List Bool) → pushed w (xs ++ ys) ≡ pushed (pushed w xs) ys
+pub pushed-append : (w : ℕ) (xs ys : List Bool) → pushed w (xs ++ ys) ≡ pushed (pushed w xs) ys
 pushed-append w [] ys = refl
 pushed-append w (x ∷ xs) ys = pushed-append (2 * w + from_bool x) xs ys
-
-pushed_both : (w word more : ℕ) (o p : Option (List Bool)) → option_map (pushed w) o ≡ Some word → option_map (pushed word) p ≡ Some more → option_map (pushed w) (joined o p) ≡ Some more
-pushed_both w word more None p e f = cc
-pushed_both w word more (Some bs) None e f = cc
-pushed_both w word more (Some bs) (Some cs) e f =
-    let same : pushed w bs ≡ word = cc in
-    ap (λ n. Some n) (pushed-append w bs cs ∙ ap (λ n. pushed n cs) same) ∙ f
-
--- one part more
-pub pushed_part : (w word more centre : ℕ) (xs ys : List (Option ℕ)) → option_map (pushed w) (less_than centre xs) ≡ Some word → option_map (pushed word) (less_than centre ys) ≡ Some more
-    → option_map (pushed w) (less_than centre (xs ++ ys)) ≡ Some more
-pushed_part w word more centre xs ys e f =
-    ap (λ o. option_map (pushed w) o) (less_than-append centre xs ys) ∙ pushed_both w word more (less_than centre xs) (less_than centre ys) e f
-
-joined_none : {X : Type 0} (a b : Option (List X)) → b ≡ None → joined a b ≡ None
-joined_none None b e = refl
-joined_none (Some xs) None e = refl
-joined_none (Some xs) (Some ys) e = cc
-
--- a part in which a value is missing
-pub less_than_none_part : {X : Type 0} (centre : ℕ) (f : X → List (Option ℕ)) (xs : List X) (k : ℕ) (d : X) → k < length xs → less_than centre (f (get_or xs k d)) ≡ None
-    → less_than centre (flat_map f xs) ≡ None
-less_than_none_part centre f [] k d h e = absurd (omega arith)
-less_than_none_part centre f (x ∷ xs) zero d h e =
-    less_than-append centre (f x) (flat_map f xs) ∙ ap (λ o. joined o (less_than centre (flat_map f xs))) e
-less_than_none_part centre f (x ∷ xs) (suc k) d h e =
-    less_than-append centre (f x) (flat_map f xs) ∙ joined_none (less_than centre (f x)) (less_than centre (flat_map f xs)) (less_than_none_part centre f xs k d (omega arith) e)
-
-pub mapped_none : {X Y : Type 0} (f : X → Y) (o : Option X) → option_map f o ≡ None → o ≡ None
-mapped_none f None e = refl
-mapped_none f (Some x) e = cc
 
 pub mapped_some : {X Y : Type 0} (f : X → Y) (o : Option X) (y : Y) → option_map f o ≡ Some y → (x : X) × (o ≡ Some x) × (f x ≡ y)
 mapped_some f None y e = cc
@@ -127,10 +76,3 @@ unfolding less_than
 length-less_than centre xs bs e =
     let w = mapped_some (map (λ v. ltb v centre)) (all_there xs) bs e in
     omega (arith, length-all_there xs w.0 w.1, ap length w.2, length-map w.0 (λ v. ltb v centre))
-
--- so a word that begins with no bits stays below the power of their number
-pub pushed_small : (centre word : ℕ) (xs : List (Option ℕ)) → option_map (pushed 0) (less_than centre xs) ≡ Some word → word + 1 ≤ 2 ^ length xs
-pushed_small centre word xs e =
-    let w = mapped_some (pushed 0) (less_than centre xs) word e in
-    let same : 2 ^ length w.0 ≡ 2 ^ length xs = ap (λ n. 2 ^ n) (length-less_than centre xs w.0 w.1) in
-    omega (arith, pushed_below 0 w.0, w.2, same)

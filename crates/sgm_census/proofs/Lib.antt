@@ -1,12 +1,12 @@
 pub mod Bits
 pub mod Centres
 pub mod CodeLists
-pub mod CodeRows
-pub mod CodeWords
 pub mod CostRows
 pub mod CostWords
 pub mod Examples
 pub mod InWindow
 pub mod LessThan
 pub mod Limits
-pub mod WindowWords
+pub mod RowBits
+pub mod PlainCodes
+pub mod CodeRows

@@ -1,5 +1,5 @@
 -- The limits of the problem that is matched.
-use Rattle.std.proofs.Common.{◌≡◌, ℕ, ◌+◌, ◌<◌, ◌≤◌, arith}
+use Rattle.std.proofs.Common.{ℕ, ◌≤◌, arith}
 use Rattle.sgm_base.specs.declared.limits.TheConstants.{MAX_COST, MAX_PENALTY}
 use Rattle.sgm_base.specs.Disparities.{Disparities}
 use Rattle.sgm_energy.specs.Rays.{Problem}

@@ -1,7 +1,8 @@
 -- How a plane of codes lies in memory: a word for each pixel, whose bits are its code, and whether it has one. Each
 -- row stands from right to left, so that the right codes of one left pixel, index by index, stand in order.
-use Rattle.std.specs.Prelude.{◌≡◌, ℕ, ◌+◌, ◌-◌, ◌*◌, ◌/◌, ◌%◌, ◌^◌, ◌<◌, Bool, ◌==◌, false, if◌then◌else◌, List, [], ◌∷◌, ◌++◌, length, slice_index, slice_index_or, Option, Some, None, zero, suc}
+use Rattle.std.specs.Prelude.{◌≡◌, ℕ, ◌+◌, ◌-◌, ◌*◌, ◌/◌, ◌%◌, ◌^◌, ◌<◌, Bool, ◌==◌, nat_lt, false, if◌then◌else◌, List, [], ◌∷◌, ◌++◌, length, map, take, drop, slice_index, slice_index_or, Option, Some, None, zero, suc}
 use Rattle.std.specs.Int.{from_bool}
+use Rattle.std.specs.List.{flat_map, list_all, range_with_len}
 use Rattle.sgm_base.specs.Sides.{IsSide}
 use Rattle.sgm_census.specs.Windows.{WindowSides, IsWindow, greatest_of}
 use Rattle.sgm_census.specs.Codes.{Codes, code_in}
@@ -52,6 +53,32 @@ pub record HoldsCodes (plane : Codes) (y : ℕ) (words : List ℕ) (present : Li
 abbrev pub pushed : ℕ → List Bool → ℕ
 pushed word [] = word
 pushed word (b ∷ bs) = pushed (2 * word + from_bool b) bs
+
+-- for each value whether it is less than the centre
+abbrev pub lesser : ℕ → List ℕ → List Bool
+lesser centre values = map (λ v. nat_lt v centre) values
+
+-- a word without its bit m
+abbrev pub without : ℕ → ℕ → ℕ
+without m word = word / 2 ^ (m + 1) * 2 ^ m + word % 2 ^ m
+
+-- In rows so wide that stand one after the other: what stands in the window whose first column is `from` and whose
+-- first row is `top`, row by row, and what stands in its centre
+abbrev pub in_rows : {X : Type 0} → ℕ → List X → WindowSides → ℕ → ℕ → List X
+in_rows width rows window from top =
+    flat_map (λ j. take window.width (drop from (take width (drop ((top + j) * width) rows)))) (range_with_len 0 window.height)
+
+abbrev pub centre_in : ℕ → List ℕ → WindowSides → ℕ → ℕ → ℕ
+centre_in width values window from top = slice_index values ((top + window.height / 2) * width + window.width / 2 + from)
+
+-- the code of that window as a word, where void pixels count as 0
+abbrev pub word_in : ℕ → List ℕ → WindowSides → ℕ → ℕ → ℕ
+word_in width values window from top =
+    without (window.width * window.height / 2) (pushed 0 (lesser (centre_in width values window from top) (in_rows width values window from top)))
+
+-- whether all its values are there
+abbrev pub all_in : ℕ → List Bool → WindowSides → ℕ → ℕ → Bool
+all_in width there window from top = list_all (λ t. t) (in_rows width there window from top)
 
 -- words of n bits
 pub record HoldsSmall (n : ℕ) (words : List ℕ) : Type 0 where

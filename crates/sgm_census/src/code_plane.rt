@@ -1,9 +1,9 @@
-ghost use Rattle.std.specs.Prelude.{◌≡◌, ◌<◌, IfOk};
+ghost use Rattle.std.specs.Prelude.{◌≡◌, ◌<◌, map, is_some, unwrap_or, IfOk};
 ghost use Rattle.sgm_census.specs.Codes.{Codes, IsCodes, codes_of};
 ghost use Rattle.sgm_census.specs.Packed.{codes_in, IsPacked, HoldsCodes};
 
 use crate::Window;
-use crate::pack::code_rows;
+use crate::pack::{Plain, code_rows};
 use sgm_base::{Plane, Size};
 use std::alloc::{AllocError, Global};
 use std::marker::Model;
@@ -13,7 +13,7 @@ use std::marker::Model;
 pub struct CodePlane {
     size: Size,
     window: Window,
-    // A pixel's code, its first truth value in the highest bit, or 0. Each row from right to left.
+    // A pixel's code, its first truth value in the highest bit, or no matter what. Each row from right to left.
     words: Vec<u64>,
     // Whether the pixel has a code, in the order of the words.
     present: Vec<bool>,
@@ -63,6 +63,28 @@ impl CodePlane {
     }
 }
 
+/// A plane's values, row by row, 0 where it is void.
+fn values_of(alloc: Global, plane: &Plane) -> Result<Vec<u16>, AllocError>
+    ensures { IfOk result (λ v. v.items ≡ map (λ o. unwrap_or o 0) plane.now.entries) }
+{
+    plane
+        .entries()
+        .iter()
+        .map(|entry| entry.unwrap_or(0))
+        .collect(alloc)
+}
+
+/// Whether a plane has a value, pixel by pixel.
+fn marks_of(alloc: Global, plane: &Plane) -> Result<Vec<bool>, AllocError>
+    ensures { IfOk result (λ v. v.items ≡ map is_some plane.now.entries) }
+{
+    plane
+        .entries()
+        .iter()
+        .map(|entry| entry.is_some())
+        .collect(alloc)
+}
+
 /// The codes of a plane. A code has a truth value for each pixel of the window round its pixel, row by row
 /// without the centre: whether that neighbour is less than the centre. There is none where a pixel of the
 /// window is void or outside.
@@ -72,9 +94,23 @@ pub fn codes(alloc: Global, plane: &Plane, window: Window) -> Result<CodePlane, 
     // Known from here on: the window's range.
     let _ = &window.width;
     let size = plane.size();
+    let values = values_of(alloc, plane)?;
+    let there = marks_of(alloc, plane)?;
+    let plain = Plain {
+        values: &values,
+        there: &there,
+    };
+    let mut bits = vec![in alloc; 0u16; size.width as usize]?;
     let mut words = vec![in alloc; 0u64; size.pixels()]?;
     let mut present = vec![in alloc; false; size.pixels()]?;
-    code_rows(plane, window, words.as_mut_slice(), present.as_mut_slice());
+    code_rows(
+        plane,
+        window,
+        plain,
+        bits.as_mut_slice(),
+        words.as_mut_slice(),
+        present.as_mut_slice(),
+    );
     Ok(CodePlane {
         size,
         window,

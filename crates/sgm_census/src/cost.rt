@@ -4,26 +4,11 @@ ghost use Rattle.sgm_census.specs.Costs.{cost_between, census_cost};
 ghost use Rattle.sgm_census.specs.Packed.{bits_of, unpacked, HoldsSmall};
 
 use crate::code_plane::{CodePlane, CodeRow};
-use sgm_base::{MAX_COST, Overlap, Span};
+use sgm_base::{MAX_COST, MAX_COUNT, Overlap, Span};
 use sgm_lanes::hamming;
 
-/// Writes the value into each cell.
-fn set_all(into: &mut [u8], value: u8)
-    ensures { EachIndex into.new (λ k. slice_index into.new k ≡ value) }
-{
-    for cell in into.iter_mut() {
-        *cell = value;
-    }
-}
-
-/// Writes the word into each cell.
-fn repeat(word: u64, into: &mut [u64])
-    ensures { EachIndex into.new (λ k. slice_index into.new k ≡ word) }
-{
-    for cell in into.iter_mut() {
-        *cell = word;
-    }
-}
+/// The words that a code is written to, one for each index.
+const INDICES: usize = MAX_COUNT as usize;
 
 /// Replaces by `greatest` the costs where there is no code.
 fn mask(present: &[bool], greatest: u8, into: &mut [u8])
@@ -53,7 +38,7 @@ fn cost_each(
     ensures { EachIndex into.new (λ k. slice_index into.new k
         ≡ cost_between greatest (Some (bits_of greatest code)) (unpacked greatest words.now present.now k)) }
 {
-    repeat(code, repeated);
+    repeated.fill(code);
     hamming(repeated, words, into);
     mask(present, greatest, into);
 }
@@ -81,14 +66,14 @@ fn cost_pixel(
         (option_and_then (unpacked greatest right.entry.words.now right.entry.present.now) (left_column (length left.entry.words.now) span.first place d)) }
 {
     if !left.present[place] {
-        set_all(into, greatest);
+        into.fill(greatest);
         return;
     }
     let there = Overlap::of(left.words.len(), span, place);
     let end = there.start + there.len;
     let (before, rest) = into.split_at_mut(there.skipped);
     let (inside, after) = rest.split_at_mut(there.len);
-    set_all(before, greatest);
+    before.fill(greatest);
     cost_each(
         left.words[place],
         &right.words[there.start..end],
@@ -97,7 +82,7 @@ fn cost_pixel(
         &mut repeated[..there.len],
         inside,
     );
-    set_all(after, greatest);
+    after.fill(greatest);
 }
 
 /// Writes the costs of the row `y`: that of the column x and the index d, which stands for the disparity
@@ -118,7 +103,7 @@ pub fn cost_row(left: &CodePlane, right: &CodePlane, span: Span, y: u32, into: &
     let greatest = left.window().greatest();
     let (left, right) = (left.row(y), right.row(y));
     let width = left.words.len();
-    let mut repeated = [0; 256];
+    let mut repeated = [0; INDICES];
     for x in 0..width {
         let (_, rest) = into.split_at_mut(x * count);
         let (cells, _) = rest.split_at_mut(count);

@@ -1,115 +1,225 @@
-//! Codes as words.
+//! Codes as words, a row of pixels at a time, so that many neighbours are compared with their centres at
+//! once.
 
-ghost use Rattle.std.specs.Prelude.{◌≡◌, ℕ, ◌+◌, ◌-◌, ◌*◌, ◌/◌, ◌%◌, ◌^◌, ◌<◌, ◌≤◌, length, slice_index, option_map, IfSome, slice_index_or, false};
-ghost use Rattle.sgm_base.specs.Values.{IsValues};
+ghost use Rattle.std.specs.Prelude.{◌≡◌, ℕ, ◌+◌, ◌-◌, ◌*◌, ◌/◌, ◌%◌, ◌^◌, ◌<◌, ◌≤◌, ◌&&◌, nat_lt, length, map, take, drop, slice_index, slice_index_or, is_some, unwrap_or, false, EachIndex};
+ghost use Rattle.std.specs.Int.{from_bool};
+ghost use Rattle.std.specs.List.{list_all};
 ghost use Rattle.sgm_census.specs.Windows.{greatest_of};
-ghost use Rattle.sgm_census.specs.Codes.{less_than, window_values, code_at};
-ghost use Rattle.sgm_census.specs.Packed.{pushed, bits_of, unpacked, word_place};
+ghost use Rattle.sgm_census.specs.Codes.{code_at};
+ghost use Rattle.sgm_base.specs.Values.{IsValues};
+ghost use Rattle.sgm_census.specs.Packed.{pushed, lesser, in_rows, centre_in, all_in, word_in, without, unpacked, word_place};
 
 use crate::Window;
-use sgm_base::Plane;
+use sgm_base::{MAX_WINDOW_WIDTH, Plane};
 
-/// The word with a bit more for each value: whether it is less than the centre. None where a value is
-/// missing.
-fn with_values(word: u64, values: &[Option<u16>], centre: u16) -> Option<u64>
-    requires { (word + 1) * 2 ^ length values.now ≤ 2 ^ 63 }
-    ensures { result ≡ option_map (pushed word) (less_than centre values.now) }
+/// A plane's values, row by row, 0 where it is void, and whether there is a value.
+#[derive(Clone, Copy)]
+pub(crate) struct Plain<'a> {
+    pub(crate) values: &'a [u16],
+    pub(crate) there: &'a [bool],
+}
+
+/// Pushes a bit for each place: whether the value is less than the centre.
+fn push_bits(values: &[u16], centres: &[u16], bits: &mut [u16])
+    requires values_length { length values.now ≡ length bits.old }
+    requires centres_length { length centres.now ≡ length bits.old }
+    requires room { (k : ℕ) → k < length bits.old → slice_index bits.old k < 2 ^ 15 }
+    ensures { EachIndex bits.new (λ k. slice_index bits.new k
+        ≡ 2 * slice_index bits.old k + from_bool (nat_lt (slice_index values.now k) (slice_index centres.now k))) }
 {
-    let mut word = word;
-    for value in values {
-        let value = (*value)?;
-        word = 2 * word + u64::from(value < centre);
+    for k in 0..bits.len() {
+        bits[k] = 2 * bits[k] + u16::from(values[k] < centres[k]);
     }
-    Some(word)
+}
+
+/// The word with so many bits more.
+#[inline]
+fn appended(word: u64, bits: u16, by: u32) -> u64
+    requires few { by < 16 }
+    requires small { bits < 2 ^ by }
+    requires room { (word + 1) * 2 ^ by ≤ 2 ^ 63 }
+    ensures { result ≡ word * 2 ^ by + bits }
+{
+    (word << by) + u64::from(bits)
+}
+
+/// Appends to each word its bits.
+fn append(bits: &[u16], by: u32, words: &mut [u64])
+    requires bits_length { length bits.now ≡ length words.old }
+    requires few { by < 16 }
+    requires small { (k : ℕ) → k < length words.old → slice_index bits.now k < 2 ^ by }
+    requires room { (k : ℕ) → k < length words.old → (slice_index words.old k + 1) * 2 ^ by ≤ 2 ^ 63 }
+    ensures { EachIndex words.new (λ k. slice_index words.new k ≡ slice_index words.old k * 2 ^ by + slice_index bits.now k) }
+{
+    for k in 0..words.len() {
+        words[k] = appended(words[k], bits[k], by);
+    }
+}
+
+/// Pushes to each word the bits of a row of its window, which is so wide. What `bits` holds before does
+/// not matter.
+fn push_row(row: &[u16], centres: &[u16], wide: usize, bits: &mut [u16], words: &mut [u64])
+    requires wide { wide ≤ MAX_WINDOW_WIDTH }
+    requires row_length { length row.now + 1 ≡ length words.old + wide }
+    requires centres_length { length centres.now ≡ length words.old }
+    requires bits_length { length bits.old ≡ length words.old }
+    requires room { (k : ℕ) → k < length words.old → (slice_index words.old k + 1) * 2 ^ wide ≤ 2 ^ 63 }
+    ensures { EachIndex words.new (λ k. slice_index words.new k
+        ≡ pushed (slice_index words.old k) (lesser (slice_index centres.now k) (take wide (drop k row.now)))) }
+{
+    bits.fill(0);
+    let len = bits.len();
+    for i in 0..wide {
+        push_bits(&row[i..i + len], centres, bits);
+    }
+    append(bits, wide as u32, words);
+}
+
+/// Keeps the marks where there is another.
+fn keep(there: &[bool], present: &mut [bool])
+    requires { length there.now ≡ length present.old }
+    ensures { EachIndex present.new (λ k. slice_index_or present.new k false
+        ≡ (slice_index_or present.old k false && slice_index_or there.now k false)) }
+{
+    for k in 0..present.len() {
+        present[k] = present[k] & there[k];
+    }
+}
+
+/// Keeps the marks where all values of a row of the window are there.
+fn keep_row(row: &[bool], wide: usize, present: &mut [bool])
+    requires { length row.now + 1 ≡ length present.old + wide }
+    ensures { EachIndex present.new (λ k. slice_index_or present.new k false
+        ≡ (slice_index_or present.old k false && list_all (λ t. t) (take wide (drop k row.now)))) }
+{
+    let len = present.len();
+    for i in 0..wide {
+        keep(&row[i..i + len], present);
+    }
 }
 
 /// The word without the bit above its lowest `half`.
 fn without_centre(word: u64, half: u32) -> u64
     requires { half < 32 }
-    ensures { result ≡ word / 2 ^ (half + 1) * 2 ^ half + word % 2 ^ half }
+    ensures { result ≡ without half word }
 {
     let low = word & ((1 << half) - 1);
     ((word >> (half + 1)) << half) | low
 }
 
-/// The bits of all values of the window round the pixel (x, y), which lies in the plane. None where a
-/// value is missing.
-fn window_word(plane: &Plane, window: Window, x: usize, y: u32, centre: u16) -> Option<u64>
-    requires kept { IsValues plane.now }
-    requires left { window.width / 2 ≤ x }
-    requires right { x + window.width / 2 < plane.now.width }
-    requires top { window.height / 2 ≤ y }
-    requires bottom { y + window.height / 2 < plane.now.height }
-    ensures { result ≡ option_map (pushed 0) (less_than centre (window_values plane.now window x y)) }
+/// Takes the bits of the centres out.
+fn drop_centres(words: &mut [u64], half: u32)
+    requires { half < 32 }
+    ensures { EachIndex words.new (λ k. slice_index words.new k ≡ without half (slice_index words.old k)) }
 {
-    let from = x - (window.width / 2) as usize;
-    let to = from + window.width as usize;
-    let top = y - window.height / 2;
-    let mut word = 0;
-    for j in 0..window.height {
-        word = with_values(word, &plane.row(top + j)[from..to], centre)?;
+    for word in words.iter_mut() {
+        *word = without_centre(*word, half);
     }
-    Some(word)
 }
 
-/// The code of the pixel (x, y) as a word, or None where it has none.
-fn code(plane: &Plane, window: Window, x: usize, y: u32) -> Option<u64>
-    requires column { x < plane.now.width }
-    requires row { y < plane.now.height }
-    ensures value { code_at plane.now window x y ≡ option_map (bits_of (greatest_of window)) result }
-    ensures within { IfSome result (λ w. w < 2 ^ greatest_of window) }
-{
-    let size = plane.size();
-    let across = (window.width / 2) as usize;
-    let down = window.height / 2;
-    if x < across || size.width as usize - x <= across || y < down || size.height - y <= down {
-        return None;
-    }
-    let centre = plane.row(y)[x]?;
-    let word = window_word(plane, window, x, y, centre)?;
-    Some(without_centre(word, window.width * window.height / 2))
-}
-
-/// Writes the codes of the row `y` from right to left, from the place `at` on.
-fn code_row(
-    plane: &Plane,
+/// Writes for each column the bits of all values of the window whose first column it is and whose first
+/// row is `top`. The rows of the values are so wide.
+fn window_words(
+    values: &[u16],
+    width: usize,
     window: Window,
-    y: u32,
-    at: usize,
+    top: usize,
+    bits: &mut [u16],
+    words: &mut [u64],
+)
+    requires rows { (top + window.height) * width ≤ length values.now }
+    requires columns { length words.old + window.width ≡ width + 1 }
+    requires bits_length { length bits.old ≡ length words.old }
+    ensures { EachIndex words.new (λ k. slice_index words.new k
+        ≡ pushed 0 (lesser (centre_in width values.now window k top) (in_rows width values.now window k top))) }
+{
+    let len = words.len();
+    let (wide, high) = (window.width as usize, window.height as usize);
+    let centre = (top + high / 2) * width + wide / 2;
+    words.fill(0);
+    for j in 0..high {
+        let from = (top + j) * width;
+        let row = &values[from..from + width];
+        push_row(row, &values[centre..centre + len], wide, bits, words);
+    }
+}
+
+/// Writes for each column whether all values of its window are there.
+fn window_marks(there: &[bool], width: usize, window: Window, top: usize, present: &mut [bool])
+    requires rows { (top + window.height) * width ≤ length there.now }
+    requires columns { length present.old + window.width ≡ width + 1 }
+    ensures { EachIndex present.new (λ k. slice_index_or present.new k false ≡ all_in width there.now window k top) }
+{
+    let (wide, high) = (window.width as usize, window.height as usize);
+    present.fill(true);
+    for j in 0..high {
+        let from = (top + j) * width;
+        keep_row(&there[from..from + width], wide, present);
+    }
+}
+
+/// Writes the codes of a row whose windows have their first row at `top`: those of the columns whose windows
+/// lie in the plane, from right to left.
+fn code_row(
+    plain: Plain,
+    width: usize,
+    window: Window,
+    top: usize,
+    bits: &mut [u16],
     words: &mut [u64],
     present: &mut [bool],
 )
-    requires row { y < plane.now.height }
-    requires words_room { at + plane.now.width ≤ length words.old }
-    requires present_room { at + plane.now.width ≤ length present.old }
-    requires within { (k : ℕ) → slice_index words.old k < 2 ^ greatest_of window }
-    ensures words_before { (k : ℕ) → k < at → slice_index words.new k ≡ slice_index words.old k }
-    ensures present_before { (k : ℕ) → k < at → slice_index_or present.new k false ≡ slice_index_or present.old k false }
-    ensures each { (x : ℕ) → x < plane.now.width
-        → unpacked (greatest_of window) words.new present.new (at + (plane.now.width - 1 - x)) ≡ code_at plane.now window x y }
-    ensures within { (k : ℕ) → slice_index words.new k < 2 ^ greatest_of window }
+    requires rows { (top + window.height) * width ≤ length plain.values.now }
+    requires there_length { length plain.there.now ≡ length plain.values.now }
+    requires columns { length words.old + window.width ≡ width + 1 }
+    requires bits_length { length bits.old ≡ length words.old }
+    requires present_length { length present.old ≡ length words.old }
+    ensures words { (k : ℕ) → k < length words.new → slice_index words.new k
+        ≡ word_in width plain.entry.values.now window (length words.new - 1 - k) top }
+    ensures present { (k : ℕ) → k < length words.new → slice_index_or present.new k false
+        ≡ all_in width plain.entry.there.now window (length words.new - 1 - k) top }
 {
-    let width = plane.size().width as usize;
-    for x in 0..width {
-        let place = at + (width - 1 - x);
-        let code = code(plane, window, x, y);
-        words[place] = code.unwrap_or(0);
-        present[place] = code.is_some();
-    }
+    window_words(plain.values, width, window, top, bits, words);
+    window_marks(plain.there, width, window, top, present);
+    drop_centres(words, window.width * window.height / 2);
+    words.reverse();
+    present.reverse();
 }
 
-/// Writes the codes of the plane, row by row, each row from right to left.
-pub(crate) fn code_rows(plane: &Plane, window: Window, words: &mut [u64], present: &mut [bool])
+/// Writes the codes of the plane, row by row, each row from right to left. What `bits`, as wide as the plane,
+/// holds before does not matter.
+pub(crate) fn code_rows(
+    plane: &Plane,
+    window: Window,
+    plain: Plain,
+    bits: &mut [u16],
+    words: &mut [u64],
+    present: &mut [bool],
+)
+    requires values { plain.values.now ≡ map (λ o. unwrap_or o 0) plane.now.entries }
+    requires there { plain.there.now ≡ map is_some plane.now.entries }
+    requires kept { IsValues plane.now }
+    requires bits_length { length bits.old ≡ plane.now.width }
     requires words_length { length words.old ≡ plane.now.width * plane.now.height }
     requires present_length { length present.old ≡ plane.now.width * plane.now.height }
     requires within { (k : ℕ) → slice_index words.old k < 2 ^ greatest_of window }
+    requires none { (k : ℕ) → slice_index_or present.old k false ≡ false }
     ensures each { (x y : ℕ) → x < plane.now.width → y < plane.now.height
         → unpacked (greatest_of window) words.new present.new (word_place plane.now.width x y) ≡ code_at plane.now window x y }
     ensures within { (k : ℕ) → slice_index words.new k < 2 ^ greatest_of window }
 {
-    let size = plane.size();
-    for y in 0..size.height {
-        let at = y as usize * size.width as usize;
-        code_row(plane, window, y, at, words, present);
+    let (width, height) = (plane.size().width as usize, plane.size().height as usize);
+    let (across, down) = (window.width as usize / 2, window.height as usize / 2);
+    if width <= 2 * across {
+        return;
+    }
+    let len = width - 2 * across;
+    let (bits, _) = bits.split_at_mut(len);
+    for y in down..height.saturating_sub(down) {
+        let (_, rest) = words.split_at_mut(y * width + across);
+        let (row_words, _) = rest.split_at_mut(len);
+        let (_, rest) = present.split_at_mut(y * width + across);
+        let (row_present, _) = rest.split_at_mut(len);
+        code_row(plain, width, window, y - down, bits, row_words, row_present);
     }
 }

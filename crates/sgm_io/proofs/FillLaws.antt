@@ -1,5 +1,5 @@
 -- Filling up to a length at which it stops.
-use Rattle.std.proofs.Common.{◌≡◌, ℕ, ◌+◌, ◌<◌, Bool, true, false, ◌||◌, refl, sym, ap, ◌∙◌, arith, inl, inr}
+use Rattle.std.proofs.Common.{◌≡◌, ℕ, ◌+◌, ◌<◌, Bool, true, false, refl, sym, ap, ◌∙◌, arith, inl, inr}
 use Rattle.sgm_io.specs.Piece.{FillsUpTo}
 
 -- the same lengths

@@ -20,7 +20,7 @@ struct Open<F> {
 }
 
 /// The real files. It tells no bytes. Its one count, of all calls that failed, is both counts of
-/// every name.
+/// every name. It keeps the names that it began and didn't finish.
 #[derive(Drop)]
 pub struct DiskShelf<'a, R: Files> {
     rt: &'a R,

@@ -94,16 +94,10 @@ fn each_trip_fails_one_call(rt: HostRuntime) -> Result<(), Fail> {
         bytes_of(alloc, &mut shelf, "a")?.as_slice(),
         b"abc".as_slice()
     );
-    assert_eq!(rt; shelf.create("a"), Ok(()));
-    assert_eq!(rt; shelf.create("b"), Err(KeepError::Failed));
+    assert_eq!(rt; keep(&mut shelf, "b", b"12"), Err(KeepError::Failed));
+    assert_eq!(rt; keep(&mut shelf, "b", b"12"), Err(KeepError::Failed));
     assert!(rt; !shelf.is_writing());
-    assert_eq!(rt; shelf.create("b"), Ok(()));
-    assert!(rt; shelf.is_writing());
-    assert_eq!(rt; shelf.finish(), Err(KeepError::Failed));
-    assert!(rt; !shelf.is_writing());
-    assert_eq!(rt; shelf.create("b"), Ok(()));
-    assert!(rt; shelf.is_writing());
-    assert_eq!(rt; shelf.finish(), Ok(()));
+    assert_eq!(rt; keep(&mut shelf, "b", b"12"), Ok(()));
     Ok(())
 }
 
@@ -113,32 +107,16 @@ fn an_append_stops_at_its_trip(rt: HostRuntime) -> Result<(), Fail> {
     let mut trips = Vec::new(alloc);
     trips.push(Trip::AppendAt {
         name: text(alloc, "b")?,
-        length: 7,
-    })?;
-    trips.push(Trip::AppendAt {
-        name: text(alloc, "b")?,
         length: 4,
     })?;
-    trips.push(Trip::AppendAt {
-        name: text(alloc, "a")?,
-        length: 2,
-    })?;
     let mut shelf = MemoryShelf::make(alloc, one_file(alloc)?, trips)?;
-    assert_eq!(rt; shelf.create("b"), Ok(()));
-    assert!(rt; shelf.is_writing());
+    assert_eq!(rt; keep(&mut shelf, "b", b"123456789"), Err(KeepError::Failed));
     assert_eq!(rt;
-        append_whole(&mut shelf, b"123456789"),
-        Err(KeepError::Failed)
+        bytes_of(alloc, &mut shelf, "b")?.as_slice(),
+        b"1234".as_slice()
     );
     assert!(rt; shelf.is_writing());
-    assert_eq!(rt; shelf.append(b""), Ok(0));
-    assert_eq!(rt; shelf.append(b"56789"), Ok(3));
-    assert!(rt; shelf.is_writing());
-    assert_eq!(rt; shelf.append(b"89"), Err(KeepError::Failed));
-    assert!(rt; shelf.is_writing());
-    assert_eq!(rt; shelf.append(b"89"), Ok(2));
-    assert!(rt; shelf.is_writing());
-    assert_eq!(rt; shelf.finish(), Ok(()));
+    assert_eq!(rt; shelf.append(b"56789"), Ok(5));
     assert_eq!(rt;
         bytes_of(alloc, &mut shelf, "b")?.as_slice(),
         b"123456789".as_slice()
@@ -158,16 +136,11 @@ fn a_sure_shelf_holds_every_name(rt: HostRuntime) -> Result<(), Fail> {
         bytes_of(alloc, &mut shelf, "b")?.as_slice(),
         b"".as_slice()
     );
-    assert_eq!(rt; shelf.create("b"), Ok(()));
-    assert!(rt; shelf.is_writing());
-    assert_eq!(rt; append_whole(&mut shelf, b"12"), Ok(()));
-    assert!(rt; shelf.is_writing());
-    assert_eq!(rt; shelf.append(b"3"), Ok(1));
-    assert!(rt; shelf.is_writing());
-    assert_eq!(rt; shelf.finish(), Ok(()));
+    assert_eq!(rt; keep(&mut shelf, "b", b"12"), Ok(()));
+    assert!(rt; !shelf.is_writing());
     assert_eq!(rt;
         bytes_of(alloc, &mut shelf, "b")?.as_slice(),
-        b"123".as_slice()
+        b"12".as_slice()
     );
     Ok(())
 }

@@ -1,7 +1,4 @@
-pub mod CostRows
-pub mod Parts
 pub mod Passing
 pub mod Pointing
-pub mod Selected
+pub mod Through
 pub mod Surveying
-pub mod Sweeping

@@ -1,5 +1,5 @@
 -- What a pair without a fault keeps.
-use Rattle.std.proofs.Common.{◌≡◌, ℕ, ◌*◌, ◌≤◌, ℤ, List, Bor, Bool, true, false, not, ◌&&◌, if◌then◌else◌, ◌==◌, nat_lt, Option, Some, None, Result, Ok, Err, refl, sym, ap, ◌∙◌, subst, arith}
+use Rattle.std.proofs.Common.{◌≡◌, ◌≤◌, ℤ, List, Bor, Bool, true, false, not, ◌&&◌, if◌then◌else◌, ◌==◌, nat_lt, Option, Some, None, Ok, Err, refl, sym, ap, ◌∙◌, subst}
 use Rattle.std.specs.Prelude.{All, IfSome, option_map}
 use Rattle.std.specs.Option.{option_or}
 use Rattle.std.proofs.lemmas.Bool.{eqb-true, ltb-false}
@@ -112,17 +112,6 @@ same_width left right a b calib ea eb pass = ap (λ (s : Sides). s.width) (sym e
 
 pub same_height : (left right : Picture) (a b : Sides) (calib : Calibration) → a ≡ sides_of left → b ≡ sides_of right → Passes a b calib → left.height ≡ right.height
 same_height left right a b calib ea eb pass = ap (λ (s : Sides). s.height) (sym ea ∙ pass.same ∙ eb)
-
--- the planes' volume isn't too large
-pub plane_room : (left : Picture) (calib : Calibration) (a b : Sides) (warp : Warp) (plane : Values) (count : ℕ) → a ≡ sides_of left → plane ≡ rectified_values left warp → count ≡ calib.span.count
-    → Passes a b calib → plane.width * plane.height * count ≤ MAX_VOLUME
-plane_room left calib a b warp plane count ea ep ec pass =
-    subst (λ n. n ≤ MAX_VOLUME)
-    (sym (
-    ap (λ w. w * plane.height * count) (plane_width left warp plane ep ∙ ap (λ (s : Sides). s.width) (sym ea))
-    ∙ ap (λ h. a.width * h * count) (plane_height left warp plane ep ∙ ap (λ (s : Sides). s.height) (sym ea))
-    ∙ ap (λ n. a.width * a.height * n) ec))
-    pass.room
 
 grid_ranges : (camera : Option Camera) (spec : Option GridSpec) (first : ℤ) (map : Values) (grid : Cells) → Some grid ≡ grid_of camera spec first map → Some grid.spec ≡ spec
 unfolding highest

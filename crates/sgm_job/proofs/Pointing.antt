@@ -1,5 +1,5 @@
 -- The points of a map, and the grid that they make.
-use Rattle.std.proofs.Common.{◌≡◌, ℕ, zero, suc, ◌+◌, ◌*◌, ◌/◌, ◌%◌, ◌<◌, ◌≤◌, List, [], ◌∷◌, ◌++◌, length, get_or, Option, Some, None, ℤ, refl, sym, ap, ◌∙◌, subst, arith}
+use Rattle.std.proofs.Common.{◌≡◌, ℕ, zero, suc, ◌+◌, ◌*◌, ◌/◌, ◌%◌, ◌<◌, List, [], ◌∷◌, ◌++◌, length, get_or, Option, Some, None, ℤ, refl, sym, ap, ◌∙◌, arith}
 use Rattle.std.specs.Prelude.{fold}
 use Rattle.std.specs.List.{filter_map, flat_map, range_with_len}
 use Rattle.std.proofs.lemmas.List.{length-set, length-replicate}
@@ -19,7 +19,7 @@ use Rattle.sgm_grid.specs.declared.grid_spec.GridSpec.{GridSpec}
 use Rattle.sgm_grid.specs.Cells.{Cells, cells_of, height_at, cell_index}
 use Rattle.sgm_grid.specs.Points.{added, cell_after, cell_of, empty_grid, raised}
 use Rattle.sgm_grid.proofs.Added.{highest_of_points}
-use Rattle.sgm_job.specs.Heights.{point_at, points_of_row, points_of, highest}
+use Rattle.sgm_job.specs.Heights.{point_at, points_of_row, highest}
 
 -- ---- one place more
 

@@ -1,72 +1,28 @@
--- Which of its answers a survey gives, and how great a disparity is.
-use Rattle.std.proofs.Common.{◌≡◌, ℕ, ◌+◌, ◌*◌, ◌/◌, ◌%◌, ◌<◌, ◌≤◌, zero, suc, Bool, true, false, cond, eqb, ltb, Option, Some, None, Ok, Err, unwrap_or, option_and_then, refl, sym, ap, ◌∙◌, subst, inl, inr, arith}
-use Rattle.std.specs.Prelude.{IfSome, ℤ}
-use Rattle.std.specs.List.{filter, find, range_with_len}
-use Rattle.std.proofs.lemmas.Bool.{cases_Bool, cases_eq, eq-eqb, ne_eqb, lt-ltb, le-ltb}
-use Rattle.std.proofs.lemmas.List.Elements.{All-map}
+-- Which of its answers a survey gives.
+use Rattle.std.proofs.Common.{◌≡◌, ℕ, ap, ◌∙◌}
 use Rattle.sgm_base.specs.Picture.{Picture}
 use Rattle.sgm_base.specs.Disparities.{Disparities}
 use Rattle.sgm_base.specs.Values.{Values}
 use Rattle.sgm_calib.specs.Calibration.{Calibration}
-use Rattle.sgm_base.specs.Values.{row_by_row, value_at}
-use Rattle.sgm_base.specs.Columns.{right_column}
+use Rattle.sgm_census.specs.Matching.{plane_problem}
 use Rattle.sgm_census.specs.Windows.{WindowSides}
-use Rattle.sgm_energy.specs.Energies.{path_sum}
-use Rattle.sgm_energy.specs.Rays.{Pixel, pixel_at, Problem}
-use Rattle.sgm_select.specs.Selection.{agree, base, checked, disparity, least_index, matched}
-use Rattle.sgm_base.specs.Values.{AtMost}
-use Rattle.sgm_job.specs.Survey.{disparities, disparities_of, left_plane, matching, right_plane}
+use Rattle.sgm_select.specs.Selection.{disparities_of}
+use Rattle.sgm_job.specs.Survey.{disparities, left_plane, right_plane}
+
+-- the disparities of two planes, as they are matched
+abbrev pub matched_planes : Values → Values → WindowSides → Disparities → ℕ → ℕ → Values
+matched_planes left right window span p1 p2 = disparities_of (plane_problem left right window span p1 p2) left right span.first
 
 -- the map of the planes is that of the images
-pub map_is : (left right : Picture) (calib : Calibration) (a b : Values) (span : Disparities) (window : WindowSides) (p1 far : ℕ) → a ≡ left_plane left calib → b ≡ right_plane right calib → span ≡ calib.span → window ≡ calib.window
-    → p1 ≡ calib.penalties.p1 → far ≡ calib.penalties.p2
-    → disparities_of (matching a b span window (record { p1 = p1; p2 = far })) a b span.first ≡ disparities left right calib
-map_is left right calib a b span window p1 far ea eb es ew en ef =
-    ap (λ p. disparities_of (matching p b span window (record { p1 = p1; p2 = far })) p b span.first) ea
-    ∙ ap (λ p. disparities_of (matching (left_plane left calib) p span window (record { p1 = p1; p2 = far })) (left_plane left calib) p span.first) eb
-    ∙ ap (λ s. disparities_of (matching (left_plane left calib) (right_plane right calib) s window (record { p1 = p1; p2 = far })) (left_plane left calib) (right_plane right calib) s.first) es
-    ∙ ap (λ w. disparities_of (matching (left_plane left calib) (right_plane right calib) calib.span w (record { p1 = p1; p2 = far })) (left_plane left calib) (right_plane right calib) calib.span.first) ew
-    ∙ ap (λ n. disparities_of (matching (left_plane left calib) (right_plane right calib) calib.span calib.window (record { p1 = n; p2 = far })) (left_plane left calib) (right_plane right calib) calib.span.first) en
-    ∙ ap (λ n. disparities_of (matching (left_plane left calib) (right_plane right calib) calib.span calib.window (record { p1 = calib.penalties.p1; p2 = n })) (left_plane left calib) (right_plane right calib) calib.span.first) ef
-
--- ---- no disparity is above 16 times the greatest index
-find_inside : (p counts : ℕ → Bool) (a n b : ℕ) → find p (filter counts (range_with_len a n)) ≡ Some b → b < a + n
-find_inside p counts a zero b e = cc
-find_inside p counts a (suc n) b e = elim (cases_Bool (counts a)) [
-  | inr ek ↦ (let rest = rw ek at e in omega (arith, find_inside p counts (a + 1) n b rest))
-  | inl ek ↦ elim (cases_Bool (p a)) [
-    | inl et ↦ (let here : Some a ≡ Some b = rw (ek, et) at e in let same : a ≡ b = cc in omega arith)
-    | inr et ↦ (let rest = rw (ek, et) at e in omega (arith, find_inside p counts (a + 1) n b rest))
-  ]
-]
-
-or_zero : (o : Option ℕ) (n : ℕ) → 0 < n → ((b : ℕ) → o ≡ Some b → b < n) → unwrap_or o 0 < n
-or_zero None n h f = h
-or_zero (Some b) n h f = f b refl
-
-base_inside : (g : Problem) (p : Pixel) → 0 < g.count → base g p < g.count
-unfolding base least_index
-base_inside g p h = or_zero (least_index (λ _. true) (path_sum g p) g.count) g.count h (λ b e. omega (arith, find_inside _ (λ _. true) 0 g.count b e))
-
-checked_low : (b top : ℕ) (left right m : Option ℕ) → 16 * b ≤ top → IfSome (checked b left right m) (λ v. v ≤ top)
-checked_low b top None right m h = tt
-checked_low b top (Some l) None m h = tt
-checked_low b top (Some l) (Some r) None h = tt
-checked_low b top (Some l) (Some r) (Some m) h = elim (agree b m) as (λ t. IfSome (cond t (Some (16 * b)) None) (λ v. v ≤ top)) [ true ↦ h | false ↦ tt ]
-
-and_then_low : {X : Type 0} (f : X → Option ℕ) (o : Option X) (top : ℕ) → ((x : X) → IfSome (f x) (λ v. v ≤ top)) → IfSome (option_and_then f o) (λ v. v ≤ top)
-and_then_low f None top h = tt
-and_then_low f (Some x) top h = h x
-
-disparity_low : (g : Problem) (left right : Values) (first : ℤ) (p : Pixel) → 0 < g.count → g.count ≤ 256 → IfSome (disparity g left right first p) (λ v. v ≤ 4080)
-unfolding disparity
-disparity_low g left right first p some few =
-    let b = base g p in
-    and_then_low (λ q. checked b (value_at left p.x p.y) (value_at right q p.y) (matched g first q p.y)) (right_column g.width first p.x b) 4080
-    (λ q. checked_low b 4080 (value_at left p.x p.y) (value_at right q p.y) (matched g first q p.y) (omega (arith, base_inside g p some)))
-
-pub rows_low : (g : Problem) (left right : Values) (first : ℤ) → 0 < g.count → g.count ≤ 256 → AtMost 4080 (row_by_row g.width g.height (λ x y. disparity g left right first (pixel_at x y)))
-unfolding row_by_row
-rows_low g left right first some few =
-    All-map (λ entry. IfSome entry (λ value. value ≤ 4080)) (λ k. disparity g left right first (pixel_at (k % g.width) (k / g.width))) (range_with_len 0 (g.width * g.height))
-    (λ k d h. disparity_low g left right first _ some few)
+pub map_is : (left right : Picture) (calib : Calibration) (a b : Values) (span : Disparities) (window : WindowSides) (p1 p2 : ℕ)
+    → a ≡ left_plane left calib → b ≡ right_plane right calib → span ≡ calib.span → window ≡ calib.window
+    → p1 ≡ calib.penalties.p1 → p2 ≡ calib.penalties.p2 → matched_planes a b window span p1 p2 ≡ disparities left right calib
+map_is left right calib a b span window p1 p2 ea eb es ew en ef =
+    let l = left_plane left calib in
+    let r = right_plane right calib in
+    ap (λ p. matched_planes p b window span p1 p2) ea
+    ∙ ap (λ p. matched_planes l p window span p1 p2) eb
+    ∙ ap (λ s. matched_planes l r window s p1 p2) es
+    ∙ ap (λ w. matched_planes l r w calib.span p1 p2) ew
+    ∙ ap (λ n. matched_planes l r calib.window calib.span n p2) en
+    ∙ ap (λ n. matched_planes l r calib.window calib.span calib.penalties.p1 n) ef

@@ -1,4 +1,4 @@
+pub mod Answers
 pub mod Heights
+pub mod Matching
 pub mod Survey
-pub mod Surveys
-pub mod Volumes

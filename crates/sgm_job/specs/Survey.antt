@@ -1,19 +1,14 @@
 -- The survey of a pair of images: the disparities, the grid of heights and the tallies, or why the pair is refused.
-use Rattle.std.specs.Prelude.{ℕ, ◌*◌, Bool, ◌==◌, nat_lt, ◌&&◌, not, if◌then◌else◌, List, map, Option, Some, None, option_map, Result, Ok, Err, ℤ}
+use Rattle.std.specs.Prelude.{ℕ, ◌*◌, Bool, ◌==◌, nat_lt, ◌&&◌, not, if◌then◌else◌, List, map, Option, Some, None, option_map, Result, Ok, Err}
 use Rattle.std.specs.Option.{option_or}
 use Rattle.sgm_base.specs.declared.limits.TheConstants.{MAX_VOLUME}
 use Rattle.sgm_base.specs.declared.side.Side.{Side}
 use Rattle.sgm_base.specs.declared.side.Side.TheVariants.{Left, Right}
 use Rattle.sgm_base.specs.Sides.{Sides}
 use Rattle.sgm_base.specs.Picture.{Picture}
-use Rattle.sgm_base.specs.Values.{Values, values_of}
-use Rattle.sgm_base.specs.Disparities.{Disparities}
-use Rattle.sgm_census.specs.Windows.{WindowSides}
-use Rattle.sgm_census.specs.Codes.{codes_of}
-use Rattle.sgm_base.specs.Values.{row_by_row}
-use Rattle.sgm_census.specs.Costs.{census_cost}
-use Rattle.sgm_energy.specs.Rays.{pixel_at, Problem, fixed_problem}
-use Rattle.sgm_select.specs.Selection.{disparity}
+use Rattle.sgm_base.specs.Values.{Values}
+use Rattle.sgm_census.specs.Matching.{plane_problem}
+use Rattle.sgm_select.specs.Selection.{disparities_of}
 use Rattle.sgm_rectify.specs.declared.warp.Warp.{Warp}
 use Rattle.sgm_rectify.specs.Faults.{warp_fault}
 use Rattle.sgm_rectify.specs.Rectified.{rectified_values, sides_of}
@@ -21,24 +16,12 @@ use Rattle.sgm_grid.specs.Cells.{Cells}
 use Rattle.sgm_report.specs.Areas.{Area}
 use Rattle.sgm_report.specs.Tallies.{tally_of}
 use Rattle.sgm_report.specs.declared.volumes.RegionTally.{RegionTally}
-use Rattle.sgm_calib.specs.Calibration.{Calibration, Penalties}
+use Rattle.sgm_calib.specs.Calibration.{Calibration}
 use Rattle.sgm_job.specs.Heights.{grid_of}
 use Rattle.sgm_job.specs.declared.job.SurveyFault.{SurveyFault}
 use Rattle.sgm_job.specs.declared.job.SurveyFault.TheVariants as fault
 
 -- ---- the disparities
-
--- the problem of matching two planes: the cost of an index at a pixel is that of the census codes
-abbrev pub matching : Values → Values → Disparities → WindowSides → Penalties → Problem
-matching left right span window penalties =
-    let left_codes = codes_of left window in
-    let right_codes = codes_of right window in
-    fixed_problem left.width left.height span.count (λ p d. census_cost left_codes right_codes span.first p.x p.y d) penalties.p1 penalties.p2
-
--- the disparity of each pixel, row by row
-abbrev pub disparities_of : Problem → Values → Values → ℤ → Values
-disparities_of g left right first =
-    values_of g.width g.height (row_by_row g.width g.height (λ x y. disparity g left right first (pixel_at x y)))
 
 -- the planes that are matched: the rectified images
 abbrev pub left_plane : Picture → Calibration → Values
@@ -47,14 +30,12 @@ left_plane left calib = rectified_values left calib.left
 abbrev pub right_plane : Picture → Calibration → Values
 right_plane right calib = rectified_values right calib.right
 
--- the problem of matching two images
-abbrev pub problem_of : Picture → Picture → Calibration → Problem
-problem_of left right calib = matching (left_plane left calib) (right_plane right calib) calib.span calib.window calib.penalties
-
 -- the disparities of the left image
 abbrev pub disparities : Picture → Picture → Calibration → Values
 disparities left right calib =
-    disparities_of (problem_of left right calib) (left_plane left calib) (right_plane right calib) calib.span.first
+    let a = left_plane left calib in
+    let b = right_plane right calib in
+    disparities_of (plane_problem a b calib.window calib.span calib.penalties.p1 calib.penalties.p2) a b calib.span.first
 
 -- ---- what a survey answers
 

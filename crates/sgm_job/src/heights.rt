@@ -1,12 +1,14 @@
 //! From the disparities to the grid of heights.
 
-ghost use Rattle.std.specs.Prelude.{◌≡◌, ◌≤◌, ◌<◌, ◌^◌, pos, negsuc, ◌≤ℤ◌, ◌+ℤ◌, ◌*ℤ◌, IfOk, IfSome, fold, length, Option, option_and_then, slice_index_or, None};
+ghost use Rattle.std.specs.Prelude.{◌≡◌, ◌≤◌, ◌<◌, ◌^◌, pos, ◌+ℤ◌, ◌*ℤ◌, IfOk, IfSome, fold, length, Option, option_and_then, slice_index_or, None};
 ghost use Rattle.std.specs.List.{filter_map, range_with_len};
 ghost use Rattle.sgm_height.specs.Camera.{IsCamera};
 ghost use Rattle.sgm_base.specs.Ranges.{Within};
 ghost use Rattle.sgm_grid.specs.Cells.{IsGridSpec};
 ghost use Rattle.sgm_grid.specs.Points.{added};
+ghost use Rattle.sgm_base.specs.Disparities.{IsFirst};
 ghost use Rattle.sgm_base.specs.Values.{AtMost};
+ghost use Rattle.sgm_base.specs.declared.limits.TheConstants.{MAX_DISPARITY, MAX_SIDE};
 ghost use Rattle.sgm_job.specs.Heights.{point_at, points_of, grid_of};
 
 use sgm_base::{DispMap, Point, Span};
@@ -16,9 +18,8 @@ use std::alloc::{AllocError, Global};
 
 /// The disparity in sixteenths of a pixel that a value of the map stands for.
 fn sixteenths(first: i32, value: u16) -> i32
-    requires first_low { negsuc 1023 ≤ℤ first }
-    requires first_high { first ≤ℤ pos 1024 }
-    requires value { value ≤ 4080 }
+    requires first { IsFirst first }
+    requires value { value ≤ MAX_DISPARITY }
     ensures exact { result ≡ (pos 16 *ℤ first) +ℤ pos value }
     ensures near { Within 32768 result }
 {
@@ -28,11 +29,10 @@ fn sixteenths(first: i32, value: u16) -> i32
 /// The point that a pixel shows, where it has a disparity and a point.
 fn pixel_point(camera: &Camera, first: i32, x: u32, y: u32, value: Option<u16>) -> Option<Point>
     requires camera { IsCamera camera.now }
-    requires first_low { negsuc 1023 ≤ℤ first }
-    requires first_high { first ≤ℤ pos 1024 }
-    requires x { x < 4096 }
-    requires y { y < 4096 }
-    requires value { IfSome value (λ v. v ≤ 4080) }
+    requires first { IsFirst first }
+    requires x { x < MAX_SIDE }
+    requires y { y < MAX_SIDE }
+    requires value { IfSome value (λ v. v ≤ MAX_DISPARITY) }
     ensures exact { result ≡ option_and_then (point_at camera.now first x y) value }
     ensures height { IfSome result (λ p. Within 2000000000 p.h) }
     ensures east { IfSome result (λ p. Within (2 ^ 60) p.x) }
@@ -47,9 +47,9 @@ fn pixel_point(camera: &Camera, first: i32, x: u32, y: u32, value: Option<u16>) 
 /// Adds the points of a row of disparities, each in sixteenths from the first disparity of the span on.
 fn add_row(camera: &Camera, span: Span, y: u32, row: &[Option<u16>], grid: &mut Grid)
     requires camera { IsCamera camera.now }
-    requires y { y < 4096 }
-    requires width { length row.now ≤ 4096 }
-    requires values { AtMost 4080 row.now }
+    requires y { y < MAX_SIDE }
+    requires width { length row.now ≤ MAX_SIDE }
+    requires values { AtMost MAX_DISPARITY row.now }
     ensures { grid.new ≡ fold added grid.old (filter_map (λ x. option_and_then (point_at camera.now span.first x y) (slice_index_or row.now x None)) (range_with_len 0 (length row.now))) }
 {
     for x in 0..row.len() {
@@ -63,7 +63,7 @@ fn add_row(camera: &Camera, span: Span, y: u32, row: &[Option<u16>], grid: &mut 
 #[tactic(auto, unfolding(crate::specs::Heights::points_of))]
 fn add_points(camera: &Camera, span: Span, map: &DispMap, grid: &mut Grid)
     requires camera { IsCamera camera.now }
-    requires values { AtMost 4080 map.now.entries }
+    requires values { AtMost MAX_DISPARITY map.now.entries }
     ensures { grid.new ≡ fold added grid.old (points_of camera.now span.first map.now) }
 {
     for y in 0..map.size().height {
@@ -81,7 +81,7 @@ pub(crate) fn heights(
 ) -> Result<Option<Grid>, AllocError>
     requires camera { IfSome camera IsCamera }
     requires spec { IfSome spec IsGridSpec }
-    requires values { AtMost 4080 map.now.entries }
+    requires values { AtMost MAX_DISPARITY map.now.entries }
     ensures { IfOk result (λ grid. grid ≡ grid_of camera spec span.first map.now) }
 {
     let (Some(camera), Some(spec)) = (camera, spec) else {

@@ -1,12 +1,13 @@
 ghost use Rattle.std.specs.Prelude.{◌≡◌, ◌≤◌, IfOk, Some, None};
 ghost use Rattle.sgm_rectify.specs.Warps.{IsWarp};
 ghost use Rattle.sgm_base.specs.Values.{AtMost};
+ghost use Rattle.sgm_base.specs.declared.limits.TheConstants.{MAX_DISPARITY, MAX_STRIPS, MAX_WORKERS};
 ghost use Rattle.sgm_job.specs.Survey.{pair_fault, side_fault, surveyed};
-ghost use Rattle.sgm_job.specs.Surveys.{Surveys};
+ghost use Rattle.sgm_job.specs.Answers.{Answers};
 
-use crate::disparities::disparity_map;
 use crate::heights::heights;
-use crate::volumes::tallies;
+use crate::matching::disparity_map;
+use crate::tallies::tallies;
 use sgm_base::{DispMap, Image, MAX_VOLUME, Side, Size};
 use sgm_calib::Calib;
 use sgm_grid::Grid;
@@ -19,7 +20,7 @@ use std::alloc::{AllocError, Global};
 pub enum SurveyFault {
     /// The widths or the heights differ.
     SizesDiffer { left: Size, right: Size },
-    /// width * height * count is above 268,435,456.
+    /// width * height * count is above [`MAX_VOLUME`].
     VolumeTooLarge { cells: u64 },
     /// The image of this side can't be rectified by its warp.
     Warp { side: Side, fault: WarpFault },
@@ -95,8 +96,8 @@ fn pair_fault(left: Size, right: Size, calib: &Calib) -> Option<SurveyFault>
 /// Surveys a pair of images: rectifies them, matches them, and gives for each pixel of the left one the index
 /// of its disparity in sixteenths, or None where the match isn't the same from the right or a pixel is void;
 /// the grid of the greatest heights where the calibration has one; and the tally of each region where it has
-/// regions. Faults are seen to before memory is taken, in the order of [`SurveyFault`]. `strips` is 1 to 64
-/// and `workers` 1 to 16; neither changes anything yet.
+/// regions. Faults are seen to before memory is taken, in the order of [`SurveyFault`]. The image is cut into
+/// `strips`, or as many as it has rows; neither they nor the workers change the answer.
 pub fn survey(
     alloc: Global,
     left: &Image,
@@ -105,19 +106,28 @@ pub fn survey(
     strips: u32,
     workers: u32,
 ) -> Result<Surveyed, SurveyError>
-    requires strips { (1 ≤ strips) × (strips ≤ 64) }
-    requires workers { (1 ≤ workers) × (workers ≤ 16) }
-    ensures exact { Surveys (surveyed left.now right.now calib.now) result }
-    ensures bound { IfOk result (λ survey. AtMost 4080 survey.disp.entries) }
+    requires strips { (1 ≤ strips) × (strips ≤ MAX_STRIPS) }
+    requires workers { (1 ≤ workers) × (workers ≤ MAX_WORKERS) }
+    ensures exact { Answers (surveyed left.now right.now calib.now) result }
+    ensures bound { IfOk result (λ survey. AtMost MAX_DISPARITY survey.disp.entries) }
 {
-    let _ = (strips, workers);
+    // One thread does the work.
+    let _ = workers;
     if let Some(fault) = pair_fault(left.size(), right.size(), calib) {
         return Err(SurveyError::Fault(fault));
     }
     let span = calib.span();
     let left = rectify(alloc, left, calib.left())?;
     let right = rectify(alloc, right, calib.right())?;
-    let disp = disparity_map(alloc, &left, &right, span, calib.window(), calib.pen())?;
+    let disp = disparity_map(
+        alloc,
+        &left,
+        &right,
+        span,
+        calib.window(),
+        calib.pen(),
+        strips,
+    )?;
     let grid = heights(alloc, calib.camera(), calib.grid(), span, &disp)?;
     let tallies = tallies(alloc, grid.as_ref(), calib.regions())?;
     Ok(Surveyed {

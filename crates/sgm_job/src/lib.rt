@@ -2,12 +2,10 @@
 //! tallies of its regions.
 #![tactic(auto)]
 
-mod costs;
-mod disparities;
 mod heights;
 mod job;
-mod sweep;
-mod volumes;
+mod matching;
+mod tallies;
 
 pub use job::{SurveyError, SurveyFault, Surveyed, survey};
 

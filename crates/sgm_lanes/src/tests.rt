@@ -1,18 +1,124 @@
+// Each kernel against a plain loop, at every length up to eight chunks and a rest.
+ghost use Rattle.std.specs.Prelude.{◌≡◌, ◌<◌, ◌≤◌, length, All};
+
 use super::{add, hamming, least, step};
 
-#[test]
-fn bits_that_differ(rt: HostRuntime) {
-    let mut into = [9u8; 3];
-    hamming(&[0, 5, u64::MAX], &[0, 6, 0], &mut into);
-    assert!(rt; into == [0, 2, 64]);
+const MOST: usize = 130;
+
+/// Numbers below `end` that differ from place to place.
+fn values(end: u16) -> [u16; MOST]
+    requires { 0 < end }
+    ensures len { length result ≡ MOST }
+    ensures below { All (λ x. x < end) result }
+{
+    let mut values = [0u16; MOST];
+    let mut value = 1u16;
+    for x in values.iter_mut() {
+        value = value.wrapping_mul(2531).wrapping_add(4001);
+        *x = value % end;
+    }
+    values
+}
+
+/// Costs that differ from place to place.
+fn costs() -> [u8; MOST]
+    ensures len { length result ≡ MOST }
+    ensures below { All (λ x. x ≤ 62) result }
+{
+    let mut costs = [0u8; MOST];
+    let mut cost = 1u8;
+    for x in costs.iter_mut() {
+        cost = cost.wrapping_mul(77).wrapping_add(31);
+        *x = cost % 63;
+    }
+    costs
+}
+
+/// Words that differ from place to place.
+fn words(first: u64) -> [u64; MOST]
+    ensures { length result ≡ MOST }
+{
+    let mut words = [0u64; MOST];
+    let mut word = first;
+    for x in words.iter_mut() {
+        word = word
+            .wrapping_mul(6364136223846793005)
+            .wrapping_add(1442695040888963407);
+        *x = word;
+    }
+    words
 }
 
 #[test]
-fn least_of_some(rt: HostRuntime) {
-    for (v, want) in [([7u16, 3, 9], 3u16), ([1, 2, 3], 1), ([5, 5, 2], 2)] {
-        assert_eq!(rt; least(&v), want);
+fn hamming_of_every_length(rt: HostRuntime) {
+    let (a, b) = (words(1), words(2));
+    for n in 0..MOST + 1 {
+        let mut into = [99u8; MOST];
+        hamming(&a[..n], &b[..n], &mut into[..n]);
+        for k in 0..MOST {
+            let want = if k < n {
+                (a[k] ^ b[k]).count_ones()
+            } else {
+                99
+            };
+            assert_eq!(rt; u32::from(into[k]), want, "at {k} of {n}");
+        }
     }
-    assert_eq!(rt; least(&[4062]), 4062);
+    let mut into = [99u8; 2];
+    hamming(&[0, u64::MAX], &[0, 0], &mut into);
+    assert!(rt; into == [0, 64]);
+}
+
+#[test]
+fn least_of_every_length(rt: HostRuntime) {
+    let values = values(4063);
+    for n in 1..MOST + 1 {
+        let some = &values[..n];
+        assert!(rt; Some(least(some)) == some.iter().copied().min(), "of {n}");
+    }
+}
+
+#[test]
+fn add_of_every_length(rt: HostRuntime) {
+    let (sums, values) = (values(40000), values(4063));
+    for n in 0..MOST + 1 {
+        let mut into = sums;
+        add(&mut into[..n], &values[..n]);
+        for k in 0..MOST {
+            let more = if k < n { values[k] } else { 0 };
+            assert_eq!(rt; into[k], sums[k].wrapping_add(more), "at {k} of {n}");
+        }
+    }
+}
+
+/// The step at one index, in wider numbers.
+fn stepped(prev: &[u16], floor: u16, cost: u8, p1: u16, p2: u16, d: usize) -> u32 {
+    let value = |k: usize| prev.get(k).map_or(u32::MAX, |v| u32::from(*v));
+    let beside = value(d.wrapping_sub(1)).min(value(d.wrapping_add(1)));
+    let near = value(d).min(beside.saturating_add(u32::from(p1)));
+    let lowest = near.min(u32::from(floor) + u32::from(p2));
+    u32::from(cost)
+        .wrapping_add(lowest)
+        .wrapping_sub(u32::from(floor))
+}
+
+#[test]
+fn step_of_every_length(rt: HostRuntime) {
+    let (near, wide, costs) = (values(150), values(4063), costs());
+    for n in 1..MOST + 1 {
+        for (values, p1, p2) in [(&near[..n], 7u16, 60u16), (&wide[..n], 4000, 4000)] {
+            let mut into = [9999u16; MOST];
+            let floor = least(values);
+            step(values, floor, &costs[..n], p1, p2, &mut into[..n]);
+            for d in 0..n {
+                assert_eq!(rt;
+                    u32::from(into[d]),
+                    stepped(values, floor, costs[d], p1, p2, d),
+                    "at {d} of {n}"
+                );
+            }
+        }
+    }
 }
 
 #[test]
@@ -31,11 +137,4 @@ fn steps_from_values_to_values(rt: HostRuntime) {
     let prev = [10u16, 2, 9, 20];
     step(&prev, least(&prev), &[1, 2, 3, 4], 4, 6, &mut four);
     assert!(rt; four == [5, 2, 7, 10]);
-}
-
-#[test]
-fn sums_entry_by_entry(rt: HostRuntime) {
-    let mut sum = [1u16, 2, 61473];
-    add(&mut sum, &[10, 20, 4062]);
-    assert!(rt; sum == [11, 22, 65535]);
 }

@@ -2,6 +2,7 @@
 ghost use Rattle.std.specs.Prelude.{◌≡◌, ℕ, ◌+◌, ◌-◌, ◌<◌, ◌≤◌, ◌⊎◌, length, slice_index, EachIndex, All};
 ghost use Rattle.sgm_path.specs.Paths.{Follows};
 
+use sgm_base::{MAX_COST, MAX_PATH_VALUE, MAX_PENALTY};
 use sgm_lanes::{least, step};
 
 /// The values of a pixel from those of the pixel before.
@@ -10,11 +11,11 @@ fn follow(prev: &[u16], costs: &[u8], p1: u16, far: u16, into: &mut [u16])
     requires some { 0 < length prev.now }
     requires prev_length { length prev.now ≡ length into.old }
     requires costs_length { length costs.now ≡ length into.old }
-    requires penalties { (p1 ≤ far) × (far ≤ 4000) }
-    requires values { All (λ v. v ≤ 4062) prev.now }
-    requires costs { All (λ c. c ≤ 62) costs.now }
+    requires penalties { (p1 ≤ far) × (far ≤ MAX_PENALTY) }
+    requires values { All (λ v. v ≤ MAX_PATH_VALUE) prev.now }
+    requires costs { All (λ c. c ≤ MAX_COST) costs.now }
     ensures each { EachIndex into.new (λ d. Follows (slice_index prev.now) (length prev.now) p1 far (slice_index costs.now d) d (slice_index into.new d)) }
-    ensures bound { All (λ v. v ≤ 4062) into.new }
+    ensures bound { All (λ v. v ≤ MAX_PATH_VALUE) into.new }
 {
     step(prev, least(prev), costs, p1, far, into);
 }
@@ -24,10 +25,10 @@ fn follow(prev: &[u16], costs: &[u8], p1: u16, far: u16, into: &mut [u16])
 pub(crate) fn begin_at(costs: &[u8], count: usize, at: usize, into: &mut [u16])
     requires inside { at + count ≤ length into.old }
     requires same_length { length costs.now ≡ length into.old }
-    requires costs { All (λ c. c ≤ 62) costs.now }
+    requires costs { All (λ c. c ≤ MAX_COST) costs.now }
     ensures others { (k : ℕ) → (k < at) ⊎ (at + count ≤ k) → slice_index into.new k ≡ slice_index into.old k }
     ensures each { (d : ℕ) → d < count → slice_index into.new (at + d) ≡ slice_index costs.now (at + d) }
-    ensures bound { (d : ℕ) → d < count → slice_index into.new (at + d) ≤ 4062 }
+    ensures bound { (d : ℕ) → d < count → slice_index into.new (at + d) ≤ MAX_PATH_VALUE }
 {
     for d in 0..count {
         into[at + d] = u16::from(costs[at + d]);
@@ -41,12 +42,12 @@ pub(crate) fn from_left(costs: &[u8], count: usize, p1: u16, far: u16, at: usize
     requires room { count ≤ at }
     requires inside { at + count ≤ length into.old }
     requires same_length { length costs.now ≡ length into.old }
-    requires penalties { (p1 ≤ far) × (far ≤ 4000) }
-    requires costs { All (λ c. c ≤ 62) costs.now }
-    requires values { (k : ℕ) → k < at → slice_index into.old k ≤ 4062 }
+    requires penalties { (p1 ≤ far) × (far ≤ MAX_PENALTY) }
+    requires costs { All (λ c. c ≤ MAX_COST) costs.now }
+    requires values { (k : ℕ) → k < at → slice_index into.old k ≤ MAX_PATH_VALUE }
     ensures others { (k : ℕ) → (k < at) ⊎ (at + count ≤ k) → slice_index into.new k ≡ slice_index into.old k }
     ensures each { (d : ℕ) → d < count → Follows (λ a. slice_index into.old (at - count + a)) count p1 far (slice_index costs.now (at + d)) d (slice_index into.new (at + d)) }
-    ensures bound { (d : ℕ) → d < count → slice_index into.new (at + d) ≤ 4062 }
+    ensures bound { (d : ℕ) → d < count → slice_index into.new (at + d) ≤ MAX_PATH_VALUE }
 {
     let (done, rest) = into.split_at_mut(at);
     let (here, _) = rest.split_at_mut(count);
@@ -59,12 +60,12 @@ pub(crate) fn from_right(costs: &[u8], count: usize, p1: u16, far: u16, at: usiz
     requires positive { 0 < count }
     requires inside { (at + count) + count ≤ length into.old }
     requires same_length { length costs.now ≡ length into.old }
-    requires penalties { (p1 ≤ far) × (far ≤ 4000) }
-    requires costs { All (λ c. c ≤ 62) costs.now }
-    requires values { (k : ℕ) → at + count ≤ k → k < length into.old → slice_index into.old k ≤ 4062 }
+    requires penalties { (p1 ≤ far) × (far ≤ MAX_PENALTY) }
+    requires costs { All (λ c. c ≤ MAX_COST) costs.now }
+    requires values { (k : ℕ) → at + count ≤ k → k < length into.old → slice_index into.old k ≤ MAX_PATH_VALUE }
     ensures others { (k : ℕ) → (k < at) ⊎ (at + count ≤ k) → slice_index into.new k ≡ slice_index into.old k }
     ensures each { (d : ℕ) → d < count → Follows (λ a. slice_index into.old (at + count + a)) count p1 far (slice_index costs.now (at + d)) d (slice_index into.new (at + d)) }
-    ensures bound { (d : ℕ) → d < count → slice_index into.new (at + d) ≤ 4062 }
+    ensures bound { (d : ℕ) → d < count → slice_index into.new (at + d) ≤ MAX_PATH_VALUE }
 {
     let (front, done) = into.split_at_mut(at + count);
     let (_, here) = front.split_at_mut(at);
@@ -77,12 +78,12 @@ pub(crate) fn from_other(prev: &[u16], costs: &[u8], p1: u16, far: u16, at: usiz
     requires some { 0 < length prev.now }
     requires inside { at + length prev.now ≤ length into.old }
     requires same_length { length costs.now ≡ length into.old }
-    requires penalties { (p1 ≤ far) × (far ≤ 4000) }
-    requires costs { All (λ c. c ≤ 62) costs.now }
-    requires values { All (λ v. v ≤ 4062) prev.now }
+    requires penalties { (p1 ≤ far) × (far ≤ MAX_PENALTY) }
+    requires costs { All (λ c. c ≤ MAX_COST) costs.now }
+    requires values { All (λ v. v ≤ MAX_PATH_VALUE) prev.now }
     ensures others { (k : ℕ) → (k < at) ⊎ (at + length prev.now ≤ k) → slice_index into.new k ≡ slice_index into.old k }
     ensures each { (d : ℕ) → d < length prev.now → Follows (slice_index prev.now) (length prev.now) p1 far (slice_index costs.now (at + d)) d (slice_index into.new (at + d)) }
-    ensures bound { (d : ℕ) → d < length prev.now → slice_index into.new (at + d) ≤ 4062 }
+    ensures bound { (d : ℕ) → d < length prev.now → slice_index into.new (at + d) ≤ MAX_PATH_VALUE }
 {
     let (_, rest) = into.split_at_mut(at);
     let (here, _) = rest.split_at_mut(prev.len());

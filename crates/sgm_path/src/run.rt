@@ -8,6 +8,7 @@ ghost use Rattle.sgm_energy.specs.Rows.{HoldsRow};
 ghost use Rattle.sgm_path.specs.Paths.{HasFar, RowFollows, Suits};
 
 use crate::pixel::{begin_at, from_left, from_right};
+use sgm_base::{MAX_COST, MAX_COUNT, MAX_PATH_VALUE};
 use sgm_energy::{Dir, Pen};
 
 /// From the left end of the row to the right.
@@ -15,8 +16,8 @@ fn run_right(pen: Pen, costs: &[u8], count: usize, into: &mut [u16])
     requires positive { 0 < count }
     requires same_length { length costs.now ≡ length into.old }
     requires whole { length into.old % count ≡ 0 }
-    requires costs { All (λ c. c ≤ 62) costs.now }
-    ensures bound { All (λ v. v ≤ 4062) into.new }
+    requires costs { All (λ c. c ≤ MAX_COST) costs.now }
+    ensures bound { All (λ v. v ≤ MAX_PATH_VALUE) into.new }
     ensures each { RowFollows Right count (p1_of pen) (λ _ _. p2_of pen) into.new costs.now into.new }
 {
     for x in 0..into.len() / count {
@@ -34,8 +35,8 @@ fn run_left(pen: Pen, costs: &[u8], count: usize, into: &mut [u16])
     requires positive { 0 < count }
     requires same_length { length costs.now ≡ length into.old }
     requires whole { length into.old % count ≡ 0 }
-    requires costs { All (λ c. c ≤ 62) costs.now }
-    ensures bound { All (λ v. v ≤ 4062) into.new }
+    requires costs { All (λ c. c ≤ MAX_COST) costs.now }
+    ensures bound { All (λ v. v ≤ MAX_PATH_VALUE) into.new }
     ensures each { RowFollows Left count (p1_of pen) (λ _ _. p2_of pen) into.new costs.now into.new }
 {
     let width = into.len() / count;
@@ -50,16 +51,16 @@ fn run_left(pen: Pen, costs: &[u8], count: usize, into: &mut [u16])
 }
 
 /// Writes the path values of one row, in a direction that stays in the row. `costs` and `into` are
-/// rows of `count` entries a pixel, and no cost is above 62. The first pixel in the direction has its
-/// costs alone. Every other has what the recurrence gives from the values of the pixel before: so
-/// they are the least energies along the ray, less that of the ray before the pixel.
+/// rows of `count` entries a pixel, and no cost is above `MAX_COST`. The first pixel in the direction
+/// has its costs alone. Every other has what the recurrence gives from the values of the pixel before:
+/// so they are the least energies along the ray, less that of the ray before the pixel.
 pub fn run_row(dir: Dir, pen: Pen, costs: &[u8], count: usize, into: &mut [u16])
     requires level { IsTrue (is_level dir) }
-    requires count_range { (1 ≤ count) × (count ≤ 256) }
+    requires count_range { (1 ≤ count) × (count ≤ MAX_COUNT) }
     requires same_length { length costs.now ≡ length into.old }
     requires whole { length into.old % count ≡ 0 }
-    requires costs { All (λ c. c ≤ 62) costs.now }
-    ensures bound { All (λ v. v ≤ 4062) into.new }
+    requires costs { All (λ c. c ≤ MAX_COST) costs.now }
+    ensures bound { All (λ v. v ≤ MAX_PATH_VALUE) into.new }
     ensures each { RowFollows dir count (p1_of pen) (λ _ _. p2_of pen) into.new costs.now into.new }
     // Whatever row of whatever problem the costs belong to, these are its path values.
     ensures paths { (g : Problem) (y : ℕ) → Suits g y (p1_of pen) count costs.now → HasFar g y y (λ _ _. p2_of pen)

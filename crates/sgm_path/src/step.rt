@@ -7,6 +7,7 @@ ghost use Rattle.sgm_energy.specs.Rows.{HoldsRow};
 ghost use Rattle.sgm_path.specs.Paths.{HoldsRowBefore, RowFollows, Suits};
 
 use crate::pixel::{begin_at, from_other};
+use sgm_base::{MAX_COST, MAX_COUNT, MAX_PATH_VALUE};
 use sgm_energy::{Dir, Pen};
 
 /// The column that a direction comes from, where it lies in the image.
@@ -30,9 +31,9 @@ fn step_from(dir: Dir, pen: Pen, costs: &[u8], before: &[u16], count: usize, int
     requires same_length { length costs.now ≡ length into.old }
     requires before_length { length before.now ≡ length into.old }
     requires whole { length into.old % count ≡ 0 }
-    requires costs { All (λ c. c ≤ 62) costs.now }
-    requires values { All (λ v. v ≤ 4062) before.now }
-    ensures bound { All (λ v. v ≤ 4062) into.new }
+    requires costs { All (λ c. c ≤ MAX_COST) costs.now }
+    requires values { All (λ v. v ≤ MAX_PATH_VALUE) before.now }
+    ensures bound { All (λ v. v ≤ MAX_PATH_VALUE) into.new }
     ensures each { RowFollows dir count (p1_of pen) (λ _ _. p2_of pen) before.now costs.now into.new }
 {
     let width = into.len() / count;
@@ -56,11 +57,11 @@ fn step_from(dir: Dir, pen: Pen, costs: &[u8], before: &[u16], count: usize, int
 }
 
 /// Writes the path values of one row, in a direction that comes from the row above or below. `costs`,
-/// `before` and `into` are rows of `count` entries a pixel, no cost is above 62 and no value of
-/// `before` above 4062. `before` has the values of the row that the direction comes from, and is None
-/// where the image has no such row. A pixel without a predecessor in the image has its costs alone.
-/// Every other has what the recurrence gives from the values of its predecessor in `before`: so they
-/// are path values where `before` has path values.
+/// `before` and `into` are rows of `count` entries a pixel, no cost is above `MAX_COST` and no value of
+/// `before` above `MAX_PATH_VALUE`. `before` has the values of the row that the direction comes from,
+/// and is None where the image has no such row. A pixel without a predecessor in the image has its
+/// costs alone. Every other has what the recurrence gives from the values of its predecessor in
+/// `before`: so they are path values where `before` has path values.
 pub fn step_row(
     dir: Dir,
     pen: Pen,
@@ -70,13 +71,13 @@ pub fn step_row(
     into: &mut [u16],
 )
     requires across { is_level dir ≡ false }
-    requires count_range { (1 ≤ count) × (count ≤ 256) }
+    requires count_range { (1 ≤ count) × (count ≤ MAX_COUNT) }
     requires same_length { length costs.now ≡ length into.old }
     requires before_length { IfSome before (λ b. length b.now ≡ length into.old) }
     requires whole { length into.old % count ≡ 0 }
-    requires costs { All (λ c. c ≤ 62) costs.now }
-    requires values { IfSome before (λ b. All (λ v. v ≤ 4062) b.now) }
-    ensures bound { All (λ v. v ≤ 4062) into.new }
+    requires costs { All (λ c. c ≤ MAX_COST) costs.now }
+    requires values { IfSome before (λ b. All (λ v. v ≤ MAX_PATH_VALUE) b.now) }
+    ensures bound { All (λ v. v ≤ MAX_PATH_VALUE) into.new }
     ensures costs_alone { IfNone before.entry (EachIndex into.new (λ k. slice_index into.new k ≡ slice_index costs.now k)) }
     ensures each { IfSome before.entry (λ b. RowFollows dir count (p1_of pen) (λ _ _. p2_of pen) b.now costs.now into.new) }
     // Whatever row of whatever problem the costs belong to, path values of the row before give its

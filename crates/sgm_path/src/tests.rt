@@ -3,6 +3,7 @@
 ghost use Rattle.std.specs.Prelude.{◌≡◌, ◌≤◌, ◌%◌, length, All};
 
 use super::{run_row, step_row};
+use sgm_base::{MAX_COST, MAX_COUNT};
 use sgm_energy::{Dir, Pen};
 
 type Row = (
@@ -80,9 +81,9 @@ fn three_pixels_to_the_right(rt: HostRuntime) {
 /// Whether a row of at most 12 values is as wanted, to the right and to the left.
 fn is_as_wanted(pen: Pen, count: usize, costs: &[u8], right: &[u16], left: &[u16]) -> bool
     requires room { length costs.now ≤ 12 }
-    requires count_range { (1 ≤ count) × (count ≤ 256) }
+    requires count_range { (1 ≤ count) × (count ≤ MAX_COUNT) }
     requires whole { length costs.now % count ≡ 0 }
-    requires costs { All (λ c. c ≤ 62) costs.now }
+    requires costs { All (λ c. c ≤ MAX_COST) costs.now }
 {
     let mut buffer = [0u16; 12];
     let values = &mut buffer[..costs.len()];
@@ -97,7 +98,7 @@ fn level_rows_have_least_energies(rt: HostRuntime) {
     for ((p1, p2), count, costs, right, left) in ROWS {
         let pen = Pen::make(p1, p2).expect(&rt, "in range");
         assert!(rt; costs.len() <= 12 && 1 <= count && count <= 3 && costs.len() % count == 0);
-        assert!(rt; costs.iter().all(|c| *c <= 62));
+        assert!(rt; costs.iter().all(|c| *c <= MAX_COST));
         assert!(rt;
             is_as_wanted(pen, count, costs, right, left),
             "at {p1}, {p2}"
@@ -142,7 +143,9 @@ fn rows_of_an_image_have_least_energies(rt: HostRuntime) {
         let down = matches!(dir, Dir::Down | Dir::DownRight | Dir::DownLeft);
         let (begin, end) = if down { (top, bottom) } else { (bottom, top) };
         assert!(rt;
-            !dir.is_level() && begin.iter().all(|c| *c <= 62) && end.iter().all(|c| *c <= 62)
+            !dir.is_level()
+                && begin.iter().all(|c| *c <= MAX_COST)
+                && end.iter().all(|c| *c <= MAX_COST)
         );
         let mut first = [0u16; 6];
         let mut second = [0u16; 6];

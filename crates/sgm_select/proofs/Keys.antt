@@ -1,5 +1,5 @@
 -- Keys of columns of the right row, and the indices that they give.
-use Rattle.std.proofs.Common.{◌≡◌, ℕ, ◌+◌, ◌-◌, ◌*◌, ◌%◌, ◌^◌, take, drop, ◌<◌, ◌≤◌, Bool, true, false, cond, eqb, leb, ltb, ◌&&◌, List, length, Option, Some, None, is_some, unwrap_or, min, refl, sym, ap, ◌∙◌, subst, inl, inr, ◌⊎◌, arith, below_more, set, slice_get, slice_index, ℤ, pos, negsuc, ◌+ℤ◌, ◌-ℤ◌}
+use Rattle.std.proofs.Common.{◌≡◌, ℕ, ◌+◌, ◌-◌, ◌*◌, ◌%◌, ◌^◌, take, drop, ◌<◌, ◌≤◌, true, false, cond, eqb, leb, ltb, ◌&&◌, List, length, Option, Some, None, is_some, unwrap_or, min, refl, sym, ap, ◌∙◌, subst, inl, inr, arith, below_more, set, slice_get, slice_index, ℤ, pos, negsuc, ◌+ℤ◌}
 use Rattle.std.proofs.lemmas.Bool.{cases_lt, cases_Bool, lt-leb, le-leb, lt-ltb, le-ltb, eq-eqb, ne_eqb}
 use Rattle.std.proofs.lemmas.Int.{ints}
 use Rattle.std.proofs.lemmas.List.{get_or-set_same, get_or-set_other}
@@ -8,7 +8,7 @@ use Rattle.std.proofs.Math.ListN.{length-set}
 use Rattle.sgm_base.specs.Columns.{column_within, left_column}
 use Rattle.sgm_base.specs.Disparities.{Disparities}
 use Rattle.sgm_census.proofs.InWindow.{allowed, refused}
-use Rattle.sgm_select.specs.declared.select.TheConstants.{NO_KEY}
+use Rattle.sgm_select.specs.declared.indices.TheConstants.{NO_KEY}
 use Rattle.sgm_select.specs.Keys.{key_of, HoldsKeys, IsKeyOf, IsLeastKey}
 use Rattle.sgm_select.specs.Selection.{lies}
 use Rattle.sgm_select.specs.Rows.{matched_in}

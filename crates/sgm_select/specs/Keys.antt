@@ -1,7 +1,7 @@
 -- Keys, by which the least sum and the least index that has it are found at once.
 use Rattle.std.specs.Prelude.{◌≡◌, ℕ, ◌+◌, ◌-◌, ◌*◌, ◌<◌, ◌≤◌, ◌⊎◌, List, length, slice_index, Some, ℤ}
 use Rattle.sgm_base.specs.declared.limits.TheConstants.{MAX_COUNT}
-use Rattle.sgm_select.specs.declared.select.TheConstants.{NO_KEY}
+use Rattle.sgm_select.specs.declared.indices.TheConstants.{NO_KEY}
 use Rattle.sgm_base.specs.Columns.{left_column}
 use Rattle.sgm_base.specs.Disparities.{Disparities}
 

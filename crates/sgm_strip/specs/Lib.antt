@@ -4,3 +4,4 @@ pub mod Volumes
 pub mod Parcels
 pub mod Fronts
 pub mod Passing
+pub mod Strips

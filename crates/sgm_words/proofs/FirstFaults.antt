@@ -1,5 +1,5 @@
 -- Looking for the first fault, position by position.
-use Rattle.std.proofs.Common.{◌≡◌, ℕ, suc, ◌+◌, ◌-◌, ◌<◌, ◌≤◌, Option, None, Some, IsSome, is_some, false, refl, sym, ap, subst, ◌∙◌, arith, add-one}
+use Rattle.std.proofs.Common.{◌≡◌, ℕ, suc, ◌+◌, ◌-◌, ◌<◌, ◌≤◌, Option, None, Some, IsSome, is_some, false, refl, sym, ap, ◌∙◌, arith}
 use Rattle.sgm_words.specs.Faults.{first_fault}
 use Rattle.sgm_words.specs.declared.usage.UsageFault.{UsageFault}
 

@@ -1,15 +1,14 @@
 -- What the words set the options to, one word after the other.
-use Rattle.std.proofs.Common.{◌≡◌, ◌≢◌, ◌⊎◌, inl, inr, ℕ, ◌+◌, ◌-◌, ◌<◌, ◌≤◌, List, [], ◌∷◌, ◌++◌, length, take, drop, get_or, set, map, Option, None, Some, is_some, option_map, Bool, true, false, cond, eqb, refl, sym, ap, subst, ◌∙◌, arith, find, get_or-set_same, get_or-set_other, eq-eqb}
-use Rattle.std.specs.List.{filter_map, cons_option}
+use Rattle.std.proofs.Common.{◌≡◌, inl, inr, ℕ, ◌<◌, List, [], ◌∷◌, ◌++◌, length, get_or, set, Option, None, Some, option_map, Bool, true, false, cond, eqb, refl, sym, ap, ◌∙◌, arith, find, get_or-set_same, get_or-set_other, eq-eqb}
+use Rattle.std.specs.List.{filter_map}
 use Rattle.std.specs.Option.{option_or}
 use Rattle.std.proofs.lemmas.Bool.{cases_eq, ne_eqb}
-use Rattle.std.proofs.lemmas.List.{take_more, get_or-drop}
 use Rattle.std.proofs.lemmas.List.Elements.{filter_map-append}
 use Rattle.std.proofs.lemmas.List.Folds.{find-append}
-use Rattle.sgm_words.specs.Operands.{word}
 use Rattle.sgm_words.specs.OptionTable.{set_by, given}
 use Rattle.sgm_words.specs.Settings.{AreGiven}
 use Rattle.sgm_words.specs.declared.option_table.Setting.{Setting}
+use Rattle.sgm_words.specs.declared.option_table.TheConstants.{OPTION_COUNT}
 
 -- the test for the option at a place
 abbrev is_at : ℕ → Setting → Bool
@@ -44,7 +43,7 @@ or_here o false x e t = absurd (cc)
 or_here (Some y) true x e t = absurd (cc)
 
 -- a word that sets an option that isn't set yet
-pub given_set : (words : List (List ℕ)) (settings : List (Option ℕ)) (text : List ℕ) (s : Setting) → AreGiven words settings → length settings ≡ 2 → s.place < 2 → set_by text ≡ Some s
+pub given_set : (words : List (List ℕ)) (settings : List (Option ℕ)) (text : List ℕ) (s : Setting) → AreGiven words settings → length settings ≡ OPTION_COUNT → s.place < OPTION_COUNT → set_by text ≡ Some s
     → get_or settings s.place None ≡ None → AreGiven (words ++ text ∷ []) (set settings s.place (Some s.value))
 given_set words settings text s so long lt sets free = record {
   at = λ place within. elim (cases_eq place s.place) [

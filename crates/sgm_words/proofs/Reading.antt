@@ -1,16 +1,16 @@
 -- Reading the options, word by word.
-use Rattle.std.proofs.Common.{◌≡◌, ℕ, zero, suc, ◌+◌, ◌-◌, ◌<◌, ◌≤◌, List, [], ◌∷◌, ◌++◌, length, take, drop, get_or, set, Option, None, Some, is_some, IsSome, Bool, true, false, if◌then◌else◌, refl, sym, ap, subst, ◌∙◌, arith, length-set}
+use Rattle.std.proofs.Common.{◌≡◌, ℕ, zero, suc, ◌+◌, ◌-◌, ◌<◌, ◌≤◌, List, [], ◌∷◌, ◌++◌, length, take, drop, get_or, set, replicate, Option, None, Some, is_some, Bool, true, false, if◌then◌else◌, refl, sym, ap, subst, ◌∙◌, arith, length-set}
 use Rattle.std.proofs.lemmas.List.{take_more, take_all, get_or-drop, length-drop}
 use Rattle.sgm_words.specs.Commands.{entry_of}
 use Rattle.sgm_words.specs.Faults.{first_fault, options_at, set_for, setting_fault, option_fault, options_fault}
 use Rattle.sgm_words.specs.Operands.{word}
-use Rattle.sgm_words.specs.OptionTable.{set_by, given}
+use Rattle.sgm_words.specs.OptionTable.{set_by}
 use Rattle.sgm_words.specs.Settings.{AreGiven}
 use Rattle.sgm_words.proofs.FirstFaults.{first_next, first_here, first_end, none_by}
 use Rattle.sgm_words.proofs.Given.{given_none, given_set}
 use Rattle.sgm_words.specs.declared.commands.Command.{Command}
 use Rattle.sgm_words.specs.declared.option_table.Setting.{Setting}
-use Rattle.sgm_words.specs.declared.usage.UsageFault.{UsageFault}
+use Rattle.sgm_words.specs.declared.option_table.TheConstants.{OPTION_COUNT}
 use Rattle.sgm_words.specs.declared.usage.UsageFault.TheVariants.{BadOption, RepeatedOption}
 
 -- the options before a position
@@ -22,16 +22,19 @@ pub record SoFar (command : Command) (words : List (List ℕ)) (position : ℕ) 
   pub after : options_at command ≤ position
   pub right : first_fault (option_fault command words) position (length words - position) ≡ options_fault command words
   pub given : AreGiven (before command words position) settings
-  pub long : length settings ≡ 2
+  pub long : length settings ≡ OPTION_COUNT
 
 -- no option is set
 abbrev pub unset : List (Option ℕ)
-unset = None ∷ None ∷ []
+unset = replicate OPTION_COUNT None
+
+none_among : (n place : ℕ) → get_or (replicate {A = Option ℕ} n None) place None ≡ None
+none_among zero place = refl
+none_among (suc n) zero = refl
+none_among (suc n) (suc place) = none_among n place
 
 none_set : (place : ℕ) → get_or unset place None ≡ None
-none_set zero = refl
-none_set (suc zero) = refl
-none_set (suc (suc place)) = refl
+none_set place = none_among OPTION_COUNT place
 
 pub so_first : (command : Command) (words : List (List ℕ)) → SoFar command words (options_at command) unset
 so_first command words =
@@ -64,14 +67,14 @@ before_more command words position le lt =
 abbrev at_setting : Command → List (List ℕ) → ℕ → Setting → Type 0
 at_setting command words position s = set_for command (word words position) ≡ Some s
 
-fault_is : (command : Command) (words : List (List ℕ)) (position : ℕ) (s : Setting) (settings : List (Option ℕ)) (t : Bool) → SoFar command words position settings → at_setting command words position s → s.place < 2
+fault_is : (command : Command) (words : List (List ℕ)) (position : ℕ) (s : Setting) (settings : List (Option ℕ)) (t : Bool) → SoFar command words position settings → at_setting command words position s → s.place < OPTION_COUNT
     → is_some (get_or settings s.place None) ≡ t → option_fault command words position ≡ (if t then Some (RepeatedOption position) else None)
 fault_is command words position s settings t so sets lt is =
     ap (λ (o : Option Setting). setting_fault (before command words position) o position) sets
     ∙ ap (λ (o : Option ℕ). if is_some o then Some (RepeatedOption position) else None) (sym (so.given.at s.place lt))
     ∙ ap (λ (b : Bool). if b then Some (RepeatedOption position) else None) is
 
-pub so_next : (command : Command) (words : List (List ℕ)) (position : ℕ) (settings : List (Option ℕ)) (s : Setting) → SoFar command words position settings → position < length words → at_setting command words position s → s.place < 2
+pub so_next : (command : Command) (words : List (List ℕ)) (position : ℕ) (settings : List (Option ℕ)) (s : Setting) → SoFar command words position settings → position < length words → at_setting command words position s → s.place < OPTION_COUNT
     → is_some (get_or settings s.place None) ≡ false → SoFar command words (position + 1) (set settings s.place (Some s.value))
 so_next command words position settings s so lt sets within free = record {
   after = let le = so.after in omega arith;
@@ -84,7 +87,7 @@ so_next command words position settings s so lt sets within free = record {
 }
 
 -- an option that is set again
-pub so_repeated : (command : Command) (words : List (List ℕ)) (position : ℕ) (settings : List (Option ℕ)) (s : Setting) → SoFar command words position settings → position < length words → at_setting command words position s → s.place < 2
+pub so_repeated : (command : Command) (words : List (List ℕ)) (position : ℕ) (settings : List (Option ℕ)) (s : Setting) → SoFar command words position settings → position < length words → at_setting command words position s → s.place < OPTION_COUNT
     → is_some (get_or settings s.place None) ≡ true → options_fault command words ≡ Some (RepeatedOption position)
 so_repeated command words position settings s so lt sets within again =
     sym (first_here (option_fault command words) position (length words) _ (Some (RepeatedOption position)) lt (fault_is command words position s settings true so sets within again) refl so.right)

@@ -1,14 +1,14 @@
 -- What the options are set to is in their ranges.
 use Rattle.std.proofs.Common.{◌≡◌, ℕ, suc, zero, ◌+◌, ◌<◌, ◌≤◌, List, [], ◌∷◌, length, take, drop, get_or, Option, None, Some, option_map, unwrap_or, Bool, true, false, ◌&&◌, nat_le, cond, eqb, if◌then◌else◌, refl, sym, ap, subst, ◌∙◌, arith, find}
-use Rattle.std.specs.List.{filter_map, cons_option}
+use Rattle.std.specs.List.{filter_map, cons_option, list_all}
 use Rattle.std.specs.Option.{option_or}
 use Rattle.std.specs.Str.{bytes_eq}
 use Rattle.std.proofs.lemmas.Bool.Decides.{nat_tests}
 use Rattle.sgm_words.specs.Numbers.{number_within, is_number, value_of}
 use Rattle.sgm_words.specs.OptionTable.{OptionEntry, option_entry, option_table, entry_at, value_for, set_among, set_by, given, setting_of}
-use Rattle.sgm_words.specs.Ranges.{IsStrips, IsWorkers}
 use Rattle.sgm_words.specs.Settings.{AreGiven}
 use Rattle.sgm_words.specs.declared.option_table.Setting.{Setting}
+use Rattle.sgm_words.specs.declared.option_table.TheConstants.{OPTION_COUNT}
 
 -- the value is in the entry's range
 pub record IsWithin (entry : OptionEntry) (value : ℕ) : Type 0 where
@@ -63,7 +63,7 @@ of_entry place (entry ∷ later) text s e =
     ] refl e
 
 -- what a word sets is an option of the table
-pub set_there : (text : List ℕ) (s : Setting) → set_by text ≡ Some s → s.place < 2
+pub set_there : (text : List ℕ) (s : Setting) → set_by text ≡ Some s → s.place < OPTION_COUNT
 unfolding set_by
 set_there text s e = let of = of_entry 0 option_table text s e in omega (arith, of.is, of.there)
 
@@ -91,21 +91,46 @@ given_within place (text ∷ later) v e =
           ] refl m
     ] refl e
 
-setting_within : (place : ℕ) (words : List (List ℕ)) → IsWithin (entry_at place) (entry_at place).missing → IsWithin (entry_at place) (setting_of place words)
-setting_within place words missing = elim (given place words) as (λ o. given place words ≡ o → IsWithin (entry_at place) (unwrap_or o (entry_at place).missing)) [
-  | None ↦ λ e. missing
+-- each missing value is in its range
+missing_right : OptionEntry → Bool
+missing_right entry = nat_le entry.least entry.missing && nat_le entry.missing entry.greatest
+
+and_left : (a b : Bool) → (a && b) ≡ true → a ≡ true
+and_left true b e = refl
+and_left false b e = absurd (cc)
+
+and_right : (a b : Bool) → (a && b) ≡ true → b ≡ true
+and_right true b e = e
+and_right false b e = absurd (cc)
+
+missing_among : (entries : List OptionEntry) (k : ℕ) → list_all missing_right entries ≡ true → k < length entries → IsWithin (get_or entries k none) (get_or entries k none).missing
+unfolding missing_right
+missing_among [] k all lt = absurd (omega arith)
+missing_among (entry ∷ later) zero all lt =
+    let here = and_left (missing_right entry) (list_all missing_right later) all in
+    let low = and_left (nat_le entry.least entry.missing) (nat_le entry.missing entry.greatest) here in
+    let high = and_right (nat_le entry.least entry.missing) (nat_le entry.missing entry.greatest) here in
+    record { low = grind (arith, nat_tests); high = grind (arith, nat_tests) }
+missing_among (entry ∷ later) (suc k) all lt = missing_among later k (and_right (missing_right entry) (list_all missing_right later) all) (omega arith)
+
+missing_within : (place : ℕ) → place < OPTION_COUNT → IsWithin (entry_at place) (entry_at place).missing
+unfolding missing_right
+missing_within place lt = missing_among option_table place refl lt
+
+setting_within : (place : ℕ) (words : List (List ℕ)) → place < OPTION_COUNT → IsWithin (entry_at place) (setting_of place words)
+setting_within place words lt = elim (given place words) as (λ o. given place words ≡ o → IsWithin (entry_at place) (unwrap_or o (entry_at place).missing)) [
+  | None ↦ λ e. missing_within place lt
   | (Some v) ↦ λ e. given_within place words v e
 ] refl
 
 -- the value that is read for the option at a place
-value_read : (place : ℕ) (words : List (List ℕ)) (settings : List (Option ℕ)) (n : ℕ) → place < 2 → AreGiven words settings → n ≡ unwrap_or (get_or settings place None) (entry_at place).missing
-    → IsWithin (entry_at place) (entry_at place).missing → IsWithin (entry_at place) n
-value_read place words settings n lt so is missing =
+pub value_read : (place : ℕ) (words : List (List ℕ)) (settings : List (Option ℕ)) (n : ℕ) → place < OPTION_COUNT → AreGiven words settings
+    → n ≡ unwrap_or (get_or settings place None) (entry_at place).missing → ((entry_at place).least ≤ n) × (n ≤ (entry_at place).greatest)
+value_read place words settings n lt so is =
     let same : setting_of place words ≡ n = sym (is ∙ ap (λ (o : Option ℕ). unwrap_or o (entry_at place).missing) (so.at place lt)) in
-    let P : ℕ → Type 0 = λ v. IsWithin (entry_at place) v in subst P same (setting_within place words missing)
+    let P : ℕ → Type 0 = λ v. IsWithin (entry_at place) v in
+    let w = subst P same (setting_within place words lt) in (w.low, w.high)
 
-pub strips_read : (words : List (List ℕ)) (settings : List (Option ℕ)) (n : ℕ) → AreGiven words settings → n ≡ unwrap_or (get_or settings 0 None) (entry_at 0).missing → IsStrips n
-strips_read words settings n so is = let w = value_read 0 words settings n (omega arith) so is (record { low = omega arith; high = omega arith }) in (w.low, w.high)
-
-pub workers_read : (words : List (List ℕ)) (settings : List (Option ℕ)) (n : ℕ) → AreGiven words settings → n ≡ unwrap_or (get_or settings 1 None) (entry_at 1).missing → IsWorkers n
-workers_read words settings n so is = let w = value_read 1 words settings n (omega arith) so is (record { low = omega arith; high = omega arith }) in (w.low, w.high)
+pub value_is : (place : ℕ) (words : List (List ℕ)) (settings : List (Option ℕ)) (n : ℕ) → place < OPTION_COUNT → AreGiven words settings
+    → n ≡ unwrap_or (get_or settings place None) (entry_at place).missing → n ≡ setting_of place words
+value_is place words settings n lt so is = is ∙ ap (λ (o : Option ℕ). unwrap_or o (entry_at place).missing) (so.at place lt)

@@ -1,5 +1,5 @@
 -- The options, and what words set them to.
-use Rattle.std.specs.Prelude.{ℕ, ◌+◌, List, [], ◌∷◌, ◌==◌, if◌then◌else◌, codes, Option, None, Some, option_map, unwrap_or, take, drop, length, slice_index_or, find}
+use Rattle.std.specs.Prelude.{ℕ, ◌+◌, List, [], ◌∷◌, ◌==◌, if◌then◌else◌, codes, Option, None, option_map, unwrap_or, take, drop, length, slice_index_or, find}
 use Rattle.std.specs.List.{filter_map}
 use Rattle.std.specs.Option.{option_or}
 use Rattle.std.specs.Str.{bytes_eq}

@@ -1,6 +1,8 @@
 -- The ranges of what the words ask for.
 use Rattle.std.specs.Prelude.{ℕ, ◌≤◌}
 use Rattle.sgm_base.specs.declared.limits.TheConstants.{MAX_STRIPS, MAX_WORKERS}
+use Rattle.sgm_words.specs.Commands.{entry_of}
+use Rattle.sgm_words.specs.declared.commands.Command.TheVariants as command
 use Rattle.sgm_words.specs.declared.options.Options.{Options}
 use Rattle.sgm_words.specs.declared.options.Options.TheVariants.{Match, Demo}
 
@@ -19,5 +21,5 @@ AreInRange (Demo number strips workers) = IsStrips strips × IsWorkers workers
 
 -- how many operands go with the options
 abbrev pub operand_count : Options → ℕ
-operand_count (Match strips workers) = 4
-operand_count (Demo number strips workers) = 1
+operand_count (Match strips workers) = (entry_of command.Match).operands
+operand_count (Demo number strips workers) = (entry_of command.Demo).operands

@@ -1,4 +1,4 @@
-//! The worked example, and more files to run over. What the runs are to write is worked by hand.
+//! The worked example. What the runs are to write is worked by hand.
 
 use std::alloc::{AllocError, Global};
 
@@ -66,25 +66,7 @@ pub fn files_with(alloc: Global, calib: &[&str]) -> Result<Vec<(String, Vec<u8>)
     Ok(files)
 }
 
-/// The files of the worked example, and more that are small or wrong.
-pub fn many_files(alloc: Global) -> Result<Vec<(String, Vec<u8>)>, AllocError> {
-    let mut files = files_with(alloc, &EXAMPLE)?;
-    for (name, bytes) in [
-        ("two.pgm", b"P5\n2 1\n255\n\x00\xff".as_slice()),
-        (
-            "small.pgm",
-            b"P5\n4 3\n255\n\x5a\x0a\x32\x14\x5a\x0a\x32\x14\x5a\x0a\x32\x14".as_slice(),
-        ),
-        ("bad.pgm", b"P2\n1 1\n255\n7".as_slice()),
-        ("bad.json", b"{\"version\":3}".as_slice()),
-        (
-            "short.json",
-            b"{\"version\":1,\"disparities\":{\"first\":0}}".as_slice(),
-        ),
-        ("more.json", b"{\"version\":1,\"more\":0}".as_slice()),
-        ("list.json", b"[]".as_slice()),
-    ] {
-        files.push(file(alloc, name, bytes)?)?;
-    }
-    Ok(files)
+/// The pair of the worked example and its calibration.
+pub fn example(alloc: Global) -> Result<Vec<(String, Vec<u8>)>, AllocError> {
+    files_with(alloc, &EXAMPLE)
 }

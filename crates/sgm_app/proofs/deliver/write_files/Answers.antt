@@ -1,12 +1,13 @@
-use Rattle.std.proofs.Common.{◌∙◌, arith}
+use Rattle.std.proofs.Common.{◌∙◌}
 use Rattle.sgm_app.proofs.Filing.{files_more, stops}
+use Rattle.sgm_app.proofs.Finishing.{finishing_more, leaves_one}
 use Rattle.sgm_app.proofs.deliver.write_files.Goals as goal
 
 pub loop-file-preserved : goal.loop-file-preserved
 loop-file-preserved g c = record {
   held = λ told. files_more c.args.files.now c.loop-file.file-index c.file-item.result _ _ _ c.loop-file-test.true c.file-item.is (c.loop-file.invariant.held told) (c.in-Ok.ensures.held told);
   begun = λ _. c.in-Ok.ensures.writing;
-  unbegun = λ none. absurd (omega arith);
+  unfinished = finishing_more c.args.files.now c.loop-file.file-index c.file-item.result _ _ _ c.loop-file-test.true c.file-item.is c.loop-file.invariant.unfinished c.in-Ok.ensures.unfinished;
   reads = c.in-Ok.ensures.counts.0 ∙ c.loop-file.invariant.reads;
   writes = c.in-Ok.ensures.counts.1 ∙ c.loop-file.invariant.writes;
 }
@@ -14,3 +15,7 @@ loop-file-preserved g c = record {
 pub returns-in-Err-clause-held : goal.returns-in-Err-clause-held
 returns-in-Err-clause-held g c = λ told.
     stops c.args.files.now c.loop-file.file-index c.file-item.result c.in-Err.stop _ _ _ c.loop-file-test.true c.file-item.is (c.loop-file.invariant.held told) c.in-Err.ensures.stop (c.in-Err.ensures.held told)
+
+pub returns-in-Err-clause-unfinished : goal.returns-in-Err-clause-unfinished
+returns-in-Err-clause-unfinished g c =
+    leaves_one c.args.files.now c.loop-file.file-index c.file-item.result c.in-Err.stop _ _ _ c.loop-file-test.true c.file-item.is c.loop-file.invariant.unfinished c.in-Err.ensures.stop c.in-Err.ensures.unfinished

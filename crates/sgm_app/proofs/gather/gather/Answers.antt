@@ -1,9 +1,8 @@
 use Rattle.std.proofs.Common.{◌∙◌, ap, sym, arith}
-use Rattle.sgm_base.specs.declared.limits.TheConstants.{MAX_IMAGE_BYTES}
 use Rattle.sgm_io.specs.Held.{Held}
-use Rattle.sgm_app.specs.Words.{is_plain}
+use Rattle.sgm_words.specs.Operands.{is_plain}
+use Rattle.sgm_words.specs.declared.files.Input.TheVariants as input
 use Rattle.sgm_app.specs.Verdict.{matched, judged, calib_of, fetched, calib_fetched}
-use Rattle.sgm_app.specs.declared.outcome.Input.TheVariants as input
 use Rattle.sgm_app.proofs.Steps.{shown_along}
 use Rattle.sgm_app.proofs.VerdictLaws.{none_zero, none_judged, none_calib_fetched}
 use Rattle.sgm_app.proofs.gather.gather.Goals as goal
@@ -12,35 +11,35 @@ pub returns-in-Err-clause-verdict : goal.returns-in-Err-clause-verdict
 unfolding matched
 returns-in-Err-clause-verdict g c = λ told r. c.in-Err.ensures.bytes told _ (none_zero _)
 
-pub returns-in-Err-fetch_right-clause-verdict : goal.returns-in-Err-fetch_right-clause-verdict
+pub returns-in-Err-fetch_input-clause-verdict : goal.returns-in-Err-fetch_input-clause-verdict
 unfolding matched
-returns-in-Err-fetch_right-clause-verdict g c = λ told r.
+returns-in-Err-fetch_input-clause-verdict g c = λ told r.
     let asked = c.args.operands.now in let held = g.S.Shelf.held c.args.shelf.now in
-    let last = judged asked r.left r.right (calib_of asked r) in
+    let last = judged asked.out r.left r.right (calib_of asked r) in
     let next = calib_fetched (is_plain asked) (held asked.calib) last in
     shown_along _ _ _
-    ((c.in-Ok.ensures.bytes told).1 _ ∙ ap (λ (h : Held). fetched input.Right MAX_IMAGE_BYTES (h asked.right) next) (sym (c.in-Ok.ensures.held told)))
-    (c.in-Err-fetch_right.ensures.bytes told next (none_calib_fetched 1 (is_plain asked) (held asked.calib) last (omega arith) (none_judged 1 asked r.left r.right (calib_of asked r))))
+    ((c.in-Ok.ensures.bytes told).1 _ ∙ ap (λ (h : Held). fetched input.Right (h asked.right) next) (sym (c.in-Ok.ensures.held told)))
+    (c.in-Err-fetch_input.ensures.bytes told next (none_calib_fetched 1 (is_plain asked) (held asked.calib) last (omega arith) (none_judged 1 asked.out r.left r.right (calib_of asked r))))
 
 pub returns-in-Err-fetch_calib-clause-verdict : goal.returns-in-Err-fetch_calib-clause-verdict
 unfolding matched
 returns-in-Err-fetch_calib-clause-verdict g c = λ told r.
     let asked = c.args.operands.now in let held = g.S.Shelf.held c.args.shelf.now in
-    let last = judged asked r.left r.right (calib_of asked r) in
+    let last = judged asked.out r.left r.right (calib_of asked r) in
     let next = calib_fetched (is_plain asked) (held asked.calib) last in
-    let kept = c.in-Ok-fetch_right.ensures.held told ∙ c.in-Ok.ensures.held told in
+    let kept = c.in-Ok-fetch_input.ensures.held told ∙ c.in-Ok.ensures.held told in
     shown_along _ _ _
-    ((c.in-Ok.ensures.bytes told).1 _ ∙ ap (λ (h : Held). fetched input.Right MAX_IMAGE_BYTES (h asked.right) next) (sym (c.in-Ok.ensures.held told))
-    ∙ (c.in-Ok-fetch_right.ensures.bytes told).1 next ∙ ap (λ (h : Held). calib_fetched (is_plain asked) (h asked.calib) last) (sym kept))
-    (c.in-Err-fetch_calib.ensures.bytes told last (none_judged 2 asked r.left r.right (calib_of asked r)))
+    ((c.in-Ok.ensures.bytes told).1 _ ∙ ap (λ (h : Held). fetched input.Right (h asked.right) next) (sym (c.in-Ok.ensures.held told))
+    ∙ (c.in-Ok-fetch_input.ensures.bytes told).1 next ∙ ap (λ (h : Held). calib_fetched (is_plain asked) (h asked.calib) last) (sym kept))
+    (c.in-Err-fetch_calib.ensures.bytes told last (none_judged 2 asked.out r.left r.right (calib_of asked r)))
 
 pub returns-in-Ok-fetch_calib-clause-verdict : goal.returns-in-Ok-fetch_calib-clause-verdict
 unfolding matched
 returns-in-Ok-fetch_calib-clause-verdict g c = λ told r.
     let asked = c.args.operands.now in let held = g.S.Shelf.held c.args.shelf.now in
-    let last = judged asked r.left r.right (calib_of asked r) in
+    let last = judged asked.out r.left r.right (calib_of asked r) in
     let next = calib_fetched (is_plain asked) (held asked.calib) last in
-    let kept = c.in-Ok-fetch_right.ensures.held told ∙ c.in-Ok.ensures.held told in
-    (c.in-Ok.ensures.bytes told).1 _ ∙ ap (λ (h : Held). fetched input.Right MAX_IMAGE_BYTES (h asked.right) next) (sym (c.in-Ok.ensures.held told))
-    ∙ (c.in-Ok-fetch_right.ensures.bytes told).1 next ∙ ap (λ (h : Held). calib_fetched (is_plain asked) (h asked.calib) last) (sym kept)
+    let kept = c.in-Ok-fetch_input.ensures.held told ∙ c.in-Ok.ensures.held told in
+    (c.in-Ok.ensures.bytes told).1 _ ∙ ap (λ (h : Held). fetched input.Right (h asked.right) next) (sym (c.in-Ok.ensures.held told))
+    ∙ (c.in-Ok-fetch_input.ensures.bytes told).1 next ∙ ap (λ (h : Held). calib_fetched (is_plain asked) (h asked.calib) last) (sym kept)
     ∙ (c.in-Ok-fetch_calib.ensures.bytes told).1 last

@@ -1,15 +1,41 @@
-use Rattle.sgm_app.proofs.Steps.{shown_along, finishes}
+use Rattle.std.proofs.Common.{◌≡◌, ◌∙◌, sym}
+use Rattle.sgm_app.specs.Calls.{MatchCallsFor}
+use Rattle.sgm_app.specs.Made.{texts_in}
+use Rattle.sgm_app.specs.Outputs.{files_of}
+use Rattle.sgm_app.specs.Verdict.{Verdict, files, texts_for, calib_of}
+use Rattle.sgm_app.proofs.Delivering.{delivered, put_along, finished_along}
 use Rattle.sgm_app.proofs.Reading.{image_reads, calib_reads}
+use Rattle.sgm_app.proofs.Steps.{shown_along, stop_shown}
 use Rattle.sgm_app.proofs.top.run_match.Goals as goal
 
-pub returns-in-Ok-clause-cause : goal.returns-in-Ok-clause-cause
-returns-in-Ok-clause-cause g c = λ told r are.
+pub returns-in-Err-clause-cause : goal.returns-in-Err-clause-cause
+returns-in-Err-clause-cause g c = λ told v calls.
+    rw c.outcome.ensures (shown_along v _ _ (sym calls.is) (c.in-Err.ensures.verdict told calls.readings))
+
+pub returns-in-Err-texts-clause-cause : goal.returns-in-Err-texts-clause-cause
+returns-in-Err-texts-clause-cause g c = λ told v calls.
+    let asked = c.args.operands.now in let r = calls.readings in let are = calls.are_readings in
     let at = c.in-Ok.ensures.at_hand told in
-    rw c.outcome.ensures (shown_along _ _ _ (c.in-Ok.ensures.verdict told r)
-    (c.in-Err-prepare.ensures.verdict r.left r.right _ (image_reads _ _ r.left at.left are.left) (image_reads _ _ r.right at.right are.right) (calib_reads _ _ r c.in-Ok.inputs at are)))
+    rw c.outcome-in-Err-texts.ensures (shown_along v _ _ (sym calls.is ∙ c.in-Ok.ensures.verdict told r)
+    (stop_shown (texts_for r.left r.right (calib_of asked r)) (λ t. files (files_of asked.out t) t.summary) c.in-Err-texts.error
+    (c.in-Err-texts.ensures r.left r.right (calib_of asked r) (image_reads _ _ r.left at.left are.left) (image_reads _ _ r.right at.right are.right) (calib_reads _ _ r c.in-Ok.inputs at are))))
 
-pub returns-clause-cause : goal.returns-clause-cause
-returns-clause-cause g c = λ told r are. rw c.outcome-in-Err.ensures (c.in-Err.ensures.verdict told r)
+pub returns-in-Ok-name_texts-clause-files : goal.returns-in-Ok-name_texts-clause-files
+returns-in-Ok-name_texts-clause-files g c = λ told v calls.
+    let asked = c.args.operands.now in let r = calls.readings in let are = calls.are_readings in
+    let at = c.in-Ok.ensures.at_hand told in
+    put_along c.deliver.result v _ _ _ _
+    (delivered asked _ r v (texts_in c.in-Ok-texts.texts) _ _ calls.is (c.in-Ok.ensures.verdict told r)
+    (c.in-Ok-texts.ensures r.left r.right (calib_of asked r) (image_reads _ _ r.left at.left are.left) (image_reads _ _ r.right at.right are.right) (calib_reads _ _ r c.in-Ok.inputs at are))
+    c.in-Ok-name_texts.ensures.files c.in-Ok-name_texts.ensures.summary)
+    (c.in-Ok.ensures.held told) (c.deliver.ensures.files told)
 
-pub returns-in-Ok-prepare-clause-writing : goal.returns-in-Ok-prepare-clause-writing
-returns-in-Ok-prepare-clause-writing g c = finishes c.in-Ok-prepare.work.files.items c.deliver.result _ _ _ c.in-Ok-prepare.ensures.some c.in-Ok.ensures.writing c.deliver.ensures.writing
+pub returns-in-Ok-name_texts-clause-finished : goal.returns-in-Ok-name_texts-clause-finished
+returns-in-Ok-name_texts-clause-finished g c = λ told v calls done.
+    let asked = c.args.operands.now in let r = calls.readings in let are = calls.are_readings in
+    let at = c.in-Ok.ensures.at_hand told in
+    finished_along v (files c.in-Ok-name_texts.delivery.files.items c.in-Ok-name_texts.delivery.summary.items) _
+    (delivered asked _ r v (texts_in c.in-Ok-texts.texts) _ _ calls.is (c.in-Ok.ensures.verdict told r)
+    (c.in-Ok-texts.ensures r.left r.right (calib_of asked r) (image_reads _ _ r.left at.left are.left) (image_reads _ _ r.right at.right are.right) (calib_reads _ _ r c.in-Ok.inputs at are))
+    c.in-Ok-name_texts.ensures.files c.in-Ok-name_texts.ensures.summary)
+    (c.deliver.ensures.finished done)

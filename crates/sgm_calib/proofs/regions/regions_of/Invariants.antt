@@ -1,4 +1,4 @@
-use Rattle.std.proofs.Common.{◌≡◌, ◌++◌, pos, map, drop, All}
+use Rattle.std.proofs.Common.{◌≡◌, ◌++◌, map, drop, All}
 use Rattle.serde_json.specs.View.{view}
 use Rattle.sgm_report.specs.Areas.{IsArea}
 use Rattle.sgm_calib.specs.Checks.{first_of}
@@ -10,6 +10,6 @@ abbrev pub invariant-loop-index : goal.invariant-loop-index
 invariant-loop-index l = record {
   value : l.regions.items ++ map area_in (map view (drop l.index l.items)) ≡ map area_in (map view l.items);
   inside : All (IsArea l.grid) l.regions.items;
-  passed : first_of (region_faults (pos l.grid.cols) (pos l.grid.rows) 0 (map view l.items))
-      ≡ first_of (region_faults (pos l.grid.cols) (pos l.grid.rows) l.index (map view (drop l.index l.items)));
+  passed : first_of (region_faults l.grid.cols l.grid.rows 0 (map view l.items))
+      ≡ first_of (region_faults l.grid.cols l.grid.rows l.index (map view (drop l.index l.items)));
 }

@@ -1,4 +1,5 @@
 use Rattle.std.proofs.Common.{◌∙◌, arith}
+use Rattle.std.proofs.lemmas.Result.{err_from_is_err_and}
 use Rattle.std.proofs.lemmas.List.Elements.{All-same, All-map}
 use Rattle.serde_json.specs.View.{view}
 use Rattle.sgm_rectify.specs.Warps.{IsEntry}
@@ -20,3 +21,11 @@ returns-clause-range c =
     (same_amounts c.loop-index.entries c.in_ok-items.items.now 9 c.loop-index.invariant.0 c.in_ok-items.ensures.count
     (λ k h. c.loop-index.invariant.1 k (omega (arith, h, c.loop-index-test.false))))
     (All-map IsEntry (λ v. amount (view v)) c.in_ok-items.items.now c.in_ok-items.ensures.range)
+
+pub returns-in_err-items-clause-fault : goal.returns-in_err-items-clause-fault
+returns-in_err-items-clause-fault c =
+    let p = err_from_is_err_and c.from_residual.result c.from_residual.ensures.1 in
+    rw (p.1, p.2) c.in_err-items.ensures.fault
+
+pub returns-clause-ok : goal.returns-clause-ok
+returns-clause-ok c = c.in_ok-items.ensures.ok

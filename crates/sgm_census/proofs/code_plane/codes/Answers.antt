@@ -2,14 +2,18 @@ use Rattle.std.proofs.Common.{ℕ, List, Bool, ap, ◌∙◌, arith}
 use Rattle.std.proofs.lemmas.List.{with_items_is}
 use Rattle.std.specs.Vec.{with_items}
 use Rattle.sgm_census.specs.Windows.{greatest_of}
-use Rattle.sgm_census.proofs.CodeRows.{zeros_small}
+use Rattle.sgm_census.proofs.CodeRows.{marks_unset, zeros_small}
 use Rattle.sgm_census.specs.Packed.{codes_in}
 use Rattle.sgm_census.proofs.CodeLists.{codes_in-is}
 use Rattle.sgm_census.proofs.code_plane.codes.Goals as goal
 
 pub code_rows-requires-clause-within : goal.code_rows-requires-clause-within
 code_rows-requires-clause-within c = λ k.
-    zeros_small (greatest_of c.args.window) c.pixels.result k c.as_mut_slice.result.now (c.as_mut_slice.ensures.value ∙ c.in_ok-words.ensures.items_if_clones_equal (λ y e. e))
+    zeros_small (greatest_of c.args.window) c.pixels.result k c.as_mut_slice-2.result.now (c.as_mut_slice-2.ensures.value ∙ c.in_ok-words.ensures.items_if_clones_equal (λ y e. e))
+
+pub code_rows-requires-clause-none : goal.code_rows-requires-clause-none
+code_rows-requires-clause-none c = λ k.
+    marks_unset _ k c.as_mut_slice-3.result.now (c.as_mut_slice-3.ensures.value ∙ c.in_ok-present.ensures.items_if_clones_equal (λ y e. e))
 
 pub returns : goal.returns
 returns c =

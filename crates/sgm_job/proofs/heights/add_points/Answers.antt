@@ -2,7 +2,7 @@ use Rattle.std.proofs.Common.{◌≡◌, ◌∙◌, ap, arith}
 use Rattle.std.specs.Prelude.{fold}
 use Rattle.sgm_base.specs.Sides.{Sides}
 use Rattle.sgm_grid.specs.Points.{added}
-use Rattle.sgm_job.specs.Heights.{points_of_row, points_of}
+use Rattle.sgm_job.specs.Heights.{points_of_row}
 use Rattle.sgm_job.proofs.Pointing.{rows_more, row_points}
 use Rattle.sgm_job.proofs.heights.add_points.Goals as goal
 

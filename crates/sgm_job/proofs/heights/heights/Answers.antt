@@ -1,10 +1,10 @@
-use Rattle.std.proofs.Common.{◌≡◌, ◌<◌, ◌∙◌, Some, Option, ap, sym, subst, arith}
+use Rattle.std.proofs.Common.{◌≡◌, ◌<◌, ◌∙◌, Some, Option, ap, subst, arith}
 use Rattle.std.specs.Prelude.{IfSome}
 use Rattle.sgm_grid.specs.declared.grid_spec.GridSpec.{GridSpec}
 use Rattle.std.specs.Prelude.{fold}
 use Rattle.sgm_grid.specs.Points.{added}
 use Rattle.sgm_grid.specs.Cells.{Cells, IsGridSpec}
-use Rattle.sgm_job.specs.Heights.{points_of, grid_of}
+use Rattle.sgm_job.specs.Heights.{points_of}
 use Rattle.sgm_job.proofs.Pointing.{highest_is}
 use Rattle.sgm_job.proofs.heights.heights.Goals as goal
 

@@ -1,13 +1,13 @@
-use Rattle.std.proofs.Common.{◌≡◌, Option, List, ap, ◌∙◌, sym, subst, arith, None}
+use Rattle.std.proofs.Common.{Option, List, ap, ◌∙◌, sym, subst}
 use Rattle.std.specs.Prelude.{IfSome, All, option_map}
 use Rattle.sgm_base.specs.Disparities.{Disparities}
 use Rattle.sgm_energy.specs.Pens.{p1_of, p2_of}
 use Rattle.sgm_rectify.specs.Rectified.{rectified_values}
 use Rattle.sgm_grid.specs.Cells.{Cells}
 use Rattle.sgm_report.specs.Areas.{Area, IsArea}
-use Rattle.sgm_job.specs.Survey.{left_plane, right_plane, tallies_of}
+use Rattle.sgm_job.specs.Survey.{tallies_of}
 use Rattle.sgm_job.proofs.Surveying.{map_is}
-use Rattle.sgm_job.proofs.Passing.{passes, sides_are, fault_answered, survey_answered, survey_is, grid_same, left_suits, right_suits, plane_width, plane_height, plane_room, same_width, same_height, regions_inside, at_references}
+use Rattle.sgm_job.proofs.Passing.{passes, sides_are, fault_answered, survey_answered, survey_is, grid_same, left_suits, right_suits, plane_width, plane_height, same_width, same_height, regions_inside, at_references}
 use Rattle.sgm_job.proofs.job.survey.Goals as goal
 
 pub returns-in-Some-clause-exact : goal.returns-in-Some-clause-exact
@@ -43,12 +43,6 @@ disparity_map-requires-clause-same_height c =
     plane_height c.args.left.now c.left.result.now c.in_ok-left.left c.in_ok-left.ensures
     ∙ same_height c.args.left.now c.args.right.now c.size.result c.size-2.result c.args.calib.now left right (passes c.size.result c.size-2.result c.args.calib.now (sym c.in_default.ensures))
     ∙ sym (plane_height c.args.right.now c.right.result.now c.in_ok-right.right c.in_ok-right.ensures)
-
-pub disparity_map-requires-clause-room : goal.disparity_map-requires-clause-room
-disparity_map-requires-clause-room c =
-    let left = sides_are c.size.result c.args.left.now c.size.ensures.width c.size.ensures.height in
-    plane_room c.args.left.now c.args.calib.now c.size.result c.size-2.result c.left.result.now c.in_ok-left.left c.span-span.result.count left c.in_ok-left.ensures
-    (ap (λ (s : Disparities). s.count) c.span-span.ensures) (passes c.size.result c.size-2.result c.args.calib.now (sym c.in_default.ensures))
 
 pub tallies-requires : goal.tallies-requires
 tallies-requires c =

@@ -1,4 +1,4 @@
-use Rattle.std.proofs.Common.{◌*◌, arith, ap, ◌∙◌, length}
+use Rattle.std.proofs.Common.{arith, ap, ◌∙◌, length}
 use Rattle.sgm_base.specs.Picture.{IsPicture, picture}
 use Rattle.sgm_pair.proofs.PairLaws.{none_there, length-row_by_row}
 use Rattle.sgm_pair.proofs.generated.side_image.Goals as goal

@@ -1,4 +1,4 @@
-use Rattle.std.proofs.Common.{◌≡◌, ◌+◌, ◌-◌}
+use Rattle.std.proofs.Common.{◌≡◌, ◌-◌}
 use Rattle.sgm_words.specs.Faults.{first_fault, name_fault}
 use Rattle.sgm_words.specs.Operands.{bytes_of}
 use Rattle.sgm_words.proofs.faults.names_fault.Given as goal

@@ -1,4 +1,4 @@
-use Rattle.std.proofs.Common.{◌≡◌, ◌+◌, ◌-◌}
+use Rattle.std.proofs.Common.{◌≡◌, ◌-◌}
 use Rattle.sgm_words.specs.Faults.{first_fault, number_fault}
 use Rattle.sgm_words.specs.Operands.{bytes_of}
 use Rattle.sgm_words.proofs.faults.numbers_fault.Given as goal

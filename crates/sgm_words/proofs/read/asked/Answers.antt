@@ -1,10 +1,28 @@
-use Rattle.sgm_words.proofs.SettingRanges.{strips_read, workers_read}
+use Rattle.std.proofs.Common.{◌≡◌, drop, arith}
+use Rattle.sgm_words.specs.Faults.{options_at}
+use Rattle.sgm_words.specs.Operands.{bytes_of}
+use Rattle.sgm_words.specs.OptionTable.{setting_of}
+use Rattle.sgm_words.proofs.SettingRanges.{value_read, value_is}
 use Rattle.sgm_words.proofs.read.asked.Goals as goal
 
 pub returns-in-Match-clause-in_range : goal.returns-in-Match-clause-in_range
 returns-in-Match-clause-in_range c =
-    (strips_read _ c.args.settings.now _ c.requires c.value_at-strips.ensures, workers_read _ c.args.settings.now _ c.requires c.value_at-workers.ensures)
+    (value_read 0 _ c.args.settings.now _ (omega arith) c.requires c.value_at-strips.ensures, value_read 1 _ c.args.settings.now _ (omega arith) c.requires c.value_at-workers.ensures)
 
 pub returns-in-Demo-clause-in_range : goal.returns-in-Demo-clause-in_range
 returns-in-Demo-clause-in_range c =
-    (strips_read _ c.args.settings.now _ c.requires c.value_at-strips.ensures, workers_read _ c.args.settings.now _ c.requires c.value_at-workers.ensures)
+    (value_read 0 _ c.args.settings.now _ (omega arith) c.requires c.value_at-strips.ensures, value_read 1 _ c.args.settings.now _ (omega arith) c.requires c.value_at-workers.ensures)
+
+pub returns-in-Match-clause-exact : goal.returns-in-Match-clause-exact
+returns-in-Match-clause-exact c =
+    let later = drop (options_at c.args.command) (bytes_of c.args.words.now) in
+    let strips : c.value_at-strips.result ≡ setting_of 0 later = value_is 0 later c.args.settings.now _ (omega arith) c.requires c.value_at-strips.ensures in
+    let workers : c.value_at-workers.result ≡ setting_of 1 later = value_is 1 later c.args.settings.now _ (omega arith) c.requires c.value_at-workers.ensures in
+    rw c.in-Match.is (cc)
+
+pub returns-in-Demo-clause-exact : goal.returns-in-Demo-clause-exact
+returns-in-Demo-clause-exact c =
+    let later = drop (options_at c.args.command) (bytes_of c.args.words.now) in
+    let strips : c.value_at-strips.result ≡ setting_of 0 later = value_is 0 later c.args.settings.now _ (omega arith) c.requires c.value_at-strips.ensures in
+    let workers : c.value_at-workers.result ≡ setting_of 1 later = value_is 1 later c.args.settings.now _ (omega arith) c.requires c.value_at-workers.ensures in
+    rw c.in-Demo.is (cc)

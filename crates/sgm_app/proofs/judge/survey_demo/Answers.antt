@@ -1,4 +1,0 @@
-use Rattle.sgm_app.proofs.judge.survey_demo.Goals as goal
-
-pub returns : goal.returns
-returns c = c.in-Err.ensures.verdict _

@@ -1,6 +1,0 @@
-use Rattle.std.proofs.Common.{◌≡◌, take, min, ◌^◌}
-use Rattle.sgm_app.specs.Words.{value_of}
-use Rattle.sgm_app.proofs.words.capped_value.Given as goal
-
-abbrev pub invariant-loop-digit : goal.invariant-loop-digit
-invariant-loop-digit l = l.value ≡ min (value_of (take l.digit-index l.digits)) (2 ^ 32)

@@ -1,0 +1,63 @@
+//! The survey of a generated pair.
+ghost use Rattle.std.specs.Prelude.{◌≡◌, Ok, IsTrue, MatchResult, string_bytes};
+ghost use Rattle.sgm_io.specs.Counts.{Counts};
+ghost use Rattle.sgm_words.specs.Ranges.{IsStrips, IsWorkers};
+ghost use Rattle.sgm_app.specs.Judge.{StopsFor};
+ghost use Rattle.sgm_app.specs.Ends.{ShownBy, OutStands, OutUntouched, OutCountsShow, faults};
+ghost use Rattle.sgm_app.specs.Verdict.{demo_for, demoed};
+
+use crate::stops::TextsError;
+use crate::texts::demo_text;
+use crate::{Outcome, Output, pair};
+use sgm_base::Size;
+use sgm_calib::Calib;
+use sgm_io::{Sink, write_whole};
+use sgm_job::survey;
+use std::alloc::Global;
+
+/// The width of the generated pair, in pixels.
+pub const DEMO_WIDTH: u32 = 256;
+
+/// Its height.
+pub const DEMO_HEIGHT: u32 = 192;
+
+// The summary of a demo: the pair that is generated from the number, with the plain settings.
+fn demo_summary(alloc: Global, number: u32, strips: u32, workers: u32) -> Result<String, TextsError>
+    requires strips { IsStrips strips }
+    requires workers { IsWorkers workers }
+    ensures { MatchResult result
+        (λ summary. demo_for number ≡ Ok (string_bytes summary)) (StopsFor (demo_for number)) }
+{
+    let size = Size {
+        width: DEMO_WIDTH,
+        height: DEMO_HEIGHT,
+    };
+    let (left, right) = pair(alloc, size, number)?;
+    let surveyed = survey(alloc, &left, &right, &Calib::plain(), strips, workers)?;
+    let summary = demo_text(alloc, &surveyed.disp)?;
+    Ok(summary)
+}
+
+/// Surveys the pair that is generated from the number, and writes the summary.
+pub fn run_demo<O: Sink>(
+    alloc: Global,
+    number: u32,
+    strips: u32,
+    workers: u32,
+    out: &mut O,
+) -> Outcome
+    requires strips { IsStrips strips }
+    requires workers { IsWorkers workers }
+    ensures cause { ShownBy (demoed number) result }
+    ensures out { IsTrue O.tells → OutStands result (demoed number) (O.written out.old) (O.written out.new) }
+    ensures untouched { IsTrue O.tells → OutUntouched result (O.written out.old) (O.written out.new) }
+    ensures counts { (reads writes : Counts) → OutCountsShow result (faults reads writes (O.faults out.old)) (faults reads writes (O.faults out.new)) }
+{
+    match demo_summary(alloc, number, strips, workers) {
+        Ok(summary) => match write_whole(out, summary.as_bytes()) {
+            Ok(()) => Outcome::Done,
+            Err(_) => Outcome::WriteFault(Output::Summary),
+        },
+        Err(stop) => stop.outcome(),
+    }
+}

@@ -1,0 +1,105 @@
+//! A run makes exactly the calls that it needs, one after the other.
+
+use super::fixtures::{example, words_of};
+use super::recording::{RecordingShelf, RecordingSink};
+use super::trips::{Call, trips_of};
+use crate::run;
+use sgm_io::{MemoryShelf, MemorySink};
+use std::alloc::Global;
+use std::cell::RefCell;
+use std::process::Abort;
+use std::test::Fail;
+
+/// That a run of this line over the worked example makes these calls, where this call of a name fails and `out`
+/// fails at this length.
+fn assert_calls(
+    rt: &impl Abort,
+    alloc: Global,
+    line: &str,
+    trips: &[(&str, Call)],
+    stop: Option<usize>,
+    wanted: &str,
+) -> Result<(), Fail> {
+    let calls = RefCell::new(String::new(alloc));
+    let mut shelf = RecordingShelf {
+        shelf: MemoryShelf::make(alloc, example(alloc)?, trips_of(alloc, trips)?)?,
+        calls: &calls,
+    };
+    let mut out = RecordingSink {
+        sink: MemorySink::make(alloc, 4096, stop)?,
+        name: "out",
+        calls: &calls,
+    };
+    let mut err = RecordingSink {
+        sink: MemorySink::make(alloc, 4096, None)?,
+        name: "err",
+        calls: &calls,
+    };
+    let words = words_of(alloc, line)?;
+    let _outcome = run(alloc, &words, &mut shelf, &mut out, &mut err);
+    drop(shelf);
+    drop(out);
+    drop(err);
+    let Ok(made) = calls.try_borrow() else {
+        return Err(Fail::new("the calls are lent"));
+    };
+    assert_eq!(rt; made.as_str(), wanted, "{line}");
+    Ok(())
+}
+
+#[test]
+fn a_run_that_is_done_makes_each_call_once(rt: HostRuntime) -> Result<(), Fail> {
+    let calls =
+        "fetch l.pgm;fetch r.pgm;fetch c.json;create o.pgm;append 43;finish;create o.asc;append 176;finish;create o.csv;append 92;finish;out 15;";
+    let line = "match l.pgm r.pgm c.json o";
+    assert_calls(&rt, rt.alloc(), line, &[], None, calls)
+}
+
+#[test]
+fn words_and_inputs_that_are_refused_touch_no_output(rt: HostRuntime) -> Result<(), Fail> {
+    let alloc = rt.alloc();
+    assert_calls(&rt, alloc, "match", &[], None, "err 41;")?;
+    let line = "match l.pgm r.pgm l.pgm o";
+    let calls = "fetch l.pgm;fetch r.pgm;fetch l.pgm;err 27;";
+    assert_calls(&rt, alloc, line, &[], None, calls)
+}
+
+#[test]
+fn the_first_failed_call_ends_the_run(rt: HostRuntime) -> Result<(), Fail> {
+    let alloc = rt.alloc();
+    let line = "match l.pgm r.pgm c.json o";
+    let both = [("l.pgm", Call::Fetch), ("r.pgm", Call::Fetch)];
+    assert_calls(&rt, alloc, line, &both, None, "fetch l.pgm;err 22;")?;
+    let right = [("r.pgm", Call::Fetch)];
+    assert_calls(
+        &rt,
+        alloc,
+        line,
+        &right,
+        None,
+        "fetch l.pgm;fetch r.pgm;err 23;",
+    )?;
+    let calib = [("c.json", Call::Fetch)];
+    let calls = "fetch l.pgm;fetch r.pgm;fetch c.json;err 29;";
+    assert_calls(&rt, alloc, line, &calib, None, calls)
+}
+
+#[test]
+fn a_failed_write_is_the_last_call_but_the_line(rt: HostRuntime) -> Result<(), Fail> {
+    let alloc = rt.alloc();
+    let line = "match l.pgm r.pgm c.json o";
+    let image = [("o.pgm", Call::Create)];
+    let calls = "fetch l.pgm;fetch r.pgm;fetch c.json;create o.pgm;err 28;";
+    assert_calls(&rt, alloc, line, &image, None, calls)?;
+    let grid = [("o.asc", Call::AppendAt(47))];
+    let calls =
+        "fetch l.pgm;fetch r.pgm;fetch c.json;create o.pgm;append 43;finish;create o.asc;append 176;append 129;err 26;";
+    assert_calls(&rt, alloc, line, &grid, None, calls)?;
+    let table = [("o.csv", Call::Finish)];
+    let calls =
+        "fetch l.pgm;fetch r.pgm;fetch c.json;create o.pgm;append 43;finish;create o.asc;append 176;finish;create o.csv;append 92;finish;err 25;";
+    assert_calls(&rt, alloc, line, &table, None, calls)?;
+    let calls =
+        "fetch l.pgm;fetch r.pgm;fetch c.json;create o.pgm;append 43;finish;create o.asc;append 176;finish;create o.csv;append 92;finish;out 15;out 9;err 26;";
+    assert_calls(&rt, alloc, line, &[], Some(6), calls)
+}

@@ -1,0 +1,94 @@
+//! The generated pair: a demo, and a whole run over a larger one.
+
+use super::ended::{assert_ended, assert_held, end_on, held, shelf_of};
+use super::fixtures::{CAMERA, END, GRID, REGIONS, files_with};
+use crate::pair;
+use sgm_base::{Image, Size};
+use std::alloc::{AllocError, Global};
+use std::process::Abort;
+use std::test::Fail;
+
+#[test]
+fn a_demo_has_two_lines_and_no_file(rt: HostRuntime) -> Result<(), Fail> {
+    let alloc = rt.alloc();
+    for line in ["demo 0", "demo 0 workers=3 strips=5"] {
+        let mut shelf = shelf_of(alloc, files_with(alloc, &[])?)?;
+        let ended = end_on(alloc, line, &mut shelf)?;
+        let lines = b"valid 45516 of 49152\nsum 11360464\n";
+        assert_ended(&rt, &ended, 0, lines, b"", line);
+        assert_held(&rt, alloc, &mut shelf, [None; 3], line)?;
+    }
+    Ok(())
+}
+
+/// The image as a PGM text of one byte a sample, with a comment after the magic.
+fn pgm_text(alloc: Global, image: &Image) -> Result<Vec<u8>, AllocError> {
+    let Size { width, height } = image.size();
+    let header = format!(in alloc; "P5\n# Created by GIMP\n{width} {height}\n255\n")?;
+    let mut text = header.into_bytes();
+    for sample in image.samples() {
+        text.push((*sample).min(255) as u8)?;
+    }
+    Ok(text)
+}
+
+const SETTINGS: &str =
+    "{\"version\":1,\"disparities\":{\"first\":0,\"count\":64},\n \"census\":{\"width\":9,\"height\":7},\"penalties\":{\"p1\":10,\"p2\":120}";
+
+/// The three files of a run over the generated pair of 640 x 480 and the number 7.
+fn outputs_of(rt: &impl Abort, alloc: Global, line: &str) -> Result<[Vec<u8>; 3], Fail> {
+    let size = Size::make(640, 480).ok_or("a size")?;
+    let (left, right) = pair(alloc, size, 7)?;
+    let mut files = files_with(alloc, &[SETTINGS, CAMERA, GRID, REGIONS, END])?;
+    files.push((
+        String::from_str(alloc, "left.pgm")?,
+        pgm_text(alloc, &left)?,
+    ))?;
+    files.push((
+        String::from_str(alloc, "right.pgm")?,
+        pgm_text(alloc, &right)?,
+    ))?;
+    let mut shelf = shelf_of(alloc, files)?;
+    let ended = end_on(alloc, line, &mut shelf)?;
+    assert_eq!(rt; ended.status, 0, "{line}");
+    assert_eq!(rt; ended.err.taken(), b"".as_slice(), "{line}");
+    assert!(rt; ended.out.taken().ends_with(b" of 307200\n"), "{line}");
+    let disparities = held(alloc, &mut shelf, "o.pgm")?.ok_or("o.pgm is absent")?;
+    let heights = held(alloc, &mut shelf, "o.asc")?.ok_or("o.asc is absent")?;
+    let report = held(alloc, &mut shelf, "o.csv")?.ok_or("o.csv is absent")?;
+    Ok([disparities, heights, report])
+}
+
+/// The sample of a pixel in a text of 640 columns.
+fn sample_of(text: &[u8], x: u16, y: u16) -> Option<u16> {
+    let at = "P5\n640 480\n65535\n".len() + 2 * (640 * y as usize + x as usize);
+    let high = text.get(at)?;
+    let low = text.get(at + 1)?;
+    Some(256 * *high as u16 + *low as u16)
+}
+
+// A pixel of the square, and one in each of the first four bands of the ground and in the band after
+// them, has the shift that its place is generated with, in sixteenths and 16 more.
+#[test]
+fn strips_and_workers_change_no_byte(rt: HostRuntime) -> Result<(), Fail> {
+    let alloc = rt.alloc();
+    let line = "match left.pgm right.pgm c.json o strips=8 workers=4";
+    let [disparities, heights, report] = outputs_of(&rt, alloc, line)?;
+    let line = "match left.pgm right.pgm c.json o strips=1 workers=1";
+    let [other_disparities, other_heights, other_report] = outputs_of(&rt, alloc, line)?;
+    assert!(rt; disparities == other_disparities);
+    assert!(rt; heights == other_heights);
+    assert!(rt; report == other_report);
+    for (x, y, shift) in [
+        (128, 96, 28),
+        (300, 24, 8),
+        (300, 72, 12),
+        (300, 120, 16),
+        (300, 168, 20),
+        (300, 216, 8),
+    ] {
+        let sample = sample_of(disparities.as_slice(), x, y);
+        assert_eq!(rt; sample, Some(16 * shift + 16), "{x} {y}");
+    }
+    Ok(())
+}

@@ -1,8 +1,0 @@
-use Rattle.sgm_calib.proofs.Names.{object_fault-keys}
-use Rattle.sgm_calib.proofs.fields.check_object.Goals as goal
-
-pub returns-in-Some-clause-ok : goal.returns-in-Some-clause-ok
-returns-in-Some-clause-ok c = object_fault-keys _ _ _ _ _ c.in-Some.ensures c.if-has_only.ensures
-
-pub returns-in-Some-2-clause-fault : goal.returns-in-Some-2-clause-fault
-returns-in-Some-2-clause-fault c = object_fault-keys _ _ _ _ _ c.in-Some.ensures c.if-has_only.ensures

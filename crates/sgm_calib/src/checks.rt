@@ -1,0 +1,247 @@
+//! The checks of one key, and of one object.
+
+ghost use Rattle.std.specs.Prelude.{◌≡◌, ◌==◌, ◌&&◌, ◌+◌, ◌<◌, ◌≤ℤ◌, IfOk, IfErr, OnOk, IsTrue, Some, None, Ok, Err, string_bytes, option_map, IsSome};
+ghost use Rattle.std.specs.BTreeMap.{keys};
+ghost use Rattle.std.specs.List.{list_all, list_any};
+ghost use Rattle.std.specs.Str.{bytes_eq};
+ghost use Rattle.serde_json.specs.View.{view};
+ghost use Rattle.serde_json.specs.Find.{as_str, get};
+ghost use Rattle.sgm_calib.specs.Table as table;
+ghost use Rattle.sgm_calib.specs.Table.{is_known};
+ghost use Rattle.sgm_calib.specs.Rows.{key_at, whole, whole_at, number_of, least, greatest, has_parity, is_in_range, is_required, is_given, meant, form_meant, presence_meant};
+ghost use Rattle.sgm_calib.specs.Checks.{number_in, typed_in, object_fault, text_of};
+ghost use Rattle.sgm_calib.specs.Judge.{version_fault, top_fault, itself_fault};
+
+use crate::keys::{CalibFault, Key};
+use crate::place::{PLAIN, Place};
+use crate::table::{Form, Presence, Row, TOP, VERSION, rows};
+use serde_json::{Map, Value};
+
+/// The key that a row is at a place.
+pub fn key_at(row: &Row, place: Place) -> Key
+    requires { row.now.number + place.shift < 256 }
+    ensures { result ≡ key_at place (meant row.now) }
+{
+    Key {
+        number: row.number + place.shift,
+        index: place.index,
+    }
+}
+
+fn number_at(object: &Value, name: &str) -> i64
+    ensures { result ≡ whole_at name.now (view object.now) }
+{
+    match object.get(name) {
+        None => 0,
+        Some(value) => value.as_i64().unwrap_or(0),
+    }
+}
+
+fn least(row: &Row, object: &Value) -> i64
+    ensures { result ≡ least (form_meant row.now.form) (view object.now) }
+{
+    match row.form {
+        Form::Between(low, _) | Form::Odd(low, _) | Form::Matrix(low, _) | Form::Nodes(low, _) =>
+            low,
+        Form::From(name, _) => number_at(object, name),
+        Form::Column | Form::Line => 0,
+        _ => 1,
+    }
+}
+
+fn greatest(row: &Row, place: Place, object: &Value) -> i128
+    ensures { result ≡ greatest (form_meant row.now.form) place (view object.now) }
+{
+    match row.form {
+        Form::Between(_, high)
+        | Form::Odd(_, high)
+        | Form::From(_, high)
+        | Form::Matrix(_, high)
+        | Form::Nodes(_, high) => i128::from(high),
+        Form::Column => i128::from(place.cols) - 1,
+        Form::Line => i128::from(place.rows) - 1,
+        Form::ColumnsFrom(name) => i128::from(place.cols) - i128::from(number_at(object, name)),
+        Form::LinesFrom(name) => i128::from(place.rows) - i128::from(number_at(object, name)),
+        _ => 0,
+    }
+}
+
+fn has_parity(row: &Row, whole: i64) -> bool
+    ensures { result ≡ has_parity (form_meant row.now.form) whole }
+{
+    match row.form {
+        Form::Odd(_, _) => whole.unsigned_abs() % 2 == 1,
+        _ => true,
+    }
+}
+
+/// Whether a number is in the range of a key of an object.
+pub fn is_in_range(row: &Row, place: Place, object: &Value, whole: i64) -> bool
+    ensures { result ≡ is_in_range (form_meant row.now.form) place (view object.now) whole }
+{
+    least(row, object) <= whole
+        && i128::from(whole) <= greatest(row, place, object)
+        && has_parity(row, whole)
+}
+
+/// The whole number of a key, or what is wrong: it is missing, or its type.
+fn typed(object: &Value, row: &Row, place: Place) -> Result<i64, CalibFault>
+    requires { row.now.number + place.shift < 256 }
+    ensures exact { result ≡ typed_in whole place (view object.now) (meant row.now) }
+    ensures value { IfOk result (λ z. number_of (meant row.now) (view object.now) ≡ z) }
+{
+    match object.get(row.name) {
+        None => Err(CalibFault::Missing(key_at(row, place))),
+        Some(value) => match value.as_i64() {
+            None => Err(CalibFault::Type_(key_at(row, place))),
+            Some(whole) => Ok(whole),
+        },
+    }
+}
+
+/// The whole number of a key, or what is wrong: it is missing, its type, its range.
+pub fn whole(object: &Value, row: &Row, place: Place) -> Result<i64, CalibFault>
+    requires { row.now.number + place.shift < 256 }
+    ensures exact { result ≡ number_in place (view object.now) (meant row.now) }
+    ensures value { IfOk result (λ z. number_of (meant row.now) (view object.now) ≡ z) }
+    ensures low { IfOk result (λ z. least (form_meant row.now.form) (view object.now) ≤ℤ z) }
+    ensures high { IfOk result (λ z. z ≤ℤ greatest (form_meant row.now.form) place (view object.now)) }
+{
+    odd_or_whole(object, row, place)
+}
+
+/// As [`whole`], with what a key of odd numbers asks beside its ends.
+#[tactic(auto, unfolding(crate::specs::Checks::number_in))]
+pub fn odd_or_whole(object: &Value, row: &Row, place: Place) -> Result<i64, CalibFault>
+    requires { row.now.number + place.shift < 256 }
+    ensures exact { result ≡ number_in place (view object.now) (meant row.now) }
+    ensures value { IfOk result (λ z. number_of (meant row.now) (view object.now) ≡ z) }
+    ensures low { IfOk result (λ z. least (form_meant row.now.form) (view object.now) ≤ℤ z) }
+    ensures high { IfOk result (λ z. z ≤ℤ greatest (form_meant row.now.form) place (view object.now)) }
+    ensures parity { IfOk result (λ z. IsTrue (has_parity (form_meant row.now.form) z)) }
+{
+    let whole = typed(object, row, place)?;
+    if is_in_range(row, place, object, whole) {
+        Ok(whole)
+    } else {
+        Err(CalibFault::Range(key_at(row, place)))
+    }
+}
+
+/// The text of a key, or what is wrong: it is missing, or its type.
+pub fn text<'a>(object: &'a Value, row: &Row, place: Place) -> Result<&'a str, CalibFault>
+    requires { row.now.number + place.shift < 256 }
+    ensures ok { IfOk result (λ t. typed_in as_str place (view object.now) (meant row.now) ≡ Ok t.now) }
+    ensures value { IfOk result (λ t. text_of (meant row.now) (view object.now) ≡ t.now) }
+    ensures fault { IfErr result (λ f. typed_in as_str place (view object.now) (meant row.now) ≡ Err f) }
+{
+    match object.get(row.name) {
+        None => Err(CalibFault::Missing(key_at(row, place))),
+        Some(value) => match value.as_str() {
+            None => Err(CalibFault::Type_(key_at(row, place))),
+            Some(text) => Ok(text),
+        },
+    }
+}
+
+/// Whether an object of that kind is given the key.
+fn is_given(row: &Row, kind: &str) -> bool
+    ensures { result ≡ is_given (presence_meant row.now.presence) kind.now }
+{
+    match row.presence {
+        Presence::OfKind(name) => name == kind,
+        _ => true,
+    }
+}
+
+/// Whether one of the rows gives an object of that kind the name.
+fn gives_name(rows: &[Row], object: &Row, kind: &str, name: &str) -> bool
+    ensures { result ≡ list_any (λ row. (row.object == object.now.number) && is_given (presence_meant row.presence) kind.now && bytes_eq row.name.now name.now) rows.now }
+{
+    rows.iter().any(|row| row.object == object.number && is_given(row, kind) && row.name == name)
+}
+
+/// Whether the table gives an object of that kind the name.
+fn is_known(object: &Row, kind: &str, name: &str) -> bool
+    ensures { result ≡ is_known (meant object.now) kind.now name.now }
+{
+    gives_name(rows(), object, kind, name)
+}
+
+fn has_only(members: &Map<String, Value>, object: &Row, kind: &str) -> bool
+    ensures { result ≡ list_all (λ name. is_known (meant object.now) kind.now (string_bytes name)) (keys members.now) }
+{
+    members
+        .keys()
+        .all(|name| is_known(object, kind, name.as_str()))
+}
+
+/// Checks that a value is an object, and that it has no name but those of an object of that kind.
+#[tactic(auto, unfolding(crate::specs::Checks::object_fault))]
+pub fn check_object(value: &Value, object: &Row, place: Place, kind: &str) -> Result<(), CalibFault>
+    requires { object.now.number + place.shift < 256 }
+    ensures ok { OnOk result (object_fault place (meant object.now) kind.now (view value.now) ≡ None) }
+    ensures fault { IfErr result (λ f. object_fault place (meant object.now) kind.now (view value.now) ≡ Some f) }
+{
+    match value.as_object() {
+        None => Err(CalibFault::Type_(key_at(object, place))),
+        Some(members) if has_only(members, object, kind) => Ok(()),
+        Some(_) => Err(CalibFault::Unknown(key_at(object, place))),
+    }
+}
+
+/// Whether a key has to be there.
+fn is_required(row: &Row, object: &Value) -> bool
+    ensures { result ≡ is_required (presence_meant row.now.presence) (view object.now) }
+{
+    match row.presence {
+        Presence::Optional => false,
+        Presence::With(name) => object.get(name).is_some(),
+        _ => true,
+    }
+}
+
+/// The object that a key of the value itself is, where it is there; or what is wrong with the object itself.
+#[tactic(auto, unfolding(crate::specs::Judge::itself_fault))]
+pub fn object_in<'a>(top: &'a Value, row: &Row) -> Result<Option<&'a Value>, CalibFault>
+    ensures ok { OnOk result (itself_fault (view top.now) (meant row.now) ≡ None) }
+    ensures there { IfOk result (λ o. option_map (λ v. view v.now) o ≡ get row.now.name.now (view top.now)) }
+    ensures required { IfOk result (λ o. IsTrue (is_required (presence_meant row.now.presence) (view top.now)) → IsSome o) }
+    ensures fault { IfErr result (λ f. itself_fault (view top.now) (meant row.now) ≡ Some f) }
+{
+    let _number = row.number;
+    match top.get(row.name) {
+        None if is_required(row, top) => Err(CalibFault::Missing(key_at(row, PLAIN))),
+        None => Ok(None),
+        Some(object) => {
+            check_object(object, row, PLAIN, "")?;
+            Ok(Some(object))
+        }
+    }
+}
+
+#[tactic(auto, unfolding(crate::specs::Judge::version_fault))]
+fn check_version(top: &Value) -> Result<(), CalibFault>
+    ensures ok { OnOk result (version_fault (view top.now) ≡ None) }
+    ensures fault { IfErr result (λ f. version_fault (view top.now) ≡ Some f) }
+{
+    let version = typed(top, &VERSION, PLAIN)?;
+    if is_in_range(&VERSION, PLAIN, top, version) {
+        Ok(())
+    } else {
+        Err(CalibFault::Version)
+    }
+}
+
+/// Checks the value itself: that it is an object, its version, and that it has no unknown name.
+#[tactic(auto, unfolding(crate::specs::Judge::top_fault))]
+pub fn check_top(top: &Value) -> Result<(), CalibFault>
+    ensures ok { OnOk result (top_fault (view top.now) ≡ None) }
+    ensures fault { IfErr result (λ f. top_fault (view top.now) ≡ Some f) }
+{
+    let Some(_) = top.as_object() else {
+        return Err(CalibFault::Type_(key_at(&TOP, PLAIN)));
+    };
+    check_version(top)?;
+    check_object(top, &TOP, PLAIN, "")
+}

@@ -1,0 +1,277 @@
+//! The key table: one row for each key of a calibration file, in the order of the checks. The names of an
+//! object, the keys' paths and the order of the checks follow from it, in code and in the definitions.
+
+ghost use Rattle.std.specs.Prelude.{◌≡◌, map};
+ghost use Rattle.sgm_calib.specs.Rows.{meant};
+ghost use Rattle.sgm_calib.specs.Table.{keys};
+
+use sgm_base::{
+    MAX_COUNT, MAX_FIRST, MAX_GRID_LINES, MAX_PENALTY, MAX_WINDOW_HEIGHT, MAX_WINDOW_WIDTH,
+    MIN_FIRST, MIN_WINDOW_SIDE,
+};
+use sgm_grid::{MAX_CELL, MAX_HEIGHT, MAX_PLACE};
+use sgm_height::{MAX_BASELINE, MAX_DEPTH, MAX_FOCAL, MAX_MOUNT, MAX_OFFSET};
+use sgm_rectify::{
+    MAX_ENTRY, MAX_NODE, MAX_NODE_COUNT, MAX_STEP, MIN_ENTRY, MIN_NODE, MIN_NODE_COUNT, MIN_STEP,
+};
+
+/// What the value of a key is, and which numbers are in range.
+#[derive(Clone, Copy)]
+pub enum Form {
+    /// An object, whose keys are the rows that name its number as their object.
+    Object,
+    /// The object of the two sides' warps.
+    Warps,
+    /// The text that names a kind of warp.
+    Kind,
+    /// The text that names a region.
+    Name,
+    /// A list of regions.
+    Regions,
+    /// A whole number from the first to the second.
+    Between(i64, i64),
+    /// An odd whole number from the first to the second.
+    Odd(i64, i64),
+    /// A whole number from the one under that name in the same object to the second.
+    From(&'static str, i64),
+    /// A column of the grid.
+    Column,
+    /// A row of the grid.
+    Line,
+    /// A number of columns of the grid, from the one under that name in the same object on.
+    ColumnsFrom(&'static str),
+    /// A number of rows of the grid, from the one under that name in the same object on.
+    LinesFrom(&'static str),
+    /// A list of nine whole numbers, each from the first to the second.
+    Matrix(i64, i64),
+    /// A list of two whole numbers for each node of a mesh, each from the first to the second.
+    Nodes(i64, i64),
+}
+
+/// Whether a key has to be there.
+#[derive(Clone, Copy)]
+pub enum Presence {
+    Required,
+    Optional,
+    /// Required where the key of that name stands in the same object.
+    With(&'static str),
+    /// Required by that kind of warp, and an unknown name to the others.
+    OfKind(&'static str),
+}
+
+/// A row of the table.
+#[derive(Clone, Copy)]
+pub struct Row {
+    pub number: u8,
+    /// The number of the object that has the key; 0 for the value itself.
+    pub object: u8,
+    pub name: &'static str,
+    /// The name after the path of the object. Of a key of a region it is what follows the region's place.
+    pub path: &'static str,
+    pub form: Form,
+    pub presence: Presence,
+}
+
+/// A row: its number, its object's number and path, its name, its form, and its presence where it isn't
+/// required.
+macro_rules! key_row {
+    ($number:literal in $object:literal $path:literal $name:literal: $form:expr) => {
+        key_row!($number in $object $path $name: $form, Presence::Required)
+    };
+    ($number:literal in $object:literal $path:literal $name:literal: $form:expr, $presence:expr) => {
+        Row {
+            number: $number,
+            object: $object,
+            name: $name,
+            path: concat!($path, $name),
+            form: $form,
+            presence: $presence,
+        }
+    };
+}
+
+const FIRSTS: Form = Form::Between(MIN_FIRST as i64, MAX_FIRST as i64);
+
+const WIDTHS: Form = Form::Odd(MIN_WINDOW_SIDE as i64, MAX_WINDOW_WIDTH as i64);
+
+const HEIGHTS: Form = Form::Odd(MIN_WINDOW_SIDE as i64, MAX_WINDOW_HEIGHT as i64);
+
+const ENTRIES: Form = Form::Matrix(MIN_ENTRY, MAX_ENTRY);
+
+const STEPS: Form = Form::Between(MIN_STEP as i64, MAX_STEP as i64);
+
+const NODE_COUNTS: Form = Form::Between(MIN_NODE_COUNT as i64, MAX_NODE_COUNT as i64);
+
+const COORDINATES: Form = Form::Nodes(MIN_NODE as i64, MAX_NODE as i64);
+
+const OFFSETS: Form = Form::Between(-MAX_OFFSET, MAX_OFFSET);
+
+const PLACES: Form = Form::Between(-MAX_PLACE, MAX_PLACE);
+
+const GRID_LINES: Form = Form::Between(1, MAX_GRID_LINES as i64);
+
+const BASES: Form = Form::Between(-MAX_HEIGHT, MAX_HEIGHT);
+
+const OF_MATRIX: Presence = Presence::OfKind("projective");
+
+const OF_MESH: Presence = Presence::OfKind("mesh");
+
+pub const TOP: Row = key_row!(1 in 0 "" "top": Form::Object);
+
+pub const VERSION: Row = key_row!(2 in 1 "" "version": Form::Between(1, 1));
+
+pub const DISPARITIES: Row = key_row!(3 in 1 "" "disparities": Form::Object);
+
+pub const FIRST: Row = key_row!(4 in 3 "disparities." "first": FIRSTS);
+
+pub const COUNT: Row = key_row!(5 in 3 "disparities." "count": Form::Between(1, MAX_COUNT as i64));
+
+pub const CENSUS: Row = key_row!(6 in 1 "" "census": Form::Object);
+
+pub const WIDTH: Row = key_row!(7 in 6 "census." "width": WIDTHS);
+
+pub const HEIGHT: Row = key_row!(8 in 6 "census." "height": HEIGHTS);
+
+pub const PENALTIES: Row = key_row!(9 in 1 "" "penalties": Form::Object);
+
+pub const P1: Row = key_row!(10 in 9 "penalties." "p1": Form::Between(1, MAX_PENALTY as i64));
+
+pub const P2: Row = key_row!(11 in 9 "penalties." "p2": Form::From("p1", MAX_PENALTY as i64));
+
+pub const WARP: Row = key_row!(12 in 1 "" "warp": Form::Warps, Presence::Optional);
+
+pub const LEFT: Row = key_row!(13 in 12 "warp." "left": Form::Object);
+
+pub const KIND: Row = key_row!(14 in 13 "warp.left." "kind": Form::Kind);
+
+pub const MATRIX: Row = key_row!(15 in 13 "warp.left." "matrix": ENTRIES, OF_MATRIX);
+
+pub const STEP: Row = key_row!(16 in 13 "warp.left." "step": STEPS, OF_MESH);
+
+pub const MESH_COLS: Row = key_row!(17 in 13 "warp.left." "cols": NODE_COUNTS, OF_MESH);
+
+pub const MESH_ROWS: Row = key_row!(18 in 13 "warp.left." "rows": NODE_COUNTS, OF_MESH);
+
+pub const NODES: Row = key_row!(19 in 13 "warp.left." "nodes": COORDINATES, OF_MESH);
+
+/// The right side has the keys of the left one, seven numbers on.
+pub const RIGHT: Row = key_row!(20 in 12 "warp." "right": Form::Object);
+
+const RIGHT_KIND: Row = key_row!(21 in 20 "warp.right." "kind": Form::Kind);
+
+const RIGHT_MATRIX: Row = key_row!(22 in 20 "warp.right." "matrix": ENTRIES, OF_MATRIX);
+
+const RIGHT_STEP: Row = key_row!(23 in 20 "warp.right." "step": STEPS, OF_MESH);
+
+const RIGHT_COLS: Row = key_row!(24 in 20 "warp.right." "cols": NODE_COUNTS, OF_MESH);
+
+const RIGHT_ROWS: Row = key_row!(25 in 20 "warp.right." "rows": NODE_COUNTS, OF_MESH);
+
+const RIGHT_NODES: Row = key_row!(26 in 20 "warp.right." "nodes": COORDINATES, OF_MESH);
+
+pub const CAMERA: Row = key_row!(27 in 1 "" "camera": Form::Object, Presence::With("grid"));
+
+pub const FOCAL: Row = key_row!(28 in 27 "camera." "focal": Form::Between(1, MAX_FOCAL));
+
+pub const BASELINE: Row = key_row!(29 in 27 "camera." "baseline": Form::Between(1, MAX_BASELINE));
+
+pub const CX: Row = key_row!(30 in 27 "camera." "cx": OFFSETS);
+
+pub const CY: Row = key_row!(31 in 27 "camera." "cy": OFFSETS);
+
+pub const DOFFS: Row = key_row!(32 in 27 "camera." "doffs": OFFSETS);
+
+pub const MOUNT: Row = key_row!(33 in 27 "camera." "mount": Form::Between(0, MAX_MOUNT));
+
+pub const NEAR: Row = key_row!(34 in 27 "camera." "near": Form::Between(1, MAX_DEPTH));
+
+pub const FAR: Row = key_row!(35 in 27 "camera." "far": Form::From("near", MAX_DEPTH));
+
+pub const GRID: Row = key_row!(36 in 1 "" "grid": Form::Object, Presence::With("regions"));
+
+pub const WEST: Row = key_row!(37 in 36 "grid." "west": PLACES);
+
+pub const SOUTH: Row = key_row!(38 in 36 "grid." "south": PLACES);
+
+pub const CELL: Row = key_row!(39 in 36 "grid." "cell": Form::Between(1, MAX_CELL));
+
+pub const GRID_COLS: Row = key_row!(40 in 36 "grid." "cols": GRID_LINES);
+
+pub const GRID_ROWS: Row = key_row!(41 in 36 "grid." "rows": GRID_LINES);
+
+pub const REGIONS: Row = key_row!(42 in 1 "" "regions": Form::Regions, Presence::Optional);
+
+pub const REGION: Row = key_row!(43 in 42 "" "]": Form::Object);
+
+pub const REGION_NAME: Row = key_row!(44 in 43 "]." "name": Form::Name);
+
+pub const REGION_COL: Row = key_row!(45 in 43 "]." "col": Form::Column);
+
+pub const REGION_ROW: Row = key_row!(46 in 43 "]." "row": Form::Line);
+
+pub const REGION_COLS: Row = key_row!(47 in 43 "]." "cols": Form::ColumnsFrom("col"));
+
+pub const REGION_ROWS: Row = key_row!(48 in 43 "]." "rows": Form::LinesFrom("row"));
+
+pub const REGION_BASE: Row = key_row!(49 in 43 "]." "base": BASES);
+
+/// The table, in the order of the checks.
+static KEYS: [Row; 49] = [
+    TOP,
+    VERSION,
+    DISPARITIES,
+    FIRST,
+    COUNT,
+    CENSUS,
+    WIDTH,
+    HEIGHT,
+    PENALTIES,
+    P1,
+    P2,
+    WARP,
+    LEFT,
+    KIND,
+    MATRIX,
+    STEP,
+    MESH_COLS,
+    MESH_ROWS,
+    NODES,
+    RIGHT,
+    RIGHT_KIND,
+    RIGHT_MATRIX,
+    RIGHT_STEP,
+    RIGHT_COLS,
+    RIGHT_ROWS,
+    RIGHT_NODES,
+    CAMERA,
+    FOCAL,
+    BASELINE,
+    CX,
+    CY,
+    DOFFS,
+    MOUNT,
+    NEAR,
+    FAR,
+    GRID,
+    WEST,
+    SOUTH,
+    CELL,
+    GRID_COLS,
+    GRID_ROWS,
+    REGIONS,
+    REGION,
+    REGION_NAME,
+    REGION_COL,
+    REGION_ROW,
+    REGION_COLS,
+    REGION_ROWS,
+    REGION_BASE,
+];
+
+/// The table, which is that of the definitions.
+#[tactic(auto, unfolding(crate::specs::Table::keys))]
+pub fn rows() -> &'static [Row]
+    ensures { map meant result.now ≡ keys }
+{
+    &KEYS
+}

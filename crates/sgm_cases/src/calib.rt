@@ -1,0 +1,152 @@
+//! `calib TEXT`: the calibration that the text is, or its first fault.
+//!
+//! The answer is `ok`, the least disparity and their number, the window's sides, the penalties, and then
+//! each warp, the camera, the grid and the regions with their names and numbers, where they are there; or
+//! the fault with its key's number, index and path. Of more than eight nodes or regions the last alone
+//! stands there, after their number.
+
+use crate::escapes;
+use sgm_calib::{Calib, CalibError, CalibFault, Key, read};
+use sgm_grid::GridSpec;
+use sgm_height::Camera;
+use sgm_rectify::Warp;
+use sgm_report::Region;
+use std::alloc::{AllocError, Global};
+use std::fmt::Write;
+
+/// As many nodes or regions stand in an answer.
+const MAX_SHOWN: usize = 8;
+
+fn push_key(text: &mut String, fault: &str, key: Key) -> Result<(), AllocError> {
+    let (number, index, front, back) = (key.number, key.index, key.front(), key.back());
+    if key.has_index() {
+        write!(text, "{fault} {number} {index} {front}{index}{back}")
+    } else {
+        write!(text, "{fault} {number} {index} {front}")
+    }
+}
+
+fn push_fault(text: &mut String, fault: CalibFault) -> Result<(), AllocError> {
+    match fault {
+        CalibFault::Json => text.push_str("json"),
+        CalibFault::Version => text.push_str("version"),
+        CalibFault::Missing(key) => push_key(text, "missing", key),
+        CalibFault::Unknown(key) => push_key(text, "unknown", key),
+        CalibFault::Type_(key) => push_key(text, "type", key),
+        CalibFault::Range(key) => push_key(text, "range", key),
+    }
+}
+
+/// The nodes or regions that are shown.
+fn shown<T>(items: &[T]) -> &[T] {
+    if items.len() <= MAX_SHOWN {
+        items
+    } else {
+        items.get(items.len() - 1..).unwrap_or(&[])
+    }
+}
+
+fn push_nodes(text: &mut String, nodes: &[(i32, i32)]) -> Result<(), AllocError> {
+    let count = nodes.len();
+    write!(text, " nodes {count}")?;
+    for (u, v) in shown(nodes) {
+        write!(text, " {u},{v}")?;
+    }
+    Ok(())
+}
+
+fn push_warp(text: &mut String, warp: &Warp) -> Result<(), AllocError> {
+    match warp {
+        Warp::Identity => text.push_str(" identity"),
+        Warp::Projective(matrix) => {
+            text.push_str(" projective")?;
+            for entry in matrix {
+                write!(text, " {entry}")?;
+            }
+            Ok(())
+        }
+        Warp::Mesh {
+            step,
+            cols,
+            rows,
+            nodes,
+        } => {
+            write!(text, " mesh {step} {cols} {rows}")?;
+            push_nodes(text, nodes.as_slice())
+        }
+    }
+}
+
+fn push_camera(text: &mut String, camera: Camera) -> Result<(), AllocError> {
+    let Camera {
+        focal,
+        baseline,
+        cx,
+        cy,
+        doffs,
+        mount,
+        near,
+        far,
+    } = camera;
+    write!(
+        text,
+        " camera {focal} {baseline} {cx} {cy} {doffs} {mount} {near} {far}"
+    )
+}
+
+fn push_grid(text: &mut String, grid: GridSpec) -> Result<(), AllocError> {
+    let GridSpec {
+        west,
+        south,
+        cell,
+        cols,
+        rows,
+    } = grid;
+    write!(text, " grid {west} {south} {cell} {cols} {rows}")
+}
+
+fn push_region(text: &mut String, region: &Region) -> Result<(), AllocError> {
+    let (name, col, row) = (region.name.as_str(), region.col, region.row);
+    let (cols, rows, base) = (region.cols, region.rows, region.base);
+    write!(text, " [{name}] {col} {row} {cols} {rows} {base}")
+}
+
+fn push_regions(text: &mut String, regions: &[Region]) -> Result<(), AllocError> {
+    let count = regions.len();
+    write!(text, " regions {count}")?;
+    for region in shown(regions) {
+        push_region(text, region)?;
+    }
+    Ok(())
+}
+
+fn push_calib(text: &mut String, calib: &Calib) -> Result<(), AllocError> {
+    let (span, window, pen) = (calib.span(), calib.window(), calib.pen());
+    let (first, count, width, height) = (span.first, span.count, window.width, window.height);
+    let (p1, p2) = (pen.p1(), pen.p2());
+    write!(text, "ok {first} {count} {width} {height} {p1} {p2}")?;
+    push_warp(text, calib.left())?;
+    push_warp(text, calib.right())?;
+    if let Some(camera) = calib.camera() {
+        push_camera(text, camera)?;
+    }
+    if let Some(grid) = calib.grid() {
+        push_grid(text, grid)?;
+    }
+    if let Some(regions) = calib.regions() {
+        push_regions(text, regions)?;
+    }
+    Ok(())
+}
+
+/// The answer to the case of that text.
+pub fn answer(alloc: Global, case: &str) -> Result<String, AllocError> {
+    let bytes = escapes::bytes(alloc, case)?;
+    let mut text = String::new(alloc);
+    match read(alloc, &bytes) {
+        Ok(calib) => push_calib(&mut text, &calib)?,
+        Err(CalibError::Fault(fault)) => push_fault(&mut text, fault)?,
+        Err(CalibError::NoMemory) => text.push_str("out of memory")?,
+    }
+    Ok(text)
+}

@@ -1,0 +1,46 @@
+use Rattle.std.proofs.Common.{◌≡◌, ℕ, ◌+◌, ◌-◌, ◌*◌, ◌/◌, ◌^◌, ◌≤◌, List, ap, ◌∙◌, arith, drop, length, slice_index, subst, sym, take}
+use Rattle.std.proofs.lemmas.List.{length-take}
+use Rattle.sgm_census.specs.Windows.{WindowSides}
+use Rattle.sgm_census.specs.Packed.{centre_in, lesser, pushed}
+use Rattle.sgm_census.proofs.CodeLists.{part_at}
+use Rattle.sgm_census.proofs.RowBits.{words_more, words_room, words_small}
+use Rattle.sgm_census.proofs.pack.window_words.Goals as goal
+
+pub push_row-requires-clause-room : goal.push_row-requires-clause-room
+push_row-requires-clause-room c = λ k h.
+    let values = c.args.values.now in
+    let width = c.args.width in
+    let window = c.args.window in
+    let j = c.loop-j.j in
+    let word = slice_index c.loop-j.words k in
+    let wide : c.window.inside.width ≡ window.width = ap (λ (s : WindowSides). s.width) c.window.view_is in
+    let rows : ℕ → List ℕ = λ j. take window.width (drop k (take width (drop ((c.args.top + j) * width) values))) in
+    let small = words_small (centre_in width values window k c.args.top) window.width j rows (λ i. omega (arith, length-take window.width (drop k (take width (drop ((c.args.top + i) * width) values))))) in
+    subst (λ n. (word + 1) * 2 ^ n ≤ 2 ^ 63) (sym wide)
+    (words_room window.width c.window.inside.height j word (omega (arith, c.window.invariant.wide)) (omega (arith, c.window.invariant.high)) (omega arith)
+    (omega (arith, c.loop-j.invariant k h, small)))
+
+pub loop-j-preserved : goal.loop-j-preserved
+loop-j-preserved c = λ k h.
+    let values = c.args.values.now in
+    let width = c.args.width in
+    let window = c.args.window in
+    let top = c.args.top in
+    let j = c.loop-j.j in
+    let from = (top + j) * width in
+    let w = c.window.inside.width in
+    let centre = (top + c.window.inside.height / 2) * width + w / 2 in
+    let len = length c.args.words.now in
+    let word = slice_index c.loop-j.words k in
+    let at = centre_in width values window k top in
+    let wide : w ≡ window.width = ap (λ (s : WindowSides). s.width) c.window.view_is in
+    let high : c.window.inside.height ≡ window.height = ap (λ (s : WindowSides). s.height) c.window.view_is in
+    let whole : from + width - from ≡ width = omega arith in
+    let place : centre + k ≡ (top + window.height / 2) * width + window.width / 2 + k =
+    ap (λ n. (top + n / 2) * width + w / 2 + k) high ∙ ap (λ n. (top + window.height / 2) * width + n / 2 + k) wide in
+    let rows : ℕ → List ℕ = λ j. take window.width (drop k (take width (drop ((top + j) * width) values))) in
+    words_more at j word (slice_index c.push_row.new.words k) rows (c.loop-j.invariant k (omega arith))
+    (c.push_row.ensures k h
+    ∙ ap (λ v. pushed word (lesser v (take w (drop k (take (from + width - from) (drop from values)))))) (part_at values centre (centre + len - centre) k 0 (omega arith) ∙ ap (slice_index values) place)
+    ∙ ap (λ n. pushed word (lesser at (take w (drop k (take n (drop from values)))))) whole
+    ∙ ap (λ n. pushed word (lesser at (take n (drop k (take width (drop from values)))))) wide)

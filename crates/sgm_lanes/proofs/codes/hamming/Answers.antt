@@ -1,0 +1,8 @@
+use Rattle.std.proofs.Common.{◌≡◌, ◌*◌, slice_index, count_ones, bit_xor, arith}
+use Rattle.sgm_lanes.proofs.Lanes.{chunk_more}
+use Rattle.sgm_lanes.proofs.codes.hamming.Goals as goal
+
+pub loop-number-preserved : goal.loop-number-preserved
+loop-number-preserved c =
+    chunk_more (λ k x. x ≡ count_ones (bit_xor (slice_index c.args.a.now k) (slice_index c.args.b.now k))) c.loop-number.into c.store.new.into c.differing_from.result
+    (16 * c.loop-number.number) _ (omega arith) c.loop-number.invariant c.differing_from.ensures.each c.store.ensures.inside c.store.ensures.outside

@@ -1,0 +1,54 @@
+ghost use Rattle.std.specs.Prelude.{◌≡◌, ℕ, ◌+◌, ◌*◌, ◌/◌, ◌<◌, ◌≤◌, ◌⊎◌, length, slice_index, EachIndex, count_ones, bit_xor};
+
+use std::simd::prelude::*;
+
+/// How many words stand side by side.
+const WORDS: usize = 16;
+
+/// How many bits of two words differ.
+#[inline]
+fn differing(a: u64, b: u64) -> u8
+    ensures { result ≡ count_ones (bit_xor a b) }
+{
+    (a ^ b).count_ones() as u8
+}
+
+/// How many bits of the words from `at` on differ, pair by pair.
+#[inline]
+fn differing_from(a: &[u64], b: &[u64], at: usize) -> u8x16
+    requires a_inside { at + WORDS ≤ length a.now }
+    requires b_inside { at + WORDS ≤ length b.now }
+    ensures len { length result ≡ WORDS }
+    ensures each { (i : ℕ) → i < WORDS → slice_index result i
+        ≡ count_ones (bit_xor (slice_index a.now (at + i)) (slice_index b.now (at + i))) }
+{
+    let differing = u64x16::from_slice(&a[at..]) ^ u64x16::from_slice(&b[at..]);
+    differing.count_ones().cast()
+}
+
+/// Writes bytes from `at` on.
+#[inline]
+fn store(lanes: u8x16, at: usize, into: &mut [u8])
+    requires { (at + WORDS ≤ length into.old) × (length lanes ≡ WORDS) }
+    ensures inside { (i : ℕ) → i < WORDS → slice_index into.new (at + i) ≡ slice_index lanes i }
+    ensures outside { (k : ℕ) → (k < at) ⊎ (at + WORDS ≤ k) → slice_index into.new k ≡ slice_index into.old k }
+{
+    lanes.copy_to_slice(&mut into[at..]);
+}
+
+/// Writes, for each place, how many bits of the two words there differ. The three slices have one
+/// length.
+pub fn hamming(a: &[u64], b: &[u64], into: &mut [u8])
+    requires a_length { length a.now ≡ length into.old }
+    requires b_length { length b.now ≡ length into.old }
+    ensures { EachIndex into.new (λ k. slice_index into.new k ≡ count_ones (bit_xor (slice_index a.now k) (slice_index b.now k))) }
+{
+    let chunks = into.len() / WORDS;
+    for number in 0..chunks {
+        let at = WORDS * number;
+        store(differing_from(a, b, at), at, into);
+    }
+    for i in WORDS * chunks..into.len() {
+        into[i] = differing(a[i], b[i]);
+    }
+}
