@@ -74,20 +74,3 @@ rows_low g top rows most f volume hw hc h low k l =
     let ej : x * g.count + d ≡ j = div-add-mod' j g.count in
     let ek : r * n + (x * g.count + d) ≡ k = ap (λ m. r * n + m) ej ∙ div-add-mod' k n in
     omega (arith, ap (slice_index volume) ek, h.each r x d hr hx hd, low r x d hr hx hd)
-
--- what is low in both parts is low in the whole
-pub low_append : (most : ℕ) (xs ys : List ℕ) → All (λ v. v ≤ most) xs → All (λ v. v ≤ most) ys → All (λ v. v ≤ most) (xs ++ ys)
-low_append most xs ys hx hy = All-from_get_or (λ v. v ≤ most) (xs ++ ys) 0 (λ k l. elim (cases_lt k (length xs)) [
-  | inl a ↦ omega (arith, get_or_append_left xs ys 0 k a, All-get_or (λ v. v ≤ most) xs k 0 a hx)
-  | inr a ↦ (let j : ℕ = k - length xs in
-      let e : length xs + j ≡ k = omega arith in
-      let hj : j < length ys = omega (arith, length-append xs ys, l) in
-      omega (arith, ap (slice_index (xs ++ ys)) e, get_or-append-add xs ys j 0, All-get_or (λ v. v ≤ most) ys j 0 hj hy))
-])
-
--- what is low everywhere in a list is low past its end too
-pub low_everywhere : (most : ℕ) (xs : List ℕ) → All (λ v. v ≤ most) xs → (k : ℕ) → slice_index xs k ≤ most
-low_everywhere most xs h k = elim (cases_lt k (length xs)) [
-  | inl l ↦ All-get_or (λ v. v ≤ most) xs k 0 l h
-  | inr l ↦ omega (arith, get_or_past xs k 0 l)
-]

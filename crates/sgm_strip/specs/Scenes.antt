@@ -3,8 +3,8 @@ use Rattle.std.specs.Prelude.{◌≡◌, ℕ, ◌*◌, ◌≤◌}
 use Rattle.sgm_base.specs.declared.limits.TheConstants.{MAX_PENALTY}
 use Rattle.sgm_base.specs.Disparities.{Disparities, IsCount, IsFirst}
 use Rattle.sgm_census.specs.Codes.{Codes, IsCodes}
-use Rattle.sgm_census.specs.Costs.{census_cost}
-use Rattle.sgm_energy.specs.Rays.{Problem, fixed_problem}
+use Rattle.sgm_census.specs.Matching.{matching_problem}
+use Rattle.sgm_energy.specs.Rays.{Problem}
 
 -- what contracts see of a scene
 pub record SceneParts : Type 0 where
@@ -28,12 +28,6 @@ pub record IsScene (scene : SceneParts) : Type 0 where
   pub count_in_range : IsCount scene.span.count
   pub ordered : scene.p1 ≤ scene.p2
   pub limited : scene.p2 ≤ MAX_PENALTY
-
--- the problem of matching two planes of codes: the cost of an index at a pixel is the census cost, and the penalties
--- are p1 and p2 everywhere
-abbrev pub matching_problem : Codes → Codes → Disparities → ℕ → ℕ → Problem
-matching_problem left right span p1 p2 =
-    fixed_problem left.width left.height span.count (λ p d. census_cost left right span.first p.x p.y d) p1 p2
 
 -- the problem of a scene. All that is kept of costs and path values is said of it
 abbrev pub problem_of : SceneParts → Problem

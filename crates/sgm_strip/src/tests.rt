@@ -1,7 +1,6 @@
-ghost use Rattle.std.specs.Prelude.{◌≡◌, All};
+ghost use Rattle.std.specs.Prelude.{◌≡◌, ◌≤◌, ◌<◌, All, IfOk};
 ghost use Rattle.sgm_strip.specs.Scenes.{row_length};
-ghost use Rattle.sgm_strip.specs.Fronts.{FrontParts};
-ghost use Rattle.sgm_strip.specs.Parcels.{ParcelParts};
+ghost use Rattle.sgm_strip.specs.Parcels.{IsOf};
 
 use super::{Cut, Front, Parcel, Row, Scene, pass};
 use sgm_base::{Plane, Size, Span};
@@ -54,4 +53,110 @@ fn pass_if_next(parcel: &mut Parcel, front: &mut Front, spare: &mut Row)
     if front.next() == next && !parcel.is_done(dir) {
         pass(parcel, front, spare, 16);
     }
+}
+
+/// Which strip comes after `k` others in a direction.
+fn after(dir: Dir, k: usize, strips: usize) -> usize
+    requires { k < strips }
+    ensures { result < strips }
+{
+    if dir.offset().1 > 0 {
+        k
+    } else {
+        strips - 1 - k
+    }
+}
+
+/// Hands a front through all strips in their order.
+fn hand_through(parcels: &mut Vec<Parcel>, front: &mut Front, spare: &mut Row)
+    requires spare { spare.old ≡ row_length front.old.scene }
+    requires kind { All (IsOf front.old.scene front.old.cut) parcels.old.items }
+    ensures spare { spare.new ≡ spare.old }
+    ensures kind { All (IsOf front.old.scene front.old.cut) parcels.new.items }
+{
+    for k in 0..parcels.len() {
+        let at = after(front.dir(), k, parcels.len());
+        pass_if_next(&mut parcels[at], front, spare);
+    }
+}
+
+/// All parcels of a scene, strip by strip.
+fn parcels_of(alloc: Global, scene: &Scene, cut: Cut) -> Result<Vec<Parcel>, Fail>
+    requires { cut.height ≡ scene.now.left.height }
+    ensures { IfOk result (λ v. All (IsOf scene.now cut) v.items) }
+{
+    let mut parcels = Vec::new(alloc);
+    for strip in 0..cut.strips {
+        parcels.push(Parcel::make(alloc, scene, cut, strip)?)?;
+    }
+    Ok(parcels)
+}
+
+/// The parcels of the worked example, through which all six fronts were handed.
+fn handed_through(alloc: Global, scene: &Scene, strips: u32) -> Result<Vec<Parcel>, Fail>
+    requires { (1 ≤ strips) × (strips ≤ 64) }
+{
+    let size = scene.size();
+    let cut = Cut::even(size.height, strips);
+    let mut parcels = parcels_of(alloc, scene, cut)?;
+    let mut spare = Row::make(alloc, size, scene.span())?;
+    for number in 0..6 {
+        let dir = Dir::from_front(number).ok_or("front")?;
+        if dir.is_level() {
+            return Err("level")?;
+        }
+        let mut front = Front::make(alloc, scene, cut, dir)?;
+        hand_through(&mut parcels, &mut front, &mut spare);
+    }
+    Ok(parcels)
+}
+
+/// Whether all directions are done and each row has the sums of the worked example.
+fn has_sums(parcel: &Parcel) -> bool {
+    let outer = [64, 65, 65, 65, 66, 65, 66, 64, 65, 64];
+    let inner = [64, 65, 49, 64, 49, 1, 49, 0, 65, 64];
+    let cut = parcel.cut();
+    let strip = parcel.strip();
+    let top = cut.first(strip);
+    for y in top..top + cut.rows(strip) {
+        let wanted = if y == 1 { inner } else { outer };
+        if parcel.sums_row(y) != wanted.as_slice() {
+            return false;
+        }
+    }
+    parcel.is_complete()
+}
+
+#[test]
+fn sums_are_those_of_whole_rays_whatever_the_strips(rt: HostRuntime) -> Result<(), Fail> {
+    let scene = scene_of(rt.alloc())?;
+    for strips in 1..4 {
+        let parcels = handed_through(rt.alloc(), &scene, strips)?;
+        assert_eq!(rt; parcels.len(), strips as usize);
+        assert!(rt;
+            parcels.iter().all(|parcel| has_sums(parcel)),
+            "{strips} strips"
+        );
+    }
+    Ok(())
+}
+
+fn shared<T: Send + Sync>(value: &T) -> &T
+    ensures { result.now ≡ value.now }
+{
+    value
+}
+
+#[test]
+fn threads_may_share_and_move_them(rt: HostRuntime) -> Result<(), Fail> {
+    let alloc = rt.alloc();
+    let scene = scene_of(alloc)?;
+    let size = scene.size();
+    let cut = Cut::even(size.height, 2);
+    let parcel = Parcel::make(alloc, shared(&scene), cut, 0)?;
+    let front = Front::make(alloc, &scene, cut, Dir::Down)?;
+    let _ = shared(&Row::make(alloc, size, scene.span())?);
+    assert_eq!(rt; shared(&parcel).strip(), 0);
+    assert_eq!(rt; shared(&front).next(), 0);
+    Ok(())
 }
