@@ -6,6 +6,7 @@ pub mod ListLemmas
 pub mod Names
 pub mod Objects
 pub mod RegionLemmas
+pub mod Short
 pub mod TableLemmas
 pub mod Top
 pub mod WarpLemmas

@@ -1,4 +1,4 @@
-ghost use Rattle.std.specs.Prelude.{◌≡◌, ◌==◌, option_map};
+ghost use Rattle.std.specs.Prelude.{◌≡◌, ◌≤◌, ◌==◌, length, option_map};
 ghost use Rattle.std.specs.List.{find};
 ghost use Rattle.sgm_calib.specs.Rows.{meant};
 ghost use Rattle.sgm_calib.specs.Paths.{row_of, part_of, has_index, front_of, back_of};
@@ -51,7 +51,8 @@ impl Key {
 
     /// The key's path, as `disparities.first`, or what stands before the index.
     pub fn front(&self) -> &'static str
-        ensures { result.now ≡ front_of self.now.number }
+        ensures value { result.now ≡ front_of self.now.number }
+        ensures short { length result.now ≤ 40 }
     {
         if self.has_index() {
             "regions["
@@ -62,7 +63,8 @@ impl Key {
 
     /// What follows the index, or nothing.
     pub fn back(&self) -> &'static str
-        ensures { result.now ≡ back_of self.now.number }
+        ensures value { result.now ≡ back_of self.now.number }
+        ensures short { length result.now ≤ 40 }
     {
         if self.has_index() {
             part(self.number)
