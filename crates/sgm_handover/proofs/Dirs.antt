@@ -1,5 +1,5 @@
 -- Directions, the numbers of their fronts, and the strips at their positions.
-use Rattle.std.proofs.Common.{◌≡◌, ◌≢◌, ℕ, ◌+◌, ◌-◌, ◌<◌, Bool, true, false, cond, nat_lt, List, length, get_or, set, sym, refl, ap, ◌∙◌, subst, arith, lit<, zero, suc, get_or-set_same, get_or-set_other, Option, Some, None, slice_index}
+use Rattle.std.proofs.Common.{◌≡◌, ◌≢◌, ℕ, ◌-◌, ◌<◌, Bool, true, false, cond, List, length, get_or, set, sym, refl, ap, ◌∙◌, arith, lit<, zero, suc, get_or-set_same, get_or-set_other, Option, Some, None}
 use mathlib.Core.Logic.{dite}
 use native.Mathlib.Decide.{ℕ_discrete}
 use Rattle.std.specs.Option.{option_map_or}

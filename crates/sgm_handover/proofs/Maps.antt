@@ -1,5 +1,5 @@
 -- A map that is changed at one place, and options of workers.
-use Rattle.std.proofs.Common.{◌≡◌, ◌≢◌, ℕ, ◌⊎◌, ◌==◌, Bool, true, false, cond, sym, refl, ap, ◌∙◌, inl, inr, eq-eqb, ne_eqb, Option, Some, None}
+use Rattle.std.proofs.Common.{◌≡◌, ◌≢◌, ℕ, ◌⊎◌, Bool, true, false, cond, sym, refl, ap, ◌∙◌, inl, inr, eq-eqb, ne_eqb, Option, Some, None}
 use mathlib.Core.Logic.{dite}
 use native.Mathlib.Decide.{ℕ_discrete}
 use Rattle.sgm_handover.specs.Handover.{changed, is_worker}

@@ -1,12 +1,12 @@
 -- The strips at which a front is taken are those of its positions, in order.
-use Rattle.std.proofs.Common.{◌≡◌, ◌≢◌, ℕ, zero, suc, ◌+◌, ◌<◌, ◌≤◌, ◌==◌, Bool, true, false, cond, List, [], ◌∷◌, ◌++◌, option_to_list, sym, refl, ap, ◌∙◌, subst, arith, eq-eqb, ne_eqb, append_assoc, append-nil, Option, Some, None}
+use Rattle.std.proofs.Common.{◌≡◌, ◌≢◌, ℕ, zero, suc, ◌+◌, ◌<◌, ◌≤◌, Bool, true, false, cond, List, [], ◌∷◌, ◌++◌, option_to_list, sym, refl, ap, ◌∙◌, subst, arith, eq-eqb, ne_eqb, append_assoc, append-nil, Option, Some, None}
 use Rattle.std.specs.Prelude.{is_some, find}
 use Rattle.std.specs.List.{range_with_len}
 use Rattle.std.proofs.lemmas.List.FromFn.{map-range_with_len_more}
 use mathlib.Core.Logic.{dite}
 use native.Mathlib.Decide.{ℕ_discrete}
 use Rattle.sgm_energy.specs.declared.dir.Dir.{Dir}
-use Rattle.sgm_energy.specs.Dirs.{number_of, is_level, strip_at}
+use Rattle.sgm_energy.specs.Dirs.{number_of, strip_at}
 use Rattle.sgm_handover.specs.Handover.{Handover, fresh, next, Sound, changed, is_worker}
 use Rattle.sgm_handover.specs.Events.{Legal, after, run, AllLegal, strip_of, taken_at, taken, strips_below, begun, TakenInOrder}
 use Rattle.sgm_handover.specs.declared.event.Event.{Event}

@@ -1,11 +1,11 @@
 -- The state after a write to one field of a machine.
-use Rattle.std.proofs.Common.{◌≡◌, ◌≢◌, ℕ, ◌+◌, ◌-◌, ◌<◌, zero, suc, false, List, ◌∷◌, length, get_or, set, replicate, sym, refl, ap, ◌∙◌, subst, arith, get_or-set_same, get_or-set_other, Option, Some, None}
+use Rattle.std.proofs.Common.{◌≡◌, ◌≢◌, ℕ, ◌+◌, ◌-◌, ◌<◌, zero, suc, false, List, length, get_or, set, replicate, sym, refl, ap, ◌∙◌, subst, get_or-set_same, get_or-set_other, Option, Some, None}
 use mathlib.Core.Logic.{dite}
 use native.Mathlib.Decide.{ℕ_discrete}
 use Rattle.std.specs.Option.{option_map_or}
 use Rattle.sgm_energy.specs.declared.dir.Dir.{Dir}
 use Rattle.sgm_energy.specs.Dirs.{number_of, is_level, front_of}
-use Rattle.sgm_handover.specs.Handover.{Handover, Sound, changed, fresh, HasNoFront}
+use Rattle.sgm_handover.specs.Handover.{Sound, changed, fresh, HasNoFront}
 use Rattle.sgm_handover.specs.Events.{after}
 use Rattle.sgm_handover.specs.Fields.{at_front, handover}
 use Rattle.sgm_handover.specs.declared.event.Event.TheVariants.{Claim, Take, Put, Return}

@@ -1,10 +1,10 @@
 -- Each legal event keeps the state sound.
-use Rattle.std.proofs.Common.{◌≡◌, ◌≢◌, ℕ, ◌+◌, ◌<◌, ◌≤◌, ◌⊎◌, false, List, [], ◌∷◌, sym, refl, ap, ◌∙◌, subst, ⊎_elim, arith, Option, Some, None}
+use Rattle.std.proofs.Common.{◌≡◌, ◌≢◌, ℕ, ◌+◌, ◌<◌, ◌≤◌, false, sym, ap, ◌∙◌, subst, ⊎_elim, arith, Some, None}
 use mathlib.Core.Logic.{dite}
 use native.Mathlib.Decide.{ℕ_discrete}
 use Rattle.sgm_energy.specs.declared.dir.Dir.{Dir}
 use Rattle.sgm_energy.specs.Dirs.{number_of, is_level, strip_at}
-use Rattle.sgm_handover.specs.Handover.{Handover, fresh, next, Holds, HoldsNext, Sound, changed}
+use Rattle.sgm_handover.specs.Handover.{Handover, fresh, next, HoldsNext, Sound}
 use Rattle.sgm_handover.specs.Events.{Legal, after, GoesOn}
 use Rattle.sgm_handover.specs.declared.event.Event.{Event}
 use Rattle.sgm_handover.specs.declared.event.Event.TheVariants.{Claim, Take, Put, Return}

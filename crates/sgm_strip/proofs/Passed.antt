@@ -1,5 +1,5 @@
 -- What a front and a parcel keep when the front is passed on through the parcel's strip.
-use Rattle.std.proofs.Common.{◌≡◌, ◌≢◌, ℕ, ◌+◌, ◌-◌, ◌*◌, ◌%◌, ◌<◌, ◌≤◌, ◌==◌, Bool, true, false, not, eqb, List, [], ◌∷◌, ◌++◌, length, get_or, slice_index, replicate, Option, Some, None, refl, sym, ap, ◌∙◌, subst, inl, inr, arith, eq-eqb, ne_eqb}
+use Rattle.std.proofs.Common.{◌≡◌, ℕ, ◌+◌, ◌-◌, ◌*◌, ◌%◌, ◌<◌, ◌≤◌, ◌==◌, Bool, true, false, not, List, [], ◌∷◌, ◌++◌, length, get_or, slice_index, replicate, Some, None, refl, sym, ap, ◌∙◌, subst, inl, inr, arith, eq-eqb, ne_eqb}
 use Rattle.std.specs.Prelude.{All, slice_get}
 use Rattle.std.proofs.lemmas.Bool.{cases_eq, cases_lt}
 use Rattle.std.proofs.lemmas.List.{length_push, length-set, length-replicate, get_or_append_left, get_or_push}
@@ -11,15 +11,14 @@ use Rattle.sgm_base.specs.declared.limits.TheConstants.{MAX_COST, MAX_PATH_VALUE
 use Rattle.sgm_energy.specs.declared.dir.Dir.{Dir}
 use Rattle.sgm_energy.specs.declared.dir.Dir.TheVariants.{Right, Left}
 use Rattle.sgm_energy.specs.Dirs.{is_level, number_of, position_of, strip_at}
-use Rattle.sgm_energy.specs.Rays.{Pixel, Problem, row_before}
+use Rattle.sgm_energy.specs.Rays.{Pixel, row_before}
 use Rattle.sgm_energy.specs.Energies.{path_value, sum_done}
 use Rattle.sgm_energy.specs.Rows.{HoldsRow}
-use Rattle.sgm_path.specs.Paths.{HoldsRowBefore}
 use Rattle.sgm_strip.specs.Cuts.{CutParts, IsCut, first_row, rows_of, last_row}
 use Rattle.sgm_strip.specs.Scenes.{SceneParts, IsScene, problem_of, row_length}
 use Rattle.sgm_strip.specs.Volumes.{HoldsRows}
-use Rattle.sgm_strip.specs.Parcels.{ParcelParts, IsParcel, is_done, level_done, parcel_of, with_done}
-use Rattle.sgm_strip.specs.Fronts.{FrontParts, IsFront, front_parts, visit_of}
+use Rattle.sgm_strip.specs.Parcels.{IsParcel, is_done, level_done, parcel_of, with_done}
+use Rattle.sgm_strip.specs.Fronts.{IsFront, front_parts, visit_of}
 use Rattle.sgm_strip.specs.Passing.{ComesBefore, SuitsRows, visited}
 use Rattle.sgm_strip.specs.declared.front.Visit.{Visit}
 use Rattle.sgm_strip.proofs.CutLemmas.{first_more, first_within}

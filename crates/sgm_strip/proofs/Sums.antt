@@ -1,10 +1,10 @@
 -- The sums of a parcel: how great they are, and one direction more.
-use Rattle.std.proofs.Common.{◌≡◌, ℕ, ◌+◌, ◌-◌, ◌<◌, ◌≤◌, Bool, true, false, List, length, slice_index, sym, ap, ◌∙◌, subst, arith}
+use Rattle.std.proofs.Common.{◌≡◌, ℕ, ◌+◌, ◌-◌, ◌<◌, ◌≤◌, Bool, false, List, length, slice_index, sym, arith}
 use Rattle.sgm_base.specs.declared.limits.TheConstants.{MAX_PATH_VALUE, MAX_SUM}
 use Rattle.sgm_census.specs.Matching.{KeepsLimits}
 use Rattle.sgm_census.proofs.Limits.{matching-within, within-keeps}
 use Rattle.sgm_energy.specs.declared.dir.Dir.{Dir}
-use Rattle.sgm_energy.specs.Rays.{Pixel, pixel_at, Problem}
+use Rattle.sgm_energy.specs.Rays.{pixel_at, Problem}
 use Rattle.sgm_energy.specs.Energies.{path_value, sum_done}
 use Rattle.sgm_energy.proofs.SumLemmas.{done_more}
 use Rattle.sgm_strip.specs.Scenes.{SceneParts, IsScene, problem_of}

@@ -1,9 +1,8 @@
-use Rattle.std.proofs.Common.{◌≡◌, List, take, refl, sym, subst, ap, ◌∙◌, below_more}
+use Rattle.std.proofs.Common.{◌≡◌, take, refl, sym, subst, ap, ◌∙◌, below_more}
 use Rattle.std.proofs.lemmas.List.{take_all}
 use Rattle.sgm_handover.specs.Handover.{Handover, fresh}
 use Rattle.sgm_handover.specs.Events.{run, TakenInOrder}
 use Rattle.sgm_handover.specs.Machines.{state_of}
-use Rattle.sgm_handover.specs.declared.event.Event.{Event}
 use Rattle.sgm_handover.proofs.Order.{taken_in_order}
 use Rattle.sgm_handover.proofs.Runs.{all_legal, legal_here, run_more}
 use Rattle.sgm_handover.proofs.replaying.replay.Goals as goal

@@ -1,4 +1,4 @@
-use Rattle.std.proofs.Common.{◌≡◌, ◌+◌, ◌-◌, ◌∙◌, sym, subst, arith}
+use Rattle.std.proofs.Common.{◌≡◌, ◌+◌, ◌-◌, ◌∙◌, subst, arith}
 use Rattle.sgm_energy.specs.declared.dir.Dir.TheVariants.{Right, Left}
 use Rattle.sgm_energy.specs.Energies.{path_value}
 use Rattle.sgm_strip.specs.Scenes.{problem_of}

@@ -1,4 +1,4 @@
-use Rattle.std.proofs.Common.{◌≡◌, ◌∙◌, ℕ, ◌*◌, ◌++◌, ◌∷◌, [], List, length, true, false, not, ◌==◌, vec_len, take, drop, slice_set, sym, ap, subst, refl, arith}
+use Rattle.std.proofs.Common.{◌≡◌, ◌∙◌, ◌*◌, ◌++◌, ◌∷◌, [], List, length, true, false, not, ◌==◌, vec_len, slice_set, sym, ap, subst, refl, arith}
 use Rattle.std.proofs.lemmas.List.{with_items_is}
 use Rattle.sgm_base.specs.Disparities.{Disparities}
 use Rattle.sgm_energy.specs.Dirs.{position_of}

@@ -1,9 +1,7 @@
-use Rattle.std.proofs.Common.{◌≡◌, ℕ, ◌+◌, ◌-◌, ◌*◌, ◌/◌, ◌<◌, ◌≤◌, ◌∙◌, sym, ap, subst, arith, length, slice_index, ◌⊎◌}
+use Rattle.std.proofs.Common.{◌≡◌, ℕ, ◌+◌, ◌*◌, ◌/◌, ◌<◌, ◌≤◌, ◌∙◌, sym, ap, subst, arith, length, slice_index, ◌⊎◌}
 use Rattle.sgm_energy.specs.Pens.{p1_of, p2_of}
-use Rattle.sgm_energy.specs.Energies.{path_value}
-use Rattle.sgm_energy.specs.Rows.{HoldsRow}
-use Rattle.sgm_strip.specs.Passing.{ComesBefore, SuitsRows, visited}
-use Rattle.sgm_strip.proofs.Sweep.{Done, visited_back, left_more, done_more, all_done, finished}
+use Rattle.sgm_strip.specs.Passing.{ComesBefore}
+use Rattle.sgm_strip.proofs.Sweep.{left_more, done_more, all_done, finished}
 use Rattle.sgm_strip.proofs.sweeping.pass_rows.Goals as goal
 
 pub loop-i-preserved : goal.loop-i-preserved

@@ -1,4 +1,4 @@
-use Rattle.std.proofs.Common.{◌≡◌, ◌∙◌, ap, sym, subst, Bool, List}
+use Rattle.std.proofs.Common.{◌≡◌, ◌∙◌, ap, sym, subst}
 use Rattle.std.specs.List.{list_all}
 use Rattle.sgm_strip.specs.Parcels.{ParcelParts, IsParcel}
 use Rattle.sgm_strip.proofs.Sets.{complete_from, complete_to}

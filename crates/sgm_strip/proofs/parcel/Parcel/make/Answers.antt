@@ -1,4 +1,4 @@
-use Rattle.std.proofs.Common.{◌≡◌, sym, subst}
+use Rattle.std.proofs.Common.{sym, subst}
 use Rattle.sgm_energy.specs.Pens.{p1_of, p2_of}
 use Rattle.sgm_strip.specs.Scenes.{SceneParts}
 use Rattle.sgm_strip.specs.Parcels.{IsParcel, RunsOn, level_done, parcel_of}

@@ -1,8 +1,8 @@
-use Rattle.std.proofs.Common.{◌≡◌, ℕ, ◌+◌, ◌-◌, ◌*◌, ◌<◌, ◌∙◌, List, take, drop, ap, sym, subst, arith}
+use Rattle.std.proofs.Common.{◌≡◌, ℕ, ◌+◌, ◌-◌, ◌*◌, ◌∙◌, take, drop, ap, sym, subst, arith}
 use Rattle.sgm_energy.specs.Energies.{sum_done}
 use Rattle.sgm_energy.specs.Rows.{HoldsRow}
-use Rattle.sgm_strip.specs.Cuts.{CutParts, first_row, rows_of}
-use Rattle.sgm_strip.specs.Scenes.{problem_of, row_length}
+use Rattle.sgm_strip.specs.Cuts.{first_row, rows_of}
+use Rattle.sgm_strip.specs.Scenes.{problem_of}
 use Rattle.sgm_strip.specs.Parcels.{ParcelParts, IsParcel, is_done}
 use Rattle.sgm_strip.proofs.Rows.{row_holds}
 use Rattle.sgm_strip.proofs.parcel.Parcel.sums_row.Goals as goal
