@@ -96,7 +96,12 @@ fn add_direction(
 }
 
 /// Adds the path values of the six directions that are not level to the sums of all strips.
-fn complete(alloc: Global, scene: &Scene, cut: Cut, parcels: &mut [Parcel]) -> Result<(), AllocError>
+fn complete(
+    alloc: Global,
+    scene: &Scene,
+    cut: Cut,
+    parcels: &mut [Parcel],
+) -> Result<(), AllocError>
     requires strips { AreStrips scene.now cut parcels.old }
     requires done { AllDone level_done parcels.old }
     ensures { OnOk result (AreComplete scene.now parcels.new) }

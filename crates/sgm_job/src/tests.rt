@@ -74,7 +74,11 @@ fn the_worked_example(rt: HostRuntime) -> Result<(), Fail> {
     for strips in [1, 2, 3, 64] {
         let found = example(alloc, &calib, strips)?;
         assert_eq!(rt; found.disp.entries(), map.as_slice(), "{strips}");
-        assert_eq!(rt; cells(alloc, &found)?.as_slice(), grid.as_slice(), "{strips}");
+        assert_eq!(rt;
+            cells(alloc, &found)?.as_slice(),
+            grid.as_slice(),
+            "{strips}"
+        );
         let tallies = found.tallies.as_ref().ok_or("no tallies")?;
         assert_eq!(rt; tallies.as_slice(), [all, east].as_slice(), "{strips}");
     }

@@ -20,18 +20,18 @@ HoldsStrips scene left right parcels k entries =
 -- where one strip's rows come after those above it, they come after those of the strips before it
 pub strip_written : (scene : SceneParts) (cut : CutParts) (k : ℕ) (parcel : ParcelParts) (left right : Values) (old new : List (Option ℕ)) → IsStripOf scene cut k parcel
     → (HoldsFirst (problem_of parcel.scene) left right parcel.scene.span.first (first_row parcel.cut parcel.strip) old
-      → HoldsFirst (problem_of parcel.scene) left right parcel.scene.span.first (first_row parcel.cut (parcel.strip + 1)) new)
+    → HoldsFirst (problem_of parcel.scene) left right parcel.scene.span.first (first_row parcel.cut (parcel.strip + 1)) new)
     → HoldsFirst (problem_of scene) left right scene.span.first (first_row cut k) old → HoldsFirst (problem_of scene) left right scene.span.first (first_row cut (k + 1)) new
 strip_written scene cut k parcel left right old new is =
     subst (λ s. (HoldsFirst (problem_of parcel.scene) left right parcel.scene.span.first (first_row parcel.cut parcel.strip) old
-      → HoldsFirst (problem_of parcel.scene) left right parcel.scene.span.first (first_row parcel.cut (parcel.strip + 1)) new)
-      → HoldsFirst (problem_of s) left right s.span.first (first_row cut k) old → HoldsFirst (problem_of s) left right s.span.first (first_row cut (k + 1)) new) is.same_scene
+    → HoldsFirst (problem_of parcel.scene) left right parcel.scene.span.first (first_row parcel.cut (parcel.strip + 1)) new)
+    → HoldsFirst (problem_of s) left right s.span.first (first_row cut k) old → HoldsFirst (problem_of s) left right s.span.first (first_row cut (k + 1)) new) is.same_scene
     (subst (λ c. (HoldsFirst (problem_of parcel.scene) left right parcel.scene.span.first (first_row parcel.cut parcel.strip) old
-      → HoldsFirst (problem_of parcel.scene) left right parcel.scene.span.first (first_row parcel.cut (parcel.strip + 1)) new)
-      → HoldsFirst (problem_of parcel.scene) left right parcel.scene.span.first (first_row c k) old → HoldsFirst (problem_of parcel.scene) left right parcel.scene.span.first (first_row c (k + 1)) new) is.same_cut
+    → HoldsFirst (problem_of parcel.scene) left right parcel.scene.span.first (first_row parcel.cut (parcel.strip + 1)) new)
+    → HoldsFirst (problem_of parcel.scene) left right parcel.scene.span.first (first_row c k) old → HoldsFirst (problem_of parcel.scene) left right parcel.scene.span.first (first_row c (k + 1)) new) is.same_cut
     (subst (λ n. (HoldsFirst (problem_of parcel.scene) left right parcel.scene.span.first (first_row parcel.cut parcel.strip) old
-      → HoldsFirst (problem_of parcel.scene) left right parcel.scene.span.first (first_row parcel.cut (parcel.strip + 1)) new)
-      → HoldsFirst (problem_of parcel.scene) left right parcel.scene.span.first (first_row parcel.cut n) old → HoldsFirst (problem_of parcel.scene) left right parcel.scene.span.first (first_row parcel.cut (n + 1)) new) is.same_strip
+    → HoldsFirst (problem_of parcel.scene) left right parcel.scene.span.first (first_row parcel.cut (parcel.strip + 1)) new)
+    → HoldsFirst (problem_of parcel.scene) left right parcel.scene.span.first (first_row parcel.cut n) old → HoldsFirst (problem_of parcel.scene) left right parcel.scene.span.first (first_row parcel.cut (n + 1)) new) is.same_strip
     (λ f. f)))
 
 -- the sums of a complete parcel are those of all directions

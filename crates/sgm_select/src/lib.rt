@@ -3,8 +3,8 @@
 #![tactic(auto)]
 
 mod check;
-pub mod laws;
 mod indices;
+pub mod laws;
 mod maps;
 
 pub use check::check_row;
