@@ -1,16 +1,15 @@
 -- Names that are begun and finished, one file after the other.
-use Rattle.std.proofs.Common.{◌≡◌, ◌⊎◌, inl, inr, ℕ, zero, suc, ◌+◌, ◌<◌, arith, List, [], ◌∷◌, ◌++◌, length, take, drop, get_or, add-one, refl, sym, ap, subst, ◌∙◌, Option, Some, Bool, true, false, ◌||◌, cond, All, Contains}
+use Rattle.std.proofs.Common.{◌≡◌, ◌⊎◌, inl, inr, ℕ, suc, ◌+◌, ◌<◌, arith, List, [], ◌∷◌, ◌++◌, length, take, drop, get_or, add-one, refl, sym, ap, subst, ◌∙◌, Option, Some, true, false, ◌||◌, cond, All, Contains}
 use Rattle.std.specs.Str.{bytes_eq}
 use Rattle.std.proofs.lemmas.Slice.Eq.{bytes_eq-Decides}
 use Rattle.std.proofs.lemmas.List.{take-append-drop}
-use Rattle.std.proofs.lemmas.List.Elements.{All-contains, Contains-append_left, Contains-append_right}
+use Rattle.std.proofs.lemmas.List.Elements.{All-contains, Contains-append_right}
 use Rattle.std.proofs.Math.Seq.{take-suc, drop-cons}
 use Rattle.sgm_io.specs.Keep.{name_of}
 use Rattle.sgm_io.specs.Unfinished.{NameSet, with_name, without_name}
 use Rattle.sgm_io.proofs.UnfinishedLaws.{without_name-same, without_name-false, without_name-with_name}
 use Rattle.sgm_words.specs.Operands.{Operands, IsOutputName}
 use Rattle.sgm_words.specs.declared.files.Output.{Output}
-use Rattle.sgm_outcome.specs.declared.outcome.Outcome.{Outcome}
 use Rattle.sgm_app.specs.Outputs.{OutputFile, IsNamed, is_named}
 use Rattle.sgm_app.specs.Unfinished.{AreFinished, LeavesUnfinished, UnfinishedStands}
 use Rattle.sgm_app.specs.Deliver.{after_finishing, LeavesFile, LeavesOne, IsStopAt}

@@ -1,5 +1,5 @@
 -- The files of a match have the names of their outputs, which differ.
-use Rattle.std.proofs.Common.{◌≡◌, ◌++◌, ℕ, Bool, true, false, ◌||◌, List, [], ◌∷◌, Option, Some, None, IsSomeAnd, refl, ap, ◌∙◌, All, codes, rules, unwrap_or}
+use Rattle.std.proofs.Common.{◌≡◌, ◌++◌, ℕ, true, false, ◌||◌, List, [], ◌∷◌, Option, Some, None, IsSomeAnd, refl, ap, ◌∙◌, All, codes, rules, unwrap_or}
 use Rattle.std.specs.Str.{bytes_eq}
 use Rattle.std.proofs.lemmas.Slice.Eq.{bytes_eq-Decides}
 use Rattle.std.proofs.lemmas.List.{append_cancel_left}

@@ -19,7 +19,7 @@ use Rattle.sgm_words.specs.declared.files.Input.{Input}
 use Rattle.sgm_words.specs.declared.files.Input.TheVariants as input
 use Rattle.sgm_app.specs.Readings.{Readings, IsReading, AreReadings}
 use Rattle.sgm_app.specs.Verdict.{Verdict, usage, matched, demoed, judged, fetched, calib_fetched, calib_of}
-use Rattle.sgm_app.specs.Calls.{MatchCallsFor, ReadCallsFor, CallsFor}
+use Rattle.sgm_app.specs.Calls.{ReadCallsFor, CallsFor}
 
 -- ---- some verdict
 

@@ -1,5 +1,5 @@
 -- From one step to the next, and what a stop shows.
-use Rattle.std.proofs.Common.{◌≡◌, ◌∙◌, ℕ, List, refl, sym, ap, subst, Result, Ok, Err, MatchResult, IsErrAnd}
+use Rattle.std.proofs.Common.{◌≡◌, sym, ap, subst, Result, Ok, Err, MatchResult, IsErrAnd}
 use Rattle.sgm_job.specs.Survey.{Survey}
 use Rattle.sgm_job.specs.Answers.{Answers}
 use Rattle.sgm_job.specs.declared.job.SurveyFault.{SurveyFault}

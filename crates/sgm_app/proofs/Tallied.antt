@@ -1,12 +1,8 @@
 -- The tallies of a survey are those of the calibration's regions.
-use Rattle.std.proofs.Common.{◌≡◌, ◌≤◌, ℕ, List, map, length, Option, Some, None, Result, Ok, Err, All, refl, sym, ap, subst, ◌∙◌}
-use Rattle.std.specs.Prelude.{IfSome, IsTrue, is_some}
-use Rattle.std.proofs.lemmas.List.{length-map}
+use Rattle.std.proofs.Common.{◌≡◌, List, Option, Some, None, Ok, refl, subst}
 use Rattle.sgm_base.specs.Picture.{Picture}
 use Rattle.sgm_rectify.specs.Rectified.{sides_of}
-use Rattle.sgm_grid.specs.Cells.{Cells}
 use Rattle.sgm_report.specs.Areas.{Area}
-use Rattle.sgm_report.specs.Tallies.{tally_of}
 use Rattle.sgm_calib.specs.Calibration.{Calibration}
 use Rattle.sgm_job.specs.Survey.{Survey, pair_fault, survey_of, surveyed, tallies_of, unless}
 use Rattle.sgm_job.specs.declared.job.SurveyFault.{SurveyFault}

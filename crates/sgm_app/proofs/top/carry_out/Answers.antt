@@ -1,4 +1,4 @@
-use Rattle.std.proofs.Common.{◌≡◌, ◌∙◌, sym, ap, subst, Result, Ok}
+use Rattle.std.proofs.Common.{◌∙◌, sym, ap, subst, Result, Ok}
 use Rattle.sgm_words.specs.Operands.{Operands, operands, bytes_of}
 use Rattle.sgm_words.specs.declared.options.Options.{Options}
 use Rattle.sgm_words.specs.declared.usage.UsageFault.{UsageFault}

@@ -1,8 +1,7 @@
-use Rattle.std.proofs.Common.{◌≡◌, ◌∙◌, sym}
-use Rattle.sgm_app.specs.Calls.{MatchCallsFor}
+use Rattle.std.proofs.Common.{◌∙◌, sym}
 use Rattle.sgm_app.specs.Made.{texts_in}
 use Rattle.sgm_app.specs.Outputs.{files_of}
-use Rattle.sgm_app.specs.Verdict.{Verdict, files, texts_for, calib_of}
+use Rattle.sgm_app.specs.Verdict.{files, texts_for, calib_of}
 use Rattle.sgm_app.proofs.Delivering.{delivered, put_along, finished_along}
 use Rattle.sgm_app.proofs.Reading.{image_reads, calib_reads}
 use Rattle.sgm_app.proofs.Steps.{shown_along, stop_shown}

@@ -1,4 +1,4 @@
-use Rattle.std.proofs.Common.{◌++◌, List, ℕ, length, sym, ap, ◌∙◌, arith}
+use Rattle.std.proofs.Common.{◌++◌, List, ℕ, sym, ap, ◌∙◌, arith}
 use Rattle.sgm_outcome.proofs.KeyPaths.{path_with, path_without}
 use Rattle.sgm_outcome.proofs.refusals.with_path.Goals as goal
 
