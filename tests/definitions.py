@@ -273,11 +273,10 @@ def rectification(draw):
             "sgm_rectify.Faults": "",
             "sgm_rectify.Rectified": "",
             "sgm_base.specs.declared.side.Side.TheVariants": "Left",
-            "sgm_app.Lines": "warp_parts",
-            "std.specs.List": "concat",
+            "sgm_outcome.Lines": "warp_line",
         },
         "abbrev fault_line : Warp → ℕ → ℕ → Option (List ℕ)\n"
-        "fault_line warp width height = option_map (λ fault. concat (warp_parts Left fault))\n"
+        "fault_line warp width height = option_map (warp_line Left)\n"
         "    (warp_fault warp (record { width = width; height = height }))\n",
     )
     for _ in range(60):
@@ -444,15 +443,17 @@ def calibrations(draw):
             "sgm_calib.Paths": "",
             "sgm_calib.Calibration": "Calibration settings",
             "sgm_calib.Checks": "",
+            "sgm_calib.Numbers": "",
+            "sgm_calib.Rows": "",
+            "sgm_calib.Table": "",
             "sgm_calib.WarpKeys": "",
             "sgm_calib.RegionKeys": "",
             "sgm_calib.Judge": "",
-            "sgm_app.Lines": "calib_parts",
-            "std.specs.List": "concat",
+            "sgm_outcome.Lines": "calib_line",
         },
         "abbrev with_line : Result Calibration CalibFault → Result Calibration (List ℕ)\n"
         "with_line (Ok calib) = Ok calib\n"
-        "with_line (Err fault) = Err (concat (calib_parts fault))\n",
+        "with_line (Err fault) = Err (calib_line fault)\n",
         given="real",
     )
     cases = [json.dumps(made) for _, made, _ in calibration_cases.faults()]
@@ -472,16 +473,22 @@ def words(draw):
     page = Page(
         "words",
         {
-            "sgm_app.specs.declared.words.Options": "Options",
-            "sgm_app.specs.declared.words.Options.TheVariants": "Match Demo",
-            "sgm_app.specs.declared.words.UsageFault": "UsageFault",
-            "sgm_app.Words": "",
-            "sgm_app.Lines": "usage_parts",
-            "std.specs.List": "concat",
+            "sgm_words.specs.declared.options.Options": "Options",
+            "sgm_words.specs.declared.options.Options.TheVariants": "Match Demo",
+            "sgm_words.specs.declared.usage.UsageFault": "UsageFault",
+            "sgm_words.Commands": "",
+            "sgm_words.Faults": "",
+            "sgm_words.Numbers": "",
+            "sgm_words.Operands": "",
+            "sgm_words.OptionTable": "",
+            "sgm_words.Rows": "",
+            "sgm_words.Settings": "",
+            "sgm_words.Words": "",
+            "sgm_outcome.Lines": "usage_line",
         },
         "abbrev with_line : Result Options UsageFault → Result Options (List ℕ)\n"
         "with_line (Ok asked) = Ok asked\n"
-        "with_line (Err fault) = Err (concat (usage_parts fault))\n",
+        "with_line (Err fault) = Err (usage_line fault)\n",
     )
     names = ["a", "b", "-", "o", "o.pgm", "o.csv", ""]
     numbers = ["0", "7", "007", "4294967295", "4294967296", "", "x", "+1", "é"]
@@ -511,7 +518,7 @@ def texts(draw):
             "sgm_base.Values": "values_of",
             "sgm_base.specs.declared.side.Side.TheVariants": "Left Right",
             "sgm_pgm.Write": "",
-            "sgm_app.Pair": "",
+            "sgm_pair.Pair": "",
             "sgm_app.Texts": "",
         },
     )

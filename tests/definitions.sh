@@ -9,15 +9,15 @@ set -u
 # shellcheck source-path=SCRIPTDIR source=common.sh
 . "$(dirname "$0")/common.sh"
 has rt || { echo "definitions: skipped: the toolchain's command rt isn't on the PATH"; exit 0; }
-crate=$work/crates/sgm_cases
+crate=$work/crates/sgm_pages
 
 # A copy of the workspace, with one crate more: the pages.
 tar -C "$top" --exclude=out --exclude=must-fail -c crates crates.txt HANDLES | tar -C "$work" -x || exit 1
 mkdir -p "$crate/src" "$crate/specs" "$crate/proofs" || exit 1
 printf '%s\n' '//! Cases of the definitions.' '#![tactic(auto)]' >"$crate/src/lib.rt"
 : >"$crate/specs/Lib.antt"
-libraries=$(sed -n 's/:.*//p' "$work/crates.txt" | grep -vx sgm_cli | tr '\n' ' ')
-echo "sgm_cases: serde_json $libraries" >>"$work/crates.txt"
+libraries=$(sed -n 's/:.*//p' "$work/crates.txt" | grep -vx -e sgm_cli -e sgm_cases | tr '\n' ' ')
+echo "sgm_pages: serde_json $libraries" >>"$work/crates.txt"
 
 # Checks the pages, and names those that aren't proved.
 check() {
@@ -27,7 +27,7 @@ check() {
 
 python3 "$here/definitions.py" "$crate/proofs" || exit 1
 differ=$(check | tr '\n' ' ')
-if [ -n "$differ" ] || ! grep -q '^crate sgm_cases: ' "$work/log" || ! tail -n 1 "$work/log" | grep -q '^logic=proved'; then
+if [ -n "$differ" ] || ! grep -q '^crate sgm_pages: ' "$work/log" || ! tail -n 1 "$work/log" | grep -q '^logic=proved'; then
     tail -n 40 "$work/log"
     echo "definitions: not proved: $differ"
     exit 1

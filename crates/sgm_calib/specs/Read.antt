@@ -20,7 +20,7 @@ pub data Reads (bytes : List ℕ) (r : Result Calibration CalibFault) : Type 0 w
   value : (d : Data) → IsValue bytes d → r ≡ judged d → Reads bytes r
   no_value : ((d : Data) → ¬ IsValue bytes d) → r ≡ Err Json → Reads bytes r
 
--- the call answers r, or want of memory
+-- the call answers r, or that there is no memory
 abbrev pub ReadsAs : Result Calibration CalibFault → Result Calibration CalibError → Type 0
 ReadsAs r (Ok calib) = r ≡ Ok calib
 ReadsAs r (Err (Fault fault)) = r ≡ Err fault

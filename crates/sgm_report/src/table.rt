@@ -36,7 +36,7 @@ fn table_of(
     requires names { All (λ area. IsRegionName area.name) regions.now }
     ensures { IfOk result (λ text. text.items ≡ table_text regions.now tallies.now) }
 {
-    // A writer into a vector fails for want of memory alone, since all rows have seven fields.
+    // A writer into a vector fails only where there is no memory, since all rows have seven fields.
     let mut writer = WriterBuilder::new().from_writer(Vec::new(alloc));
     if write_rows(&mut writer, regions, tallies).is_err() {
         return Err(AllocError);
