@@ -2,6 +2,7 @@
 //! piece as `\*1000:PIECE\.`, where the piece has no copies in it.
 
 use std::alloc::{AllocError, Global};
+use std::fmt::Write;
 
 /// What is read next.
 #[derive(Clone, Copy)]
@@ -100,4 +101,14 @@ pub fn unescaped(alloc: Global, text: &str) -> Result<Vec<u8>, AllocError> {
         copies: _,
     } = read;
     Ok(bytes)
+}
+
+/// Adds a byte so that it stands in one line.
+pub fn push_escaped(text: &mut String, byte: u8) -> Result<(), AllocError> {
+    match byte {
+        b'\n' => text.push_str("\\n"),
+        b'\\' => text.push_str("\\\\"),
+        b' '..=b'~' => text.push(byte as char),
+        _ => write!(text, "\\x{byte:02x}"),
+    }
 }

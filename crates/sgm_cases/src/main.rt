@@ -5,13 +5,22 @@
 
 mod calib;
 mod escapes;
+mod example;
+mod line;
+mod parts;
+mod run;
+mod words;
 
+use parts::cut;
 use std::alloc::{AllocError, Global};
 use std::io;
 
 fn answer(alloc: Global, kind: &str, rest: &str) -> Result<String, AllocError> {
     match kind {
         "calib" => calib::answer(alloc, rest),
+        "line" => line::answer(alloc, rest),
+        "run" => run::answer(alloc, rest),
+        "words" => words::answer(alloc, rest),
         _ => String::from_str(alloc, "no such kind"),
     }
 }
@@ -19,7 +28,7 @@ fn answer(alloc: Global, kind: &str, rest: &str) -> Result<String, AllocError> {
 fn main(rt: HostRuntime) -> io::Result<()> {
     for line in rt.lines(rt.alloc()) {
         let line = line?;
-        let (kind, rest) = line.as_str().split_once(' ').unwrap_or((line.as_str(), ""));
+        let (kind, rest) = cut(line.as_str());
         let text = answer(rt.alloc(), kind, rest)?;
         println!(rt; "{text}")?;
     }

@@ -1,0 +1,187 @@
+//! `run WORDS ; FIELD ; FIELD ..`: how a run ends in memory, where the files of the worked example are held.
+//!
+//! The fields are `file NAME TEXT`, a file that is held besides or in place of one of those; a call that
+//! fails once, `trip fetch NAME`, `trip create NAME`, `trip append NAME LENGTH` or `trip finish NAME`; `sure`
+//! for a shelf where nothing fails and every name is held; `out LENGTH`, where standard output fails once;
+//! and `err LENGTH`, the room of standard error. The answer is the status, what is held under the names o.pgm,
+//! o.asc and o.csv, and what the two streams received, with `\n`, `\\` and bytes as `\x0f`.
+
+use crate::parts::{cut, words_of};
+use crate::{escapes, example};
+use sgm_app::run;
+use sgm_io::{FetchError, MemoryShelf, MemorySink, Shelf, SureShelf, Trip};
+use std::alloc::{AllocError, Global};
+use std::fmt::Write;
+
+/// The room of a stream, and the most bytes of a file that is looked at.
+const ROOM: usize = 4096;
+
+/// What a case asks for.
+#[derive(Drop)]
+struct Case {
+    words: Vec<String>,
+    files: Vec<(String, Vec<u8>)>,
+    trips: Vec<Trip>,
+    is_sure: bool,
+    out_stop: Option<usize>,
+    err_room: usize,
+}
+
+fn read_trip(alloc: Global, text: &str) -> Result<Option<Trip>, AllocError> {
+    let (call, rest) = cut(text);
+    let (name, length) = cut(rest);
+    let name = String::from_str(alloc, name)?;
+    match call {
+        "fetch" => Ok(Some(Trip::Fetch { name })),
+        "create" => Ok(Some(Trip::Create { name })),
+        "finish" => Ok(Some(Trip::Finish { name })),
+        "append" => match length.parse() {
+            Ok(length) => Ok(Some(Trip::AppendAt { name, length })),
+            Err(_) => Ok(None),
+        },
+        _ => Ok(None),
+    }
+}
+
+impl Case {
+    fn add_trip(&mut self, alloc: Global, text: &str) -> Result<bool, AllocError> {
+        match read_trip(alloc, text)? {
+            Some(trip) => {
+                self.trips.push(trip)?;
+                Ok(true)
+            }
+            None => Ok(false),
+        }
+    }
+
+    fn add_file(&mut self, alloc: Global, text: &str) -> Result<bool, AllocError> {
+        let (name, text) = cut(text);
+        self.files.push(example::file(alloc, name, text)?)?;
+        Ok(true)
+    }
+
+    fn set_out(&mut self, text: &str) -> bool {
+        self.out_stop = text.parse().ok();
+        self.out_stop.is_some()
+    }
+
+    fn set_err(&mut self, text: &str) -> bool {
+        match text.parse() {
+            Ok(room) => {
+                self.err_room = room;
+                true
+            }
+            Err(_) => false,
+        }
+    }
+
+    /// Takes in a field, and answers whether there is such a one.
+    fn add(&mut self, alloc: Global, field: &str) -> Result<bool, AllocError> {
+        let (kind, rest) = cut(field);
+        match kind {
+            "file" => self.add_file(alloc, rest),
+            "trip" => self.add_trip(alloc, rest),
+            "out" => Ok(self.set_out(rest)),
+            "err" => Ok(self.set_err(rest)),
+            "sure" => {
+                self.is_sure = true;
+                Ok(true)
+            }
+            _ => Ok(false),
+        }
+    }
+}
+
+fn read_case(alloc: Global, text: &str) -> Result<Option<Case>, AllocError> {
+    let (words, fields) = text.split_once(" ; ").unwrap_or((text, ""));
+    let mut case = Case {
+        words: words_of(alloc, words)?,
+        files: example::files(alloc)?,
+        trips: Vec::new(alloc),
+        is_sure: false,
+        out_stop: None,
+        err_room: ROOM,
+    };
+    if fields.is_empty() {
+        return Ok(Some(case));
+    }
+    for field in fields.split(" ; ") {
+        if !case.add(alloc, field)? {
+            return Ok(None);
+        }
+    }
+    Ok(Some(case))
+}
+
+fn push_quoted(text: &mut String, bytes: &[u8]) -> Result<(), AllocError> {
+    text.push_str("\"")?;
+    for byte in bytes {
+        escapes::push_escaped(text, *byte)?;
+    }
+    text.push_str("\"")
+}
+
+fn push_held<S: Shelf>(
+    alloc: Global,
+    text: &mut String,
+    shelf: &mut S,
+    name: &str,
+) -> Result<(), AllocError> {
+    let mut bytes = Vec::new(alloc);
+    write!(text, " | {name} ")?;
+    match shelf.fetch(name, ROOM, &mut bytes) {
+        Ok(()) => push_quoted(text, &bytes),
+        Err(FetchError::Failed) => text.push_str("absent"),
+        Err(FetchError::TooLong) => text.push_str("too long"),
+        Err(FetchError::NoMemory) => text.push_str("out of memory"),
+    }
+}
+
+/// How a run of these words ends over the shelf, with these streams.
+fn end_of<S: Shelf>(
+    alloc: Global,
+    words: &[String],
+    shelf: &mut S,
+    mut out: MemorySink,
+    mut err: MemorySink,
+) -> Result<String, AllocError> {
+    let outcome = run(alloc, words, shelf, &mut out, &mut err);
+    let status = outcome.status();
+    let mut text = format!(in alloc; "{status}")?;
+    for name in ["o.pgm", "o.asc", "o.csv"] {
+        push_held(alloc, &mut text, shelf, name)?;
+    }
+    text.push_str(" | out ")?;
+    push_quoted(&mut text, out.taken())?;
+    text.push_str(" | err ")?;
+    push_quoted(&mut text, err.taken())?;
+    Ok(text)
+}
+
+fn end_of_case(alloc: Global, case: Case) -> Result<String, AllocError> {
+    let Case {
+        words,
+        files,
+        trips,
+        is_sure,
+        out_stop,
+        err_room,
+    } = case;
+    let out = MemorySink::make(alloc, ROOM, out_stop)?;
+    let err = MemorySink::make(alloc, err_room, None)?;
+    if is_sure {
+        let mut shelf = SureShelf::make(alloc, files)?;
+        end_of(alloc, &words, &mut shelf, out, err)
+    } else {
+        let mut shelf = MemoryShelf::make(alloc, files, trips)?;
+        end_of(alloc, &words, &mut shelf, out, err)
+    }
+}
+
+/// The answer to the case of that text.
+pub fn answer(alloc: Global, case: &str) -> Result<String, AllocError> {
+    match read_case(alloc, case)? {
+        Some(case) => end_of_case(alloc, case),
+        None => String::from_str(alloc, "no such case"),
+    }
+}
