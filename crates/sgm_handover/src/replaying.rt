@@ -8,8 +8,8 @@ use crate::{Event, Illegal, Machine};
 use sgm_base::MAX_STRIPS;
 use std::alloc::{AllocError, Global};
 
-/// Why a list of events has no machine: the first event that is not legal, by its place from 0, or want
-/// of memory.
+/// Why a list of events has no machine: the first event that is not legal, by its place from 0, or
+/// that there is no memory.
 #[derive(Clone, Copy, Debug, PartialEq, Eq)]
 pub enum ReplayError {
     Illegal { at: usize },
