@@ -7,4 +7,6 @@ pub mod Places
 pub mod Steps
 pub mod PathLaws
 pub mod SumLemmas
+pub mod DirLemmas
+pub mod Parts
 mod Examples

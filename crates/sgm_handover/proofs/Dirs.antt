@@ -1,4 +1,4 @@
--- Directions, the numbers of their fronts, and the strips at their positions.
+-- Directions and the numbers of their fronts.
 use Rattle.std.proofs.Common.{◌≡◌, ◌≢◌, ℕ, ◌-◌, ◌<◌, Bool, true, false, cond, List, length, get_or, set, sym, refl, ap, ◌∙◌, arith, lit<, zero, suc, get_or-set_same, get_or-set_other, Option, Some, None}
 use mathlib.Core.Logic.{dite}
 use native.Mathlib.Decide.{ℕ_discrete}
@@ -6,28 +6,11 @@ use Rattle.std.specs.Option.{option_map_or}
 use Rattle.std.proofs.lemmas.Bool.{true≢false}
 use Rattle.sgm_energy.specs.declared.dir.Dir.{Dir}
 use Rattle.sgm_energy.specs.declared.dir.Dir.TheVariants.{Right, Left, Down, DownRight, DownLeft, Up, UpRight, UpLeft}
-use Rattle.sgm_energy.specs.Dirs.{directions, number_of, is_level, goes_down, front_of, strip_at}
+use Rattle.sgm_energy.specs.Dirs.{number_of, is_level, front_of}
+use Rattle.sgm_energy.proofs.DirLemmas.{same_number}
 use Rattle.sgm_handover.specs.Handover.{changed}
 use Rattle.sgm_handover.specs.Fields.{at_front}
 use Rattle.sgm_handover.proofs.Maps.{changed_there, changed_else}
-
--- the direction of a number
-numbered : ℕ → Dir
-numbered n = get_or directions n Right
-
-numbered_back : (dir : Dir) → numbered (number_of dir) ≡ dir
-unfolding numbered
-numbered_back Right = refl
-numbered_back Left = refl
-numbered_back Down = refl
-numbered_back DownRight = refl
-numbered_back DownLeft = refl
-numbered_back Up = refl
-numbered_back UpRight = refl
-numbered_back UpLeft = refl
-
-pub same_number : (a b : Dir) → number_of a ≡ number_of b → a ≡ b
-same_number a b e = sym (numbered_back a) ∙ ap numbered e ∙ numbered_back b
 
 -- the front of a direction that is not level
 pub front_is : (dir : Dir) → is_level dir ≡ false → front_of dir ≡ Some (number_of dir - 2)
@@ -71,13 +54,6 @@ same_front a b ea eb e = omega (arith, high a ea, high b eb)
     high Up e = lit< tt
     high UpRight e = lit< tt
     high UpLeft e = lit< tt
-
-either_way : (b : Bool) (n p : ℕ) → p < n → cond b p (n - 1 - p) < n
-either_way true n p h = h
-either_way false n p h = omega arith
-
-pub strip_lt : (dir : Dir) (p n : ℕ) → p < n → strip_at dir p n < n
-strip_lt dir p n h = either_way (goes_down dir) n p h
 
 module _ {A : Type 0} (xs : List A) (none : A) where
   pub at_front_is : (dir : Dir) → is_level dir ≡ false → at_front xs none dir ≡ get_or xs (number_of dir - 2) none

@@ -12,7 +12,7 @@ use Rattle.sgm_handover.specs.Events.{Legal, after, run, AllLegal, strip_of, tak
 use Rattle.sgm_handover.specs.declared.event.Event.{Event}
 use Rattle.sgm_handover.specs.declared.event.Event.TheVariants.{Claim, Take, Put, Return}
 use Rattle.sgm_handover.proofs.Maps.{changed_there, changed_here, changed_else, is_worker_not, is_worker_here}
-use Rattle.sgm_handover.proofs.Dirs.{same_number, strip_lt}
+use Rattle.sgm_energy.proofs.DirLemmas.{same_number, strip_inside}
 use Rattle.sgm_handover.proofs.Soundness.{fresh-sound, after-sound}
 use Rattle.sgm_handover.proofs.Runs.{first_legal, rest_legal}
 
@@ -38,7 +38,7 @@ flag o = cond (is_some o) 1 0
 take_here : (m : Handover) (w : ℕ) (d : Dir) → Sound m → Legal m (Take w d) → strips_below d m.strips (begun (after m (Take w d)) d) ≡ strips_below d m.strips (begun m d) ++ taken_at m d (Take w d)
 take_here m w d r l =
     let s = next m d in
-    let held : strip_of m w ≡ Some s = held_is m w s r (strip_lt d (m.passed d) m.strips l.1.0) l.1.1 in
+    let held : strip_of m w ≡ Some s = held_is m w s r (strip_inside d (m.passed d) m.strips l.1.0) l.1.1 in
     let it : taken_at m d (Take w d) ≡ s ∷ [] =
     ap (λ (b : Bool). let xs : List ℕ = cond b (option_to_list (strip_of m w)) [] in xs) (eq-eqb (number_of d) (number_of d) refl) ∙ ap (λ (o : Option ℕ). option_to_list o) held in
     let one_more : begun (after m (Take w d)) d ≡ m.passed d + 1 = ap (λ (o : Option ℕ). m.passed d + flag o) (changed_here number_of m.away d (Some w)) in

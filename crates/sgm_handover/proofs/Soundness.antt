@@ -9,7 +9,7 @@ use Rattle.sgm_handover.specs.Events.{Legal, after, GoesOn}
 use Rattle.sgm_handover.specs.declared.event.Event.{Event}
 use Rattle.sgm_handover.specs.declared.event.Event.TheVariants.{Claim, Take, Put, Return}
 use Rattle.sgm_handover.proofs.Maps.{changed_there, changed_here, changed_else, changed_cases, some_none, none_if, released_at, released_else}
-use Rattle.sgm_handover.proofs.Dirs.{same_number, strip_lt}
+use Rattle.sgm_energy.proofs.DirLemmas.{same_number, strip_inside}
 
 pub fresh-sound : (n : ℕ) → Sound (fresh n)
 fresh-sound n = record {
@@ -79,12 +79,12 @@ after-sound m (Return w) l r = return-sound m w l r
 
 -- where no strip is held no front is away
 none_away : (m : Handover) → Sound m → ((strip : ℕ) → strip < m.strips → m.holder strip ≡ None) → (dir : Dir) (v : ℕ) → is_level dir ≡ false → m.away dir ≡ Some v → ⊥
-none_away m r none dir v level h = let b = r.beside dir v level h in some_none v (sym b.1 ∙ none (next m dir) (strip_lt dir (m.passed dir) m.strips b.0))
+none_away m r none dir v level h = let b = r.beside dir v level h in some_none v (sym b.1 ∙ none (next m dir) (strip_inside dir (m.passed dir) m.strips b.0))
 
 pub goes_on : (m : Handover) → Sound m → GoesOn m
 goes_on m r none dir w level room =
     let s = next m dir in
-    let ls = strip_lt dir (m.passed dir) m.strips room in
+    let ls = strip_inside dir (m.passed dir) m.strips room in
     let number : ℕ → ℕ = λ n. n in (
       (ls, none s ls, λ t lt e. some_none w (sym e ∙ none t lt)),
       (level, (room, changed_here number m.holder s (Some w)), none_if (m.away dir) (λ v e. none_away m r none dir v level e), λ other lo e. none_away m r none other w lo e),

@@ -2,7 +2,6 @@ pub mod Examples
 pub mod Greatest
 pub mod Keys
 pub mod LeastIndex
-pub mod Parts
 pub mod Rows
 pub mod Selected
 pub mod Strips

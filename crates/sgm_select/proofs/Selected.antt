@@ -12,7 +12,7 @@ use Rattle.sgm_energy.specs.Rows.{HoldsRow}
 use Rattle.sgm_select.specs.Selection.{disparity}
 use Rattle.sgm_select.specs.Rows.{base_in, matched_in, checked_in, HoldsBases, HoldsMatches}
 use Rattle.sgm_select.proofs.Rows.{base_in-is, matched_in-is, checked_in-is}
-use Rattle.sgm_select.proofs.Parts.{splice_other, splice_here}
+use Rattle.sgm_energy.proofs.Parts.{splice_other, splice_here}
 use Rattle.sgm_select.specs.Strips.{SuitsPlane}
 
 bases_held : (g : Problem) (y count n : ℕ) (sums bases : List ℕ) → g.count ≡ count → g.width ≡ n → HoldsRow g y (path_sum g) sums → length bases ≡ n

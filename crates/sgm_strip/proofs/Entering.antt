@@ -69,18 +69,3 @@ last_of false first next h = omega arith
 pub leaving : (cut : CutParts) (dir : Dir) (strip : ℕ) → IsCut cut
     → first_row cut strip + visited dir (rows_of cut strip) (rows_of cut strip - 1) ≡ last_row cut dir strip
 leaving cut dir strip k = last_of (goes_down dir) (first_row cut strip) (first_row cut (strip + 1)) (first_more cut strip k)
-
-there : (down : Bool) (n s : ℕ) → s < n → cond down (cond down s (n - 1 - s)) (n - 1 - cond down s (n - 1 - s)) ≡ s
-there true n s h = refl
-there false n s h = omega arith
-
--- at the position of a strip stands the strip
-pub strip_there : (dir : Dir) (strip strips : ℕ) → strip < strips → strip_at dir (position_of dir strip strips) strips ≡ strip
-strip_there dir strip strips h = there (goes_down dir) strips strip h
-
-within : (down : Bool) (n s : ℕ) → s < n → cond down s (n - 1 - s) < n
-within true n s h = h
-within false n s h = omega arith
-
-pub position_inside : (dir : Dir) (strip strips : ℕ) → strip < strips → position_of dir strip strips < strips
-position_inside dir strip strips h = within (goes_down dir) strips strip h

@@ -1,4 +1,3 @@
-pub mod Parts
 pub mod CutLemmas
 pub mod Entering
 pub mod Rows

@@ -14,6 +14,7 @@ use Rattle.sgm_energy.specs.Dirs.{is_level, number_of, position_of, strip_at}
 use Rattle.sgm_energy.specs.Rays.{Pixel, row_before}
 use Rattle.sgm_energy.specs.Energies.{path_value, sum_done}
 use Rattle.sgm_energy.specs.Rows.{HoldsRow}
+use Rattle.sgm_energy.proofs.DirLemmas.{position_inside, strip_there}
 use Rattle.sgm_strip.specs.Cuts.{CutParts, IsCut, first_row, rows_of, last_row}
 use Rattle.sgm_strip.specs.Scenes.{SceneParts, IsScene, problem_of, row_length}
 use Rattle.sgm_strip.specs.Volumes.{HoldsRows}
@@ -22,7 +23,7 @@ use Rattle.sgm_strip.specs.Fronts.{IsFront, front_parts, visit_of}
 use Rattle.sgm_strip.specs.Passing.{ComesBefore, SuitsRows, visited}
 use Rattle.sgm_strip.specs.declared.front.Visit.{Visit}
 use Rattle.sgm_strip.proofs.CutLemmas.{first_more, first_within}
-use Rattle.sgm_strip.proofs.Entering.{entry, entry_first, entry_next, leaving, position_inside, strip_there}
+use Rattle.sgm_strip.proofs.Entering.{entry, entry_first, entry_next, leaving}
 use Rattle.sgm_strip.proofs.Rows.{rows_same}
 use Rattle.sgm_strip.proofs.Sets.{done_still, level_sum}
 use Rattle.sgm_strip.proofs.Sums.{room_left, with_more}

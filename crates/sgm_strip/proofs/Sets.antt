@@ -5,38 +5,11 @@ use mathlib.Core.Logic.{dite}
 use native.Mathlib.Decide.{ℕ_discrete}
 use Rattle.sgm_energy.specs.declared.dir.Dir.{Dir}
 use Rattle.sgm_energy.specs.declared.dir.Dir.TheVariants.{Right, Left, Down, DownRight, DownLeft, Up, UpRight, UpLeft}
-use Rattle.sgm_energy.specs.Dirs.{directions, number_of}
+use Rattle.sgm_energy.specs.Dirs.{number_of}
 use Rattle.sgm_energy.specs.Rays.{Pixel, Problem}
 use Rattle.sgm_energy.specs.Energies.{path_value, sum_done}
+use Rattle.sgm_energy.proofs.DirLemmas.{number_lt, numbered, number_numbered, same_number}
 use Rattle.sgm_strip.specs.Parcels.{is_done, with_done, level_done, IsComplete}
-
-pub number_lt : (dir : Dir) → number_of dir < 8
-number_lt Right = lit< tt
-number_lt Left = lit< tt
-number_lt Down = lit< tt
-number_lt DownRight = lit< tt
-number_lt DownLeft = lit< tt
-number_lt Up = lit< tt
-number_lt UpRight = lit< tt
-number_lt UpLeft = lit< tt
-
--- the direction of a number
-numbered : ℕ → Dir
-numbered n = get_or directions n Right
-
-numbered_back : (dir : Dir) → numbered (number_of dir) ≡ dir
-unfolding numbered
-numbered_back Right = refl
-numbered_back Left = refl
-numbered_back Down = refl
-numbered_back DownRight = refl
-numbered_back DownLeft = refl
-numbered_back Up = refl
-numbered_back UpRight = refl
-numbered_back UpLeft = refl
-
-same_number : (a b : Dir) → number_of a ≡ number_of b → a ≡ b
-same_number a b e = sym (numbered_back a) ∙ ap numbered e ∙ numbered_back b
 
 pub done_here : (done : List Bool) (dir : Dir) → length done ≡ 8 → is_done (with_done done dir) dir ≡ true
 done_here done dir e = get_or-set_same done (number_of dir) true false (omega (arith, e, number_lt dir))
@@ -65,18 +38,6 @@ all_from : (xs : List Bool) → ((k : ℕ) → k < length xs → get_or xs k fal
 all_from [] h = refl
 all_from (true ∷ xs) h = all_from xs (λ k l. h (suc k) (omega arith))
 all_from (false ∷ xs) h = absurd (let e = h 0 (omega arith) in cc)
-
-number_numbered : (k : ℕ) → k < 8 → number_of (numbered k) ≡ k
-unfolding numbered
-number_numbered zero h = refl
-number_numbered (suc zero) h = refl
-number_numbered (suc (suc zero)) h = refl
-number_numbered (suc (suc (suc zero))) h = refl
-number_numbered (suc (suc (suc (suc zero)))) h = refl
-number_numbered (suc (suc (suc (suc (suc zero))))) h = refl
-number_numbered (suc (suc (suc (suc (suc (suc zero)))))) h = refl
-number_numbered (suc (suc (suc (suc (suc (suc (suc zero))))))) h = refl
-number_numbered (suc (suc (suc (suc (suc (suc (suc (suc k)))))))) h = absurd (omega arith)
 
 pub complete_from : (done : List Bool) → length done ≡ 8 → list_all (λ b. b) done ≡ true → IsComplete done
 complete_from done e h dir = all_at done (number_of dir) h (omega (arith, e, number_lt dir))

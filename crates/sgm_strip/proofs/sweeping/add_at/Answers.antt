@@ -1,5 +1,5 @@
 use Rattle.std.proofs.Common.{◌<◌, ◌∙◌, ap, arith, length, drop}
-use Rattle.sgm_strip.proofs.Parts.{splice_other, splice_here, part_was}
+use Rattle.sgm_energy.proofs.Parts.{splice_other, splice_here, part_was}
 use Rattle.sgm_strip.proofs.sweeping.add_at.Goals as goal
 
 pub add-requires-clause-fits : goal.add-requires-clause-fits
