@@ -138,6 +138,31 @@ bound_down old new count x most others same right here k h l = elim (cases_lt k 
   | inr le ↦ omega (arith, others k (inr le), right k (omega arith) (omega arith))
 ]
 
+-- the same of sums to which the values of each pixel are added once they are there
+pub added_more : (first sums sums' old new : List ℕ) (count x : ℕ) → ((k : ℕ) → (k < x * count) ⊎ (x * count + count ≤ k) → slice_index new k ≡ slice_index old k)
+    → ((k : ℕ) → (k < x * count) ⊎ (x * count + count ≤ k) → slice_index sums' k ≡ slice_index sums k)
+    → ((d : ℕ) → d < count → slice_index sums' (x * count + d) ≡ slice_index sums (x * count + d) + slice_index new (x * count + d))
+    → ((k : ℕ) → k < x * count → slice_index sums k ≡ slice_index first k + slice_index old k) → ((k : ℕ) → x * count ≤ k → slice_index sums k ≡ slice_index first k)
+    → (k : ℕ) → k < (x + 1) * count → slice_index sums' k ≡ slice_index first k + slice_index new k
+added_more first sums sums' old new count x others others' here done left k h = elim (cases_lt k (x * count)) [
+  | inl l ↦ omega (arith, others k (inl l), others' k (inl l), done k l)
+  | inr l ↦ (let d : ℕ = k - x * count in
+      let e : x * count + d ≡ k = omega arith in
+      omega (arith, ap (slice_index sums') e, ap (slice_index sums) e, ap (slice_index new) e, here d (omega arith), left k l))
+]
+
+pub added_down : (first sums sums' old new : List ℕ) (count x : ℕ) → ((k : ℕ) → (k < x * count) ⊎ (x * count + count ≤ k) → slice_index new k ≡ slice_index old k)
+    → length new ≡ length old → ((k : ℕ) → (k < x * count) ⊎ (x * count + count ≤ k) → slice_index sums' k ≡ slice_index sums k)
+    → ((d : ℕ) → d < count → slice_index sums' (x * count + d) ≡ slice_index sums (x * count + d) + slice_index new (x * count + d))
+    → ((k : ℕ) → (x + 1) * count ≤ k → k < length old → slice_index sums k ≡ slice_index first k + slice_index old k) → ((k : ℕ) → k < (x + 1) * count → slice_index sums k ≡ slice_index first k)
+    → (k : ℕ) → x * count ≤ k → k < length new → slice_index sums' k ≡ slice_index first k + slice_index new k
+added_down first sums sums' old new count x others same others' here done left k h l = elim (cases_lt k (x * count + count)) [
+  | inl lt ↦ (let d : ℕ = k - x * count in
+      let e : x * count + d ≡ k = omega arith in
+      omega (arith, ap (slice_index sums') e, ap (slice_index sums) e, ap (slice_index new) e, here d (omega arith), left k (omega arith)))
+  | inr le ↦ omega (arith, others k (inr le), others' k (inr le), done k (omega arith) (omega arith))
+]
+
 -- what holds of each entry so far holds with one more pixel
 pub row_keep : (P : ℕ → ℕ → ℕ → Type 0) (old new : List ℕ) (count x : ℕ) → ((k : ℕ) → (k < x * count) ⊎ (x * count + count ≤ k) → slice_index new k ≡ slice_index old k)
     → ((z d : ℕ) → z < x → d < count → P z d (slice_index old (z * count + d))) → ((d : ℕ) → d < count → P x d (slice_index new (x * count + d)))

@@ -7,8 +7,8 @@ mod pixel;
 mod run;
 mod step;
 
-pub use run::run_row;
-pub use step::step_row;
+pub use run::{level_sums, run_row};
+pub use step::{add_step_row, step_row};
 
 #[cfg(test)]
 mod tests;

@@ -1,9 +1,9 @@
 // The values of one pixel. Its costs and its values begin at the same place of their rows.
-ghost use Rattle.std.specs.Prelude.{◌≡◌, ℕ, ◌+◌, ◌-◌, ◌<◌, ◌≤◌, ◌⊎◌, length, slice_index, EachIndex, All};
+ghost use Rattle.std.specs.Prelude.{◌≡◌, ℕ, ◌+◌, ◌-◌, ◌^◌, ◌<◌, ◌≤◌, ◌⊎◌, length, slice_index, EachIndex, All};
 ghost use Rattle.sgm_path.specs.Paths.{Follows};
 
 use sgm_base::{MAX_COST, MAX_PATH_VALUE, MAX_PENALTY};
-use sgm_lanes::{least, step};
+use sgm_lanes::{add, least, step};
 
 /// The values of a pixel from those of the pixel before.
 #[inline]
@@ -88,4 +88,18 @@ pub(crate) fn from_other(prev: &[u16], costs: &[u8], p1: u16, far: u16, at: usiz
     let (_, rest) = into.split_at_mut(at);
     let (here, _) = rest.split_at_mut(prev.len());
     follow(prev, &costs[at..at + prev.len()], p1, far, here);
+}
+
+/// Adds the values of a pixel to its sums, which begin at the same place.
+#[inline]
+pub(crate) fn add_at(values: &[u16], count: usize, at: usize, sums: &mut [u16])
+    requires inside { at + count ≤ length sums.old }
+    requires same_length { length values.now ≡ length sums.old }
+    requires room { (d : ℕ) → d < count → slice_index sums.old (at + d) + slice_index values.now (at + d) < 2 ^ 16 }
+    ensures others { (k : ℕ) → (k < at) ⊎ (at + count ≤ k) → slice_index sums.new k ≡ slice_index sums.old k }
+    ensures each { (d : ℕ) → d < count → slice_index sums.new (at + d) ≡ slice_index sums.old (at + d) + slice_index values.now (at + d) }
+{
+    let (_, rest) = sums.split_at_mut(at);
+    let (here, _) = rest.split_at_mut(count);
+    add(here, &values[at..at + count]);
 }

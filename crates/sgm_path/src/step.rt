@@ -1,14 +1,15 @@
-ghost use Rattle.std.specs.Prelude.{◌≡◌, ℕ, ◌+◌, ◌-◌, ◌*◌, ◌/◌, ◌%◌, ◌<◌, ◌≤◌, length, slice_index, All, EachIndex, IfSome, IfNone, MatchOption, false};
+ghost use Rattle.std.specs.Prelude.{◌≡◌, ℕ, ◌+◌, ◌-◌, ◌*◌, ◌/◌, ◌%◌, ◌^◌, ◌<◌, ◌≤◌, ◌⊎◌, length, slice_index, All, EachIndex, IfSome, IfNone, MatchOption, false};
 ghost use Rattle.sgm_energy.specs.Dirs.{is_level};
 ghost use Rattle.sgm_energy.specs.Pens.{p1_of, p2_of};
 ghost use Rattle.sgm_energy.specs.Rays.{Problem, column_before, row_before};
 ghost use Rattle.sgm_energy.specs.Energies.{path_value};
 ghost use Rattle.sgm_energy.specs.Rows.{HoldsRow};
-ghost use Rattle.sgm_path.specs.Paths.{HoldsRowBefore, RowFollows, Suits};
+ghost use Rattle.sgm_path.specs.Paths.{HoldsRowBefore, RowFollows, StepsAt, Suits};
 
-use crate::pixel::{begin_at, from_other};
+use crate::pixel::{add_at, begin_at, from_other};
 use sgm_base::{MAX_COST, MAX_COUNT, MAX_PATH_VALUE};
 use sgm_energy::{Dir, Pen};
+use sgm_lanes::add;
 
 /// The column that a direction comes from, where it lies in the image.
 #[inline]
@@ -25,6 +26,47 @@ fn source(dir: Dir, width: usize, x: usize) -> Option<usize>
     }
 }
 
+/// The values of the column `x` of a row, from the row that the direction comes from.
+#[inline]
+fn step_at(
+    dir: Dir,
+    pen: Pen,
+    costs: &[u8],
+    before: &[u16],
+    count: usize,
+    width: usize,
+    x: usize,
+    into: &mut [u16],
+)
+    requires positive { 0 < count }
+    requires same_length { length costs.now ≡ length into.old }
+    requires before_length { length before.now ≡ length into.old }
+    requires width { width ≡ length into.old / count }
+    requires inside { x < width }
+    requires costs { All (λ c. c ≤ MAX_COST) costs.now }
+    requires values { All (λ v. v ≤ MAX_PATH_VALUE) before.now }
+    ensures others { (k : ℕ) → (k < x * count) ⊎ (x * count + count ≤ k) → slice_index into.new k ≡ slice_index into.old k }
+    ensures bound { (d : ℕ) → d < count → slice_index into.new (x * count + d) ≤ MAX_PATH_VALUE }
+    ensures each { (d : ℕ) → d < count
+        → StepsAt dir width count (p1_of pen) (λ _ _. p2_of pen) before.now costs.now x d (slice_index into.new (x * count + d)) }
+{
+    let at = x * count;
+    match source(dir, width, x) {
+        Some(z) => {
+            let from = z * count;
+            from_other(
+                &before[from..from + count],
+                costs,
+                pen.p1(),
+                pen.p2(),
+                at,
+                into,
+            );
+        }
+        None => begin_at(costs, count, at, into),
+    }
+}
+
 /// From the row that the direction comes from.
 fn step_from(dir: Dir, pen: Pen, costs: &[u8], before: &[u16], count: usize, into: &mut [u16])
     requires positive { 0 < count }
@@ -38,21 +80,37 @@ fn step_from(dir: Dir, pen: Pen, costs: &[u8], before: &[u16], count: usize, int
 {
     let width = into.len() / count;
     for x in 0..width {
-        let at = x * count;
-        match source(dir, width, x) {
-            Some(z) => {
-                let from = z * count;
-                from_other(
-                    &before[from..from + count],
-                    costs,
-                    pen.p1(),
-                    pen.p2(),
-                    at,
-                    into,
-                );
-            }
-            None => begin_at(costs, count, at, into),
-        }
+        step_at(dir, pen, costs, before, count, width, x, into);
+    }
+}
+
+/// The same, and each value is added to the sum at its place.
+fn add_step_from(
+    dir: Dir,
+    pen: Pen,
+    costs: &[u8],
+    before: &[u16],
+    count: usize,
+    into: &mut [u16],
+    sums: &mut [u16],
+)
+    requires positive { 0 < count }
+    requires same_length { length costs.now ≡ length into.old }
+    requires before_length { length before.now ≡ length into.old }
+    requires sums_length { length sums.old ≡ length into.old }
+    requires whole { length into.old % count ≡ 0 }
+    requires costs { All (λ c. c ≤ MAX_COST) costs.now }
+    requires values { All (λ v. v ≤ MAX_PATH_VALUE) before.now }
+    requires room { EachIndex sums.old (λ k. slice_index sums.old k + MAX_PATH_VALUE < 2 ^ 16) }
+    ensures bound { All (λ v. v ≤ MAX_PATH_VALUE) into.new }
+    ensures each { RowFollows dir count (p1_of pen) (λ _ _. p2_of pen) before.now costs.now into.new }
+    ensures added { EachIndex sums.new (λ k. slice_index sums.new k ≡ slice_index sums.old k + slice_index into.new k) }
+{
+    let width = into.len() / count;
+    // A pixel's values are added while they are in the first cache.
+    for x in 0..width {
+        step_at(dir, pen, costs, before, count, width, x, into);
+        add_at(into, count, x * count, sums);
     }
 }
 
@@ -89,5 +147,42 @@ pub fn step_row(
     match before {
         Some(before) => step_from(dir, pen, costs, before, count, into),
         None => begin_at(costs, into.len(), 0, into),
+    }
+}
+
+/// Writes the path values of one row as [`step_row`] does, and adds each to the sum at its place.
+pub fn add_step_row(
+    dir: Dir,
+    pen: Pen,
+    costs: &[u8],
+    before: Option<&[u16]>,
+    count: usize,
+    into: &mut [u16],
+    sums: &mut [u16],
+)
+    requires across { is_level dir ≡ false }
+    requires count_range { (1 ≤ count) × (count ≤ MAX_COUNT) }
+    requires same_length { length costs.now ≡ length into.old }
+    requires before_length { IfSome before (λ b. length b.now ≡ length into.old) }
+    requires sums_length { length sums.old ≡ length into.old }
+    requires whole { length into.old % count ≡ 0 }
+    requires costs { All (λ c. c ≤ MAX_COST) costs.now }
+    requires values { IfSome before (λ b. All (λ v. v ≤ MAX_PATH_VALUE) b.now) }
+    requires room { EachIndex sums.old (λ k. slice_index sums.old k + MAX_PATH_VALUE < 2 ^ 16) }
+    ensures bound { All (λ v. v ≤ MAX_PATH_VALUE) into.new }
+    ensures costs_alone { IfNone before.entry (EachIndex into.new (λ k. slice_index into.new k ≡ slice_index costs.now k)) }
+    ensures each { IfSome before.entry (λ b. RowFollows dir count (p1_of pen) (λ _ _. p2_of pen) b.now costs.now into.new) }
+    ensures added { EachIndex sums.new (λ k. slice_index sums.new k ≡ slice_index sums.old k + slice_index into.new k) }
+    // As `step_row`'s.
+    ensures paths { (g : Problem) (y : ℕ) → Suits g y (p1_of pen) count costs.now
+        → MatchOption before.entry (row_before dir g.height y ≡ None) (λ b. HoldsRowBefore g dir y (λ _ _. p2_of pen) b.now)
+        → HoldsRow g y (path_value g dir) into.new }
+{
+    match before {
+        Some(before) => add_step_from(dir, pen, costs, before, count, into, sums),
+        None => {
+            begin_at(costs, into.len(), 0, into);
+            add(sums, into);
+        }
     }
 }

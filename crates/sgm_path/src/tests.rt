@@ -2,7 +2,7 @@
 // sequence along whole rays.
 ghost use Rattle.std.specs.Prelude.{◌≡◌, ◌≤◌, ◌%◌, length, All};
 
-use super::{run_row, step_row};
+use super::{add_step_row, level_sums, run_row, step_row};
 use sgm_base::{MAX_COST, MAX_COUNT};
 use sgm_energy::{Dir, Pen};
 
@@ -78,7 +78,7 @@ fn three_pixels_to_the_right(rt: HostRuntime) {
     assert!(rt; values == [0, 5, 5, 1, 1, 5]);
 }
 
-/// Whether a row of at most 12 values is as wanted, to the right and to the left.
+/// Whether a row of at most 12 values is as wanted, to the right, to the left, and both together.
 fn is_as_wanted(pen: Pen, count: usize, costs: &[u8], right: &[u16], left: &[u16]) -> bool
     requires room { length costs.now ≤ 12 }
     requires count_range { (1 ≤ count) × (count ≤ MAX_COUNT) }
@@ -90,7 +90,20 @@ fn is_as_wanted(pen: Pen, count: usize, costs: &[u8], right: &[u16], left: &[u16
     run_row(Dir::Right, pen, costs, count, values);
     let to_the_right = &*values == right;
     run_row(Dir::Left, pen, costs, count, values);
-    to_the_right && &*values == left
+    let to_the_left = &*values == left;
+    let mut room = [0u16; 12];
+    let sums = &mut room[..costs.len()];
+    level_sums(pen, costs, count, values, sums);
+    to_the_right && to_the_left && are_sums(sums, right, left)
+}
+
+/// Whether the first numbers are those of the two others, added place by place.
+fn are_sums(sums: &[u16], first: &[u16], second: &[u16]) -> bool {
+    let mut both = first.iter().zip(second);
+    sums.iter().all(|sum| match both.next() {
+        Some((a, b)) => u32::from(*sum) == u32::from(*a) + u32::from(*b),
+        None => false,
+    })
 }
 
 #[test]
@@ -153,6 +166,14 @@ fn rows_of_an_image_have_least_energies(rt: HostRuntime) {
         step_row(dir, pen, &begin, None, 2, &mut first);
         step_row(dir, pen, &middle, Some(&first), 2, &mut second);
         step_row(dir, pen, &end, Some(&second), 2, &mut third);
+        // The same values, added to sums that are there.
+        let mut again = [7u16; 6];
+        let mut sums = [100u16; 6];
+        add_step_row(dir, pen, &end, Some(&second), 2, &mut again, &mut sums);
+        assert!(rt; again == third && are_sums(&sums, &[100; 6], &third));
+        let mut sums = [30000u16; 6];
+        add_step_row(dir, pen, &begin, None, 2, &mut again, &mut sums);
+        assert!(rt; again == first && are_sums(&sums, &[30000; 6], &first));
         let found = if down {
             [first, second, third]
         } else {

@@ -12,26 +12,8 @@ ghost use Rattle.sgm_strip.specs.Passing.{AddsRow, SuitsRow};
 
 use crate::Scene;
 use sgm_census::cost_row;
-use sgm_energy::{Dir, Pen};
-use sgm_lanes::add;
-use sgm_path::run_row;
+use sgm_path::level_sums;
 use std::alloc::{AllocError, Global};
-
-/// Writes the sums of the path values of both level directions of a row. What `spare` holds does not
-/// matter.
-fn write_level(pen: Pen, costs: &[u8], count: usize, spare: &mut [u16], into: &mut [u16])
-    requires count_range { (1 ≤ count) × (count ≤ MAX_COUNT) }
-    requires spare_length { length spare.old ≡ length costs.now }
-    requires same_length { length into.old ≡ length costs.now }
-    requires whole { length costs.now % count ≡ 0 }
-    requires costs { All (λ c. c ≤ MAX_COST) costs.now }
-    ensures { (g : Problem) (y : ℕ) → SuitsRow g y (p1_of pen) (p2_of pen) count costs.now
-        → HoldsRow g y (λ p d. path_value g Right p d + path_value g Left p d) into.new }
-{
-    run_row(Dir::Right, pen, costs, count, into);
-    run_row(Dir::Left, pen, costs, count, spare);
-    add(into, spare);
-}
 
 /// Makes the costs of the row `y` and the sums of its level directions, in the room that is given for a
 /// row of each, and appends both.
@@ -58,7 +40,7 @@ fn append_row(
         OnOk result (AddsRow g y (λ p d. path_value g Right p d + path_value g Left p d) sums.old.items sums.new.items) }
 {
     cost_row(&scene.left, &scene.right, scene.span, y, room);
-    write_level(scene.pen, room, scene.count(), spare, level);
+    level_sums(scene.pen, room, scene.count(), spare, level);
     costs.extend_from_slice(room)?;
     sums.extend_from_slice(level)?;
     Ok(())

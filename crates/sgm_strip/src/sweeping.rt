@@ -10,8 +10,7 @@ ghost use Rattle.sgm_strip.specs.Volumes.{HoldsRows};
 ghost use Rattle.sgm_strip.specs.Passing.{ComesBefore, SuitsRow, SuitsRows, visited};
 
 use sgm_energy::{Dir, Pen};
-use sgm_lanes::add;
-use sgm_path::step_row;
+use sgm_path::add_step_row;
 use std::mem;
 
 /// Which row of a strip is the `i`-th to which a direction comes.
@@ -34,9 +33,9 @@ fn is_begun(begun: bool, i: usize) -> bool
     begun || 0 < i
 }
 
-/// Writes the path values of a row. `before` has those of the row before, and counts only where one was
-/// visited (`begun`).
-fn write_row(
+/// Writes the path values of a row and adds them to its sums. `before` has those of the row before, and
+/// counts only where one was visited (`begun`).
+fn add_row(
     dir: Dir,
     pen: Pen,
     costs: &[u8],
@@ -44,27 +43,31 @@ fn write_row(
     begun: bool,
     before: &[u16],
     into: &mut [u16],
+    sums: &mut [u16],
 )
     requires across { is_level dir ≡ false }
     requires count_range { (1 ≤ count) × (count ≤ MAX_COUNT) }
     requires before_length { length before.now ≡ length costs.now }
     requires same_length { length into.old ≡ length costs.now }
+    requires sums_length { length sums.old ≡ length costs.now }
     requires whole { length costs.now % count ≡ 0 }
     requires costs { All (λ c. c ≤ MAX_COST) costs.now }
     requires values { All (λ v. v ≤ MAX_PATH_VALUE) before.now }
+    requires room { EachIndex sums.old (λ k. slice_index sums.old k + MAX_PATH_VALUE < 2 ^ 16) }
     ensures bound { All (λ v. v ≤ MAX_PATH_VALUE) into.new }
+    ensures added { EachIndex sums.new (λ k. slice_index sums.new k ≡ slice_index sums.old k + slice_index into.new k) }
     ensures paths { (g : Problem) (y : ℕ) → SuitsRow g y (p1_of pen) (p2_of pen) count costs.now
         → ComesBefore g dir y begun (p2_of pen) before.now → HoldsRow g y (path_value g dir) into.new }
 {
     if begun {
-        step_row(dir, pen, costs, Some(before), count, into);
+        add_step_row(dir, pen, costs, Some(before), count, into, sums);
     } else {
-        step_row(dir, pen, costs, None, count, into);
+        add_step_row(dir, pen, costs, None, count, into, sums);
     }
 }
 
-/// Goes on to the next row: `last` has the path values of the row before, and then those of this one.
-/// What `spare` holds does not matter.
+/// Goes on to the next row, whose sums begin at `at`: `last` has the path values of the row before, and
+/// then those of this one, which are added to its sums. What `spare` holds does not matter.
 fn advance(
     dir: Dir,
     pen: Pen,
@@ -73,6 +76,8 @@ fn advance(
     begun: bool,
     last: &mut Vec<u16>,
     spare: &mut Vec<u16>,
+    at: usize,
+    sums: &mut [u16],
 )
     requires across { is_level dir ≡ false }
     requires count_range { (1 ≤ count) × (count ≤ MAX_COUNT) }
@@ -81,27 +86,21 @@ fn advance(
     requires whole { length costs.now % count ≡ 0 }
     requires costs { All (λ c. c ≤ MAX_COST) costs.now }
     requires values { All (λ v. v ≤ MAX_PATH_VALUE) last.old.items }
+    requires inside { at + length costs.now ≤ length sums.old }
+    requires room { (k : ℕ) → k < length costs.now → slice_index sums.old (at + k) + MAX_PATH_VALUE < 2 ^ 16 }
     ensures last_length { length last.new.items ≡ length last.old.items }
     ensures spare_length { length spare.new.items ≡ length last.old.items }
     ensures bound { All (λ v. v ≤ MAX_PATH_VALUE) last.new.items }
+    ensures others { (k : ℕ) → (k < at) ⊎ (at + length last.old.items ≤ k) → slice_index sums.new k ≡ slice_index sums.old k }
+    ensures added { (k : ℕ) → k < length last.old.items
+        → slice_index sums.new (at + k) ≡ slice_index sums.old (at + k) + slice_index last.new.items k }
     ensures paths { (g : Problem) (y : ℕ) → SuitsRow g y (p1_of pen) (p2_of pen) count costs.now
         → ComesBefore g dir y begun (p2_of pen) last.old.items → HoldsRow g y (path_value g dir) last.new.items }
 {
-    write_row(dir, pen, costs, count, begun, last, spare);
-    mem::swap(last, spare);
-}
-
-/// Adds a row of path values to the sums that begin at `at`.
-fn add_at(sums: &mut [u16], at: usize, values: &[u16])
-    requires inside { at + length values.now ≤ length sums.old }
-    requires room { (k : ℕ) → k < length values.now → slice_index sums.old (at + k) + slice_index values.now k < 2 ^ 16 }
-    ensures others { (k : ℕ) → (k < at) ⊎ (at + length values.now ≤ k) → slice_index sums.new k ≡ slice_index sums.old k }
-    ensures here { (k : ℕ) → k < length values.now
-        → slice_index sums.new (at + k) ≡ slice_index sums.old (at + k) + slice_index values.now k }
-{
     let (_, rest) = sums.split_at_mut(at);
-    let (here, _) = rest.split_at_mut(values.len());
-    add(here, values);
+    let (here, _) = rest.split_at_mut(costs.len());
+    add_row(dir, pen, costs, count, begun, last, spare, here);
+    mem::swap(last, spare);
 }
 
 /// Adds the path values of one direction to the sums of a strip. Where the direction has `begun`, `last`
@@ -151,7 +150,8 @@ pub(crate) fn pass_rows(
             row_before,
             last,
             spare,
+            at,
+            sums,
         );
-        add_at(sums, at, last);
     }
 }

@@ -1,16 +1,17 @@
 use Rattle.std.proofs.Common.{◌≡◌, ℕ, ◌*◌, ◌++◌, ◌∙◌, List, length, sym, ap, subst, arith}
 use Rattle.std.proofs.lemmas.List.{with_items_is}
 use Rattle.sgm_energy.specs.Pens.{p1_of, p2_of}
+use Rattle.sgm_energy.specs.Rays.{pixel_at}
 use Rattle.sgm_energy.specs.Rows.{HoldsRow}
 use Rattle.sgm_strip.specs.Scenes.{SceneParts, problem_of, row_length}
 use Rattle.sgm_strip.specs.Passing.{SuitsRow}
 use Rattle.sgm_strip.proofs.Passed.{whole_pixels}
 use Rattle.sgm_strip.proofs.making.append_row.Goals as goal
 
-pub write_level-requires-clause-whole : goal.write_level-requires-clause-whole
-write_level-requires-clause-whole c =
+pub level_sums-requires-clause-whole : goal.level_sums-requires-clause-whole
+level_sums-requires-clause-whole c =
     let width = c.args.scene.now.left.width in
-    whole_pixels (length c.deref.result.now) width c.count.result (omega (arith, ap (λ k. width * k) c.count.ensures.value, c.deref.ensures.len, c.deref_mut.ensures.len, c.cost_row.auto.into))
+    whole_pixels (length c.deref_mut-3.result.now) width c.count.result (omega (arith, ap (λ k. width * k) c.count.ensures.value, c.deref_mut-3.ensures.len, c.requires.level))
 
 pub returns-clause-sums : goal.returns-clause-sums
 returns-clause-sums c =
@@ -31,11 +32,11 @@ returns-clause-sums c =
       };
       same_far = λ q p. sym (ap (λ (s : SceneParts). s.p2) c.scene.view_is);
     } in
-    let level = c.write_level.new.into in
+    let level = c.level_sums.new.into in
     let there : c.deref-3.result.now ≡ level =
-    c.deref-3.ensures.value ∙ with_items_is c.args.level.now level (omega (arith, c.write_level.auto.into, c.deref_mut-3.ensures.len)) in
+    c.deref-3.ensures.value ∙ with_items_is c.args.level.now level (omega (arith, c.level_sums.auto.into, c.deref_mut-3.ensures.len)) in
     record {
       row = level;
       added = c.in_ok-extend_from_slice-2.ensures.items ∙ ap (λ (v : List ℕ). c.args.sums.now.items ++ v) there;
-      holds = c.write_level.ensures g c.args.y suits;
+      holds = c.level_sums.ensures g c.args.y suits.suits (record { each = λ z x hz hx. suits.same_far (pixel_at z c.args.y) (pixel_at x c.args.y) });
     }

@@ -1,4 +1,4 @@
-use Rattle.std.proofs.Common.{◌≡◌, ℕ, ◌+◌, ◌*◌, ◌/◌, ◌<◌, ◌≤◌, ◌∙◌, sym, ap, subst, arith, length, slice_index, ◌⊎◌}
+use Rattle.std.proofs.Common.{◌≡◌, ℕ, ◌+◌, ◌*◌, ◌/◌, ◌<◌, ◌≤◌, ◌∙◌, sym, subst, arith, length, slice_index, ◌⊎◌}
 use Rattle.sgm_energy.specs.Pens.{p1_of, p2_of}
 use Rattle.sgm_strip.specs.Passing.{ComesBefore}
 use Rattle.sgm_strip.proofs.Sweep.{left_more, done_more, all_done, finished}
@@ -11,19 +11,19 @@ loop-i-preserved c =
     let r = c.visited.result in
     let i = c.loop-i.i in
     let dir = c.args.dir in
-    let el : length c.deref.result.now ≡ n = ap length c.deref.ensures.value ∙ (c.advance.ensures.last_length ∙ c.loop-i.invariant.last_length) in
-    let others : (k : ℕ) → (k < r * n) ⊎ (r * n + n ≤ k) → slice_index c.add_at.new.sums k ≡ slice_index c.loop-i.sums k =
-    λ k h. c.add_at.ensures.others k (subst (λ m. (k < r * n) ⊎ (r * n + m ≤ k)) (sym el) h) in
-    let here : (k : ℕ) → k < n → slice_index c.add_at.new.sums (r * n + k) ≡ slice_index c.loop-i.sums (r * n + k) + slice_index c.advance.new.last.items k =
-    λ k h. c.add_at.ensures.here k (omega (arith, el)) ∙ ap (λ xs. slice_index c.loop-i.sums (r * n + k) + slice_index xs k) c.deref.ensures.value in
+    let el : length c.loop-i.last.items ≡ n = c.loop-i.invariant.last_length in
+    let others : (k : ℕ) → (k < r * n) ⊎ (r * n + n ≤ k) → slice_index c.advance.new.sums k ≡ slice_index c.loop-i.sums k =
+    λ k h. c.advance.ensures.others k (subst (λ m. (k < r * n) ⊎ (r * n + m ≤ k)) (sym el) h) in
+    let here : (k : ℕ) → k < n → slice_index c.advance.new.sums (r * n + k) ≡ slice_index c.loop-i.sums (r * n + k) + slice_index c.advance.new.last.items k =
+    λ k h. c.advance.ensures.added k (omega (arith, el)) in
     record {
       row = c.loop-i.invariant.row;
       last_length = c.advance.ensures.last_length ∙ c.loop-i.invariant.last_length;
       spare_length = c.advance.ensures.spare_length ∙ c.loop-i.invariant.last_length;
       bound = c.advance.ensures.bound;
-      left = left_more dir rows i n r c.args.sums.now c.loop-i.sums c.add_at.new.sums c.visited.ensures.value c.loop-i-test.true others c.loop-i.invariant.left;
+      left = left_more dir rows i n r c.args.sums.now c.loop-i.sums c.advance.new.sums c.visited.ensures.value c.loop-i-test.true others c.loop-i.invariant.left;
       done = λ g top s b.
-          done_more g dir top rows (p1_of c.args.pen) (p2_of c.args.pen) c.args.count i n r c.args.begun c.args.costs.now c.args.last.now.items c.loop-i.last.items c.advance.new.last.items c.args.sums.now c.loop-i.sums c.add_at.new.sums
+          done_more g dir top rows (p1_of c.args.pen) (p2_of c.args.pen) c.args.count i n r c.args.begun c.args.costs.now c.args.last.now.items c.loop-i.last.items c.advance.new.last.items c.args.sums.now c.loop-i.sums c.advance.new.sums
           s c.requires.across c.visited.ensures.value c.loop-i-test.true b (c.loop-i.invariant.done g top s b)
           (λ y su cb. c.advance.ensures.paths g y su (subst (λ t. ComesBefore g dir y t (p2_of c.args.pen) c.loop-i.last.items) (sym c.is_begun-row_before.ensures) cb))
           others here c.loop-i.invariant.left;

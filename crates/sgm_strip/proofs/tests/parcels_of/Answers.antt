@@ -9,4 +9,4 @@ pub loop-strip-preserved : goal.loop-strip-preserved
 loop-strip-preserved c =
     let made = c.in_ok-make.ensures.made in
     subst (All (IsOf c.args.scene.now c.args.cut)) (sym c.in_ok-push.ensures.items)
-    (All-push (IsOf c.args.scene.now c.args.cut) c.loop-strip.parcels.items c.in_ok-make.field-0 c.loop-strip.invariant (record { same_scene = ap (λ (p : ParcelParts). p.scene) made; same_cut = ap (λ (p : ParcelParts). p.cut) made; same_strip = refl })
+    (All-push (IsOf c.args.scene.now c.args.cut) c.loop-strip.parcels.items c.in_ok-make.field-0 c.loop-strip.invariant (record { same_scene = ap (λ (p : ParcelParts). p.scene) made; same_cut = ap (λ (p : ParcelParts). p.cut) made; same_strip = refl }))

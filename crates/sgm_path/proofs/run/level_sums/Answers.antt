@@ -1,0 +1,21 @@
+use Rattle.std.proofs.Common.{◌+◌, ◌*◌, ◌<◌, length, refl, arith}
+use Rattle.std.proofs.lemmas.Nat.{mul-add-lt}
+use Rattle.sgm_energy.specs.declared.dir.Dir.TheVariants.{Right, Left}
+use Rattle.sgm_energy.specs.Pens.{p1_of, p2_of}
+use Rattle.sgm_path.proofs.PathRows.{paths_level}
+use Rattle.sgm_path.proofs.run.level_sums.Goals as goal
+
+pub returns : goal.returns
+returns c g y s f =
+    let right =
+    paths_level g Right y (p1_of c.args.pen) c.args.count (λ _ _. p2_of c.args.pen) c.args.costs.now c.run_right.new.into s f (λ _ _. c.args.pen.ordered) (omega arith)
+    (omega (arith, c.run_right.auto.into)) refl c.run_right.ensures.each in
+    let left =
+    paths_level g Left y (p1_of c.args.pen) c.args.count (λ _ _. p2_of c.args.pen) c.args.costs.now c.add_run_left.new.into s f (λ _ _. c.args.pen.ordered) (omega arith)
+    (omega (arith, c.add_run_left.auto.into)) refl c.add_run_left.ensures.each in
+    record {
+      whole = omega (arith, right.whole, c.add_run_left.auto.sums);
+      each = λ x d hx hd.
+          let inside : x * g.count + d < length c.add_run_left.new.sums = omega (arith, mul-add-lt x g.count d g.width hx hd, right.whole, c.add_run_left.auto.sums) in
+          omega (arith, c.add_run_left.ensures.added (x * g.count + d) inside, right.each x d hx hd, left.each x d hx hd);
+    }
