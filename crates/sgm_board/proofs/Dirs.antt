@@ -1,0 +1,41 @@
+-- The words of directions, and the positions of strips.
+use Rattle.std.proofs.Common.{◌≡◌, ◌≢◌, ℕ, ◌+◌, ◌-◌, ◌<◌, Bool, true, false, arith, cond, refl, sym, ap, ◌∙◌, Some}
+use Rattle.sgm_energy.specs.declared.dir.Dir.{Dir}
+use Rattle.sgm_energy.specs.Dirs.{number_of, is_level, goes_down, position_of, strip_at, front_of}
+use Rattle.sgm_handover.proofs.Dirs.{front_lt, same_front, same_number, front_is}
+use Rattle.sgm_board.specs.Words.{dir_word, strip_word}
+
+pub dir_word_lt : (dir : Dir) → dir_word dir < 6
+dir_word_lt dir = front_lt dir
+
+-- directions of one word are one
+pub same_word : (a b : Dir) → is_level a ≡ false → is_level b ≡ false → dir_word a ≡ dir_word b → a ≡ b
+same_word a b la lb e = same_number a b (same_front a b la lb e)
+
+pub other_word : (a b : Dir) → is_level a ≡ false → is_level b ≡ false → number_of a ≢ number_of b → dir_word a ≢ dir_word b
+other_word a b la lb ne e = ne (same_front a b la lb e)
+
+pub not_strip_word : (dir : Dir) (strip : ℕ) → dir_word dir ≢ strip_word strip
+not_strip_word dir strip e = let l = front_lt dir in absurd (omega arith)
+
+-- the word of a direction that has a front is the front's number
+pub word_is : (dir : Dir) (place : ℕ) → is_level dir ≡ false → front_of dir ≡ Some place → place ≡ dir_word dir
+word_is dir place level e = let both : Some place ≡ Some (dir_word dir) = sym e ∙ front_is dir level in cc
+
+lt_either : (b : Bool) (n p : ℕ) → p < n → cond b p (n - 1 - p) < n
+lt_either true n p h = h
+lt_either false n p h = omega arith
+
+twice_either : (b : Bool) (n p : ℕ) → p < n → cond b (cond b p (n - 1 - p)) (n - 1 - cond b p (n - 1 - p)) ≡ p
+twice_either true n p h = refl
+twice_either false n p h = omega arith
+
+pub position_lt : (dir : Dir) (strip strips : ℕ) → strip < strips → position_of dir strip strips < strips
+position_lt dir strip strips h = lt_either (goes_down dir) strips strip h
+
+-- a strip stands at its position, and at a position stands the strip whose position it is
+pub strip_at-position_of : (dir : Dir) (strip strips : ℕ) → strip < strips → strip_at dir (position_of dir strip strips) strips ≡ strip
+strip_at-position_of dir strip strips h = twice_either (goes_down dir) strips strip h
+
+pub position_of-strip_at : (dir : Dir) (position strips : ℕ) → position < strips → position_of dir (strip_at dir position strips) strips ≡ position
+position_of-strip_at dir position strips h = twice_either (goes_down dir) strips position h

@@ -1,0 +1,13 @@
+pub mod Tallies
+pub mod Words
+pub mod Views
+pub mod Shows
+pub mod Plays
+pub mod Plans
+pub mod Events
+pub mod Ready
+pub mod Settled
+pub mod Passes
+pub mod Pockets
+pub mod Dealt
+pub mod Boards
