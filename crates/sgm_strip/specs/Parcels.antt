@@ -63,3 +63,7 @@ pub record RunsOn (scene : SceneParts) (size : Sides) (span : Disparities) (p1 p
   pub same_span : span ≡ scene.span
   pub same_p1 : p1 ≡ scene.p1
   pub same_p2 : p2 ≡ scene.p2
+
+-- a parcel of this scene and this cut
+abbrev pub IsOf : SceneParts → CutParts → ParcelParts → Type 0
+IsOf scene cut parcel = (parcel.scene ≡ scene) × (parcel.cut ≡ cut)

@@ -10,10 +10,6 @@ pub record IsStripOf (scene : SceneParts) (cut : CutParts) (strip : ℕ) (parcel
   pub same_cut : parcel.cut ≡ cut
   pub same_strip : parcel.strip ≡ strip
 
--- it is that of some strip
-abbrev pub IsOf : SceneParts → CutParts → ParcelParts → Type 0
-IsOf scene cut parcel = IsStripOf scene cut parcel.strip parcel
-
 -- the parcels are those of all strips of the cut, in order
 pub record AreStrips (scene : SceneParts) (cut : CutParts) (parcels : List ParcelParts) : Type 0 where
   pub cut_kept : IsCut cut

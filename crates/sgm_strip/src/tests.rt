@@ -1,6 +1,6 @@
 ghost use Rattle.std.specs.Prelude.{◌≡◌, ◌≤◌, ◌<◌, All, IfOk};
 ghost use Rattle.sgm_strip.specs.Scenes.{row_length};
-ghost use Rattle.sgm_strip.specs.Strips.{IsOf};
+ghost use Rattle.sgm_strip.specs.Parcels.{IsOf};
 
 use super::{Cut, Front, Parcel, Row, Scene, pass};
 use sgm_base::{Plane, Size, Span};

@@ -1,6 +1,6 @@
 use Rattle.std.proofs.Common.{◌≡◌}
 use Rattle.std.specs.Prelude.{All}
-use Rattle.sgm_strip.specs.Strips.{IsOf}
+use Rattle.sgm_strip.specs.Parcels.{IsOf}
 use Rattle.sgm_strip.proofs.tests.hand_through.Given as goal
 
 abbrev pub invariant-loop-k : goal.invariant-loop-k

@@ -1,7 +1,7 @@
 use Rattle.std.proofs.Common.{◌≡◌}
 use Rattle.std.specs.Prelude.{All}
 use Rattle.sgm_strip.specs.Scenes.{row_length}
-use Rattle.sgm_strip.specs.Strips.{IsOf}
+use Rattle.sgm_strip.specs.Parcels.{IsOf}
 use Rattle.sgm_strip.proofs.tests.handed_through.Given as goal
 
 abbrev pub invariant-loop-number : goal.invariant-loop-number

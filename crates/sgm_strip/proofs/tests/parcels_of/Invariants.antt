@@ -1,5 +1,5 @@
 use Rattle.std.specs.Prelude.{All}
-use Rattle.sgm_strip.specs.Strips.{IsOf}
+use Rattle.sgm_strip.specs.Parcels.{IsOf}
 use Rattle.sgm_strip.proofs.tests.parcels_of.Given as goal
 
 abbrev pub invariant-loop-strip : goal.invariant-loop-strip
