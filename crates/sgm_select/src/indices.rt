@@ -32,7 +32,8 @@ fn base_at(sums: &[u16]) -> u16
     ensures first { (d : ℕ) → d < result → slice_index sums.now result < slice_index sums.now d }
 {
     let mut least = key(sums[0], 0);
-    for d in 1..sums.len() {
+    // From 0 on, so that whole chunks of lanes are left.
+    for d in 0..sums.len() {
         least = least.min(key(sums[d], d));
     }
     (least % MAX_COUNT) as u16
