@@ -27,6 +27,7 @@ use sgm_energy::Pen;
 use sgm_grid::GridSpec;
 use sgm_height::Camera;
 
+#[tactic(auto, using(std::proofs::lemmas::Int::ints))]
 fn span(first: i64, count: i64) -> Span
     requires first_low { MIN_FIRST ≤ℤ first }
     requires first_high { first ≤ℤ MAX_FIRST }
@@ -63,6 +64,7 @@ pub fn disparities(top: &Value) -> Result<Span, CalibFault>
     span_of(object)
 }
 
+#[tactic(auto, using(std::proofs::lemmas::Int::ints))]
 fn sides(width: i64, height: i64) -> Window
     requires width_low { pos MIN_WINDOW_SIDE ≤ℤ width }
     requires width_high { width ≤ℤ pos MAX_WINDOW_WIDTH }
@@ -101,6 +103,7 @@ pub fn census(top: &Value) -> Result<Window, CalibFault>
     window_of(object)
 }
 
+#[tactic(auto, using(std::proofs::lemmas::Int::ints))]
 fn pen(p1: i64, p2: i64) -> Pen
     requires low { pos 1 ≤ℤ p1 }
     requires ordered { p1 ≤ℤ p2 }

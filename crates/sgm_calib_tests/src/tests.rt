@@ -1,4 +1,4 @@
-use super::{Calib, CalibError, CalibFault, Key, read};
+use sgm_calib::{Calib, CalibError, CalibFault, Key, read};
 use sgm_example::CALIBRATION;
 use std::alloc::Global;
 use std::test::Fail;
