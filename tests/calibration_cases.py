@@ -3,8 +3,7 @@
 
     tests/calibration_cases.py FOLDER
 
-writes NAME.json and NAME.line for each. They go over the keys of the warps, the camera, the grid and the
-regions: each one missing, of a wrong type, just outside its range on either side, and beside a name that
+writes NAME.json and NAME.line for each. They go over the keys of all objects: each one missing, of a wrong type, just outside its range on either side, and beside a name that
 isn't known; and over the order of the faults where several stand together. `BOUNDS` are calibrations at
 the very ends of the ranges, which have no fault. The pictures are those of 5 x 3 pixels of ends.sh.
 """
@@ -16,26 +15,16 @@ import json
 import os
 import sys
 
+from reference_inputs import RANGES
+
 MISSING = object()
 WRONG_TYPES = itertools.cycle([1.5, "1", None, True, [1], {"a": 1}, 1.0])
 
-PLAIN = {
-    "version": 1,
-    "disparities": {"first": 0, "count": 2},
-    "census": {"width": 3, "height": 3},
-    "penalties": {"p1": 1, "p2": 3},
-}
-WHOLE = {
-    **PLAIN,
-    "camera": {
-        "focal": 25600, "baseline": 1000, "cx": 0, "cy": 0, "doffs": 0, "mount": 150000, "near": 1, "far": 1000000,
-    },
-    "grid": {"west": 2000, "south": -2000, "cell": 1000, "cols": 4, "rows": 3},
-    "regions": [
-        {"name": "all", "col": 0, "row": 0, "cols": 4, "rows": 3, "base": 40000},
-        {"name": "east", "col": 3, "row": 0, "cols": 1, "rows": 1, "base": 60000},
-    ],
-}
+# The calibration of the worked example, and what of it has to be there.
+EXAMPLE = os.path.join(os.path.dirname(os.path.abspath(__file__)), "..", "crates", "sgm_cli", "data", "c.json")
+with open(EXAMPLE, encoding="utf-8") as file:
+    WHOLE = json.load(file)
+PLAIN = {name: value for name, value in WHOLE.items() if name not in ("camera", "grid", "regions")}
 IDENTITY = {"kind": "identity"}
 PROJECTIVE = {"kind": "projective", "matrix": [1, 0, 0, 0, 1, 0, 0, 0, 1]}
 # A picture of 5 x 3 needs (5 - 1) div 2 + 2 columns and (3 - 1) div 2 + 2 rows of nodes.
@@ -47,34 +36,30 @@ MESH = {
     "nodes": [part for y in (0, 512, 1024) for x in (0, 512, 1024, 1536) for part in (x, y)],
 }
 
-# The whole numbers, with the least and the greatest value that is accepted where all else is as in WHOLE.
-NUMBERS = [
-    ("camera.focal", 1, 16777216),
-    ("camera.baseline", 1, 2000000000),
-    ("camera.cx", -16777216, 16777216),
-    ("camera.cy", -16777216, 16777216),
-    ("camera.doffs", -16777216, 16777216),
-    ("camera.mount", 0, 2000000000),
-    ("camera.near", 1, 1000000),
-    ("camera.far", 1, 2000000000),
-    ("grid.west", -2000000000, 2000000000),
-    ("grid.south", -2000000000, 2000000000),
-    ("grid.cell", 1, 1000000000),
-    ("grid.cols", 4, 4096),
-    ("grid.rows", 3, 4096),
-    ("regions.0.base", -2000000000, 2000000000),
-    ("regions.0.col", 0, 0),
-    ("regions.0.row", 0, 0),
-    ("regions.0.cols", 1, 4),
-    ("regions.0.rows", 1, 3),
-    ("regions.1.col", 0, 3),
-    ("regions.1.row", 0, 2),
-    ("regions.1.cols", 1, 1),
-    ("regions.1.rows", 1, 3),
-    ("regions.1.base", -2000000000, 2000000000),
-]
+# The whole numbers, with the least and the greatest value that is accepted where all else is as in WHOLE: the ends of
+# their ranges, but for these.
+ENDS = {
+    "penalties.p1": (1, 3),
+    "camera.near": (1, 1000000),
+    "grid.cols": (4, 4096),
+    "grid.rows": (3, 4096),
+    "regions.0.base": RANGES["region.base"],
+    "regions.0.col": (0, 0),
+    "regions.0.row": (0, 0),
+    "regions.0.cols": (1, 4),
+    "regions.0.rows": (1, 3),
+    "regions.1.col": (0, 3),
+    "regions.1.row": (0, 2),
+    "regions.1.cols": (1, 1),
+    "regions.1.rows": (1, 3),
+    "regions.1.base": RANGES["region.base"],
+}
+SECTIONS = ("disparities", "census", "penalties", "camera", "grid")
+PATHS = [path for path in RANGES if path.startswith(SECTIONS)] + [path for path in ENDS if path.startswith("regions")]
+NUMBERS = [(path, *ENDS.get(path, RANGES.get(path))) for path in PATHS]
 # Where the first value outside is another key's fault, or that of the one before, it stands here.
 OUTSIDE = {
+    ("penalties.p1", 4): "penalties.p2 is out of range",
     ("camera.near", 1000001): "camera.far is out of range",
     ("grid.cols", 3): "regions[0].cols is out of range",
     ("grid.rows", 2): "regions[0].rows is out of range",

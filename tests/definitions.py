@@ -301,8 +301,13 @@ def rectification(draw):
 CAMERA = "focal baseline cx cy doffs mount near far".split()
 
 
+def completed(section, given):
+    """The object with the worked example's value of each key that isn't given."""
+    return {**calibration_cases.WHOLE[section], **given}
+
+
 def camera_of(camera):
-    return record(**{name: whole(camera[name]) for name in CAMERA})
+    return record(**{name: whole(value) for name, value in completed("camera", camera).items()})
 
 
 def point_of(point):
@@ -328,8 +333,8 @@ def points(draw):
 
 
 def spec_of(grid):
-    lengths = {name: whole(grid[name]) for name in ("west", "south", "cell")}
-    return record(**lengths, cols=natural(grid["cols"]), rows=natural(grid["rows"]))
+    sides = {name: natural(grid[name]) for name in ("cols", "rows")}
+    return record(**{name: whole(value) for name, value in completed("grid", grid).items()} | sides)
 
 
 def cells_of(grid, cells):

@@ -11,14 +11,19 @@ set -u
 passed=0 failed=0
 outputs=(o.pgm o.asc o.csv)
 
+# members NAME..: these members of the worked example's calibration, as JSON without its braces.
+members() {
+    python3 - "$top/crates/sgm_cli/data/c.json" "$@" <<'END'
+import json, sys
+with open(sys.argv[1], encoding="utf-8") as file:
+    whole = json.load(file)
+print(json.dumps({name: whole[name] for name in sys.argv[2:]})[1:-1])
+END
+}
+
 # The parts of the calibration: what has to be there, and what asks for heights and volumes.
-plain='"version":1,"disparities":{"first":0,"count":2},
- "census":{"width":3,"height":3},"penalties":{"p1":1,"p2":3}'
-camera='"camera":{"focal":25600,"baseline":1000,"cx":0,"cy":0,"doffs":0,
-           "mount":150000,"near":1,"far":1000000}'
-grid='"grid":{"west":2000,"south":-2000,"cell":1000,"cols":4,"rows":3}'
-regions='"regions":[{"name":"all","col":0,"row":0,"cols":4,"rows":3,"base":40000},
-            {"name":"east","col":3,"row":0,"cols":1,"rows":1,"base":60000}]'
+plain=$(members version disparities census penalties) || exit 1
+camera=$(members camera) grid=$(members grid) regions=$(members regions)
 
 # A new folder with the pair and its calibration; the words are those of a good run.
 begin() {

@@ -50,11 +50,12 @@ def scene(width, height, maxval, first, deepest, seed):
 
 
 def calibration(first=0, count=8, window=(5, 5), penalties=(4, 30), **more):
+    plain = calibration_cases.PLAIN
     return {
         "version": 1,
-        "disparities": {"first": first, "count": count},
-        "census": {"width": window[0], "height": window[1]},
-        "penalties": {"p1": penalties[0], "p2": penalties[1]},
+        "disparities": {**plain["disparities"], "first": first, "count": count},
+        "census": {**plain["census"], "width": window[0], "height": window[1]},
+        "penalties": {**plain["penalties"], "p1": penalties[0], "p2": penalties[1]},
         **more,
     }
 
@@ -155,15 +156,17 @@ def warped():
 
 def camera(**more):
     plain = {"focal": 7680, "baseline": 1000000, "cx": 5120, "cy": 3840, "doffs": 0}
-    return {**plain, "mount": 15000000, "near": 1, "far": 2000000000, **more}
+    return {**calibration_cases.WHOLE["camera"], **plain, "mount": 15000000, "near": 1, "far": 2000000000, **more}
 
 
 def grid(**more):
-    return {"west": -10000000, "south": -8000000, "cell": 1000000, "cols": 20, "rows": 16, **more}
+    plain = {"west": -10000000, "south": -8000000, "cell": 1000000, "cols": 20, "rows": 16}
+    return {**calibration_cases.WHOLE["grid"], **plain, **more}
 
 
 def region(name, col, row, cols, rows, base):
-    return {"name": name, "col": col, "row": row, "cols": cols, "rows": rows, "base": base}
+    numbers = {"col": col, "row": row, "cols": cols, "rows": rows, "base": base}
+    return {**calibration_cases.WHOLE["regions"][0], "name": name, **numbers}
 
 
 def surveyed():

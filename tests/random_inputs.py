@@ -175,35 +175,8 @@ class Raw(str):
     """A JSON text that is written as it stands."""
 
 
-# The whole numbers by their paths, with the least and the greatest value.
-RANGES = {
-    "version": (1, 1),
-    "disparities.first": (-1024, 1024),
-    "disparities.count": (1, 256),
-    "census.width": (3, 9),
-    "census.height": (3, 7),
-    "penalties.p1": (1, 4000),
-    "penalties.p2": (1, 4000),
-    "step": (2, 1024),
-    "cols": (1, 4096),
-    "rows": (1, 4096),
-    "camera.focal": (1, 16777216),
-    "camera.baseline": (1, 2000000000),
-    "camera.cx": (-16777216, 16777216),
-    "camera.cy": (-16777216, 16777216),
-    "camera.doffs": (-16777216, 16777216),
-    "camera.mount": (0, 2000000000),
-    "camera.near": (1, 2000000000),
-    "camera.far": (1, 2000000000),
-    "grid.west": (-2000000000, 2000000000),
-    "grid.south": (-2000000000, 2000000000),
-    "grid.cell": (1, 1000000000),
-    "grid.cols": (1, 4096),
-    "grid.rows": (1, 4096),
-    "col": (0, 4095),
-    "row": (0, 4095),
-    "base": (-2000000000, 2000000000),
-}
+# The ranges of the whole numbers, of a side of the warp and of a region by their last names.
+RANGES = {path.removeprefix("side.").removeprefix("region."): ends for path, ends in reference_inputs.RANGES.items()}
 ODD_VALUES = [
     *map(Raw, "1.0 1e0 -0 0.5 1e400 1e-400 -1 01 +1 .5 1. 1e 0x1 NaN Infinity true false null nul [] {} [1] {{ ] '1'".split()),
     *map(Raw, ['""', '"1"', '"\\u0031"', '"\\ud800"', '"\\ud83d\\ude00"', '"\\x"', '"a\tb"', '{"a":1}', "[[[]]]", "[1,]", "1 2"]),
@@ -211,18 +184,21 @@ ODD_VALUES = [
 ]
 # Whole numbers at the ends of 64 bits, and what isn't written as one.
 ODD_NUMBERS = [*map(str, [2**63 - 1, 2**63, -(2**63), -(2**63) - 1]), "1.0", "-0", "1e0", "0.0"]
-NAMES = "version disparities first count census width height penalties p1 p2 warp left right kind matrix step cols rows nodes"
-NAMES = (NAMES + " camera focal grid cell regions name col base top x").split()
+# The names of all keys, and some that are none.
+NAMES = sorted({name for path in reference_inputs.RANGES for name in path.split(".")})
+NAMES += "warp left right kind matrix nodes regions name top x".split()
 
 
 def settings(draw, first, count, **sections):
     made = Pairs()
     made.put("version", 1)
-    made.put("disparities", Pairs([("first", first), ("count", count)]))
+    made.put("disparities", completed(draw, "disparities", [("first", first), ("count", count)]))
     # Small windows more often: a large one has no code anywhere in a small picture.
-    made.put("census", Pairs([("width", draw.of([3, 3, 3, 5, 7, 9])), ("height", draw.of([3, 3, 3, 5, 7]))]))
+    sides = [("width", draw.of([3, 3, 3, 5, 7, 9])), ("height", draw.of([3, 3, 3, 5, 7]))]
+    made.put("census", completed(draw, "census", sides))
     p1 = draw.of([1, 2, 7, 60, 4000, draw.between(1, 4000)])
-    made.put("penalties", Pairs([("p1", p1), ("p2", draw.of([p1, min(4000, 3 * p1), 4000, draw.between(p1, 4000)]))]))
+    p2 = draw.of([p1, min(4000, 3 * p1), 4000, draw.between(p1, 4000)])
+    made.put("penalties", completed(draw, "penalties", [("p1", p1), ("p2", p2)]))
     for name, section in sections.items():
         if section is not None:
             made.put(name, section)
@@ -259,6 +235,12 @@ def wrong_warp(draw, width, height):
     return Pairs([("kind", "mesh"), ("step", draw.between(2, 6)), ("cols", cols), ("rows", rows), ("nodes", [0, 0] * cols * rows)])
 
 
+def completed(draw, section, made):
+    """The object with its other keys, somewhere in their ranges."""
+    missing = [name for name in reference_inputs.keys_of(section) if name not in dict(made)]
+    return Pairs([*made, *((name, draw.between(*reference_inputs.RANGES[f"{section}.{name}"])) for name in missing)])
+
+
 def camera_of(draw):
     """With some thirty pixels of focal length and a metre of baseline, a disparity d lies 30 / d metres away.
 
@@ -274,7 +256,7 @@ def camera_of(draw):
         focal, baseline = 16777216, 2000000000
     made = [("focal", focal), ("baseline", baseline), ("cx", middle()), ("cy", middle())]
     made += [("doffs", draw.of([0, 0, 0, 77, -256, 300])), ("mount", draw.of([0, 15000000, 2000000000]))]
-    return Pairs([*made, ("near", near), ("far", far)])
+    return completed(draw, "camera", [*made, ("near", near), ("far", far)])
 
 
 def grid_of(draw):
@@ -282,10 +264,10 @@ def grid_of(draw):
     cols, rows = draw.between(1, 14), draw.between(1, 14)
     if draw.chance(60):
         side = draw.of([2000000, 3000000, 5000000])
-        return Pairs([("west", -8000001), ("south", -14000003), ("cell", side), ("cols", 14), ("rows", 14)])
+        return completed(draw, "grid", [("west", -8000001), ("south", -14000003), ("cell", side), ("cols", 14), ("rows", 14)])
     west, south = draw.between(-12000000, 2000000), draw.between(-12000000, 2000000)
     cell = draw.of([1, 300001, 1000000, 3000000, 1000000000])
-    return Pairs([("west", west), ("south", south), ("cell", cell), ("cols", cols), ("rows", rows)])
+    return completed(draw, "grid", [("west", west), ("south", south), ("cell", cell), ("cols", cols), ("rows", rows)])
 
 
 def regions_of(draw, grid):
@@ -297,7 +279,8 @@ def regions_of(draw, grid):
         cols, rows = draw.between(1, sides["cols"] - col), draw.between(1, sides["rows"] - row)
         name = draw.of([f"r{index}", "Pile no. 7", "_-. ", "a" * 64])
         base = draw.of([0, 7000000, -2000000000, 2000000000, draw.between(-20000000, 20000000)])
-        made.append(Pairs([("name", name), ("col", col), ("row", row), ("cols", cols), ("rows", rows), ("base", base)]))
+        numbers = [("col", col), ("row", row), ("cols", cols), ("rows", rows), ("base", base)]
+        made.append(completed(draw, "region", [("name", name), *numbers]))
     return made
 
 

@@ -129,6 +129,48 @@ def read_pgm(data, side):
 
 # Calibration
 
+# The whole numbers of a calibration by their paths, each with the least and the greatest value. An object's keys stand in
+# the order of their checks. A side of the warp and a region stand once; what other keys leave of a range is said where
+# they are read.
+RANGES = {
+    "version": (1, 1),
+    "disparities.first": (-1024, 1024),
+    "disparities.count": (1, 256),
+    "census.width": (3, 9),
+    "census.height": (3, 7),
+    "penalties.p1": (1, 4000),
+    "penalties.p2": (1, 4000),
+    "side.step": (2, 1024),
+    "side.cols": (2, 2049),
+    "side.rows": (2, 2049),
+    "camera.focal": (1, 16777216),
+    "camera.baseline": (1, 2000000000),
+    "camera.cx": (-16777216, 16777216),
+    "camera.cy": (-16777216, 16777216),
+    "camera.doffs": (-16777216, 16777216),
+    "camera.mount": (0, 2000000000),
+    "camera.near": (1, 2000000000),
+    "camera.far": (1, 2000000000),
+    "grid.west": (-2000000000, 2000000000),
+    "grid.south": (-2000000000, 2000000000),
+    "grid.cell": (1, 1000000000),
+    "grid.cols": (1, 4096),
+    "grid.rows": (1, 4096),
+    "region.col": (0, 4095),
+    "region.row": (0, 4095),
+    "region.cols": (1, 4096),
+    "region.rows": (1, 4096),
+    "region.base": (-2000000000, 2000000000),
+}
+# A number whose least value is that of another key of its object, and the numbers that have to be odd.
+LEAST = {"penalties.p2": "p1", "camera.far": "near"}
+ODD = ("census.width", "census.height")
+
+
+def keys_of(section):
+    """The names of an object's whole numbers, in the order of their checks."""
+    return [path.partition(".")[2] for path in RANGES if path.startswith(section + ".")]
+
 
 class Calibration:
     """The plain settings; read_calibration makes other ones."""
@@ -211,6 +253,22 @@ def read_calibration(data):
         in_range(len(values) == length and all(-bound <= v <= bound for v in values), path)
         return values
 
+    def numbers(parent, section, path, **greatest):
+        """The whole numbers of an object. What some of them may be at most rests on those before."""
+        made = {}
+        for name in keys_of(section):
+            key = f"{section}.{name}"
+            low, high = RANGES[key]
+            low = made.get(LEAST.get(key), low)
+            high = greatest[name](made) if name in greatest else high
+            made[name] = whole(parent, f"{path}.{name}", low, high)
+            in_range(key not in ODD or made[name] % 2 == 1, f"{path}.{name}")
+        return made
+
+    def section(parent, name):
+        """An object of whole numbers alone."""
+        return numbers(known(get(parent, name, dict), name, " ".join(keys_of(name))), name, name)
+
     def warp(parent, path):
         side = get(parent, path, dict)
         kind = get(side, path + ".kind", str)
@@ -221,50 +279,21 @@ def read_calibration(data):
         if kind == "projective":
             made["matrix"] = list_of_whole(side, path + ".matrix", 9, 1099511627776)
         if kind == "mesh":
-            made["step"] = whole(side, path + ".step", 2, 1024)
-            made["cols"] = whole(side, path + ".cols", 2, 2049)
-            made["rows"] = whole(side, path + ".rows", 2, 2049)
+            made |= numbers(side, "side", path)
             made["nodes"] = list_of_whole(side, path + ".nodes", 2 * made["cols"] * made["rows"], 16777216)
         return made
 
-    def camera(parent):
-        it = known(get(parent, "camera", dict), "camera", "focal baseline cx cy doffs mount near far")
-        made = {
-            "focal": whole(it, "camera.focal", 1, 16777216),
-            "baseline": whole(it, "camera.baseline", 1, 2000000000),
-            "cx": whole(it, "camera.cx", -16777216, 16777216),
-            "cy": whole(it, "camera.cy", -16777216, 16777216),
-            "doffs": whole(it, "camera.doffs", -16777216, 16777216),
-            "mount": whole(it, "camera.mount", 0, 2000000000),
-            "near": whole(it, "camera.near", 1, 2000000000),
-        }
-        made["far"] = whole(it, "camera.far", made["near"], 2000000000)
-        return made
-
-    def grid(parent):
-        it = known(get(parent, "grid", dict), "grid", "west south cell cols rows")
-        return {
-            "west": whole(it, "grid.west", -2000000000, 2000000000),
-            "south": whole(it, "grid.south", -2000000000, 2000000000),
-            "cell": whole(it, "grid.cell", 1, 1000000000),
-            "cols": whole(it, "grid.cols", 1, 4096),
-            "rows": whole(it, "grid.rows", 1, 4096),
-        }
-
     def region(value, path, grid):
-        it = known(kind_of(value, dict, path), path, "name col row cols rows base")
+        it = known(kind_of(value, dict, path), path, " ".join(["name", *keys_of("region")]))
         name = get(it, path + ".name", str)
         in_range(re.fullmatch("[A-Za-z0-9 _.-]{1,64}", name), path + ".name")
-        col = whole(it, path + ".col", 0, grid["cols"] - 1)
-        row = whole(it, path + ".row", 0, grid["rows"] - 1)
-        return {
-            "name": name,
-            "col": col,
-            "row": row,
-            "cols": whole(it, path + ".cols", 1, grid["cols"] - col),
-            "rows": whole(it, path + ".rows", 1, grid["rows"] - row),
-            "base": whole(it, path + ".base", -2000000000, 2000000000),
+        inside = {
+            "col": lambda made: grid["cols"] - 1,
+            "row": lambda made: grid["rows"] - 1,
+            "cols": lambda made: grid["cols"] - made["col"],
+            "rows": lambda made: grid["rows"] - made["row"],
         }
+        return {"name": name, **numbers(it, "region", path, **inside)}
 
     try:
         top = parse_json(data)
@@ -275,25 +304,19 @@ def read_calibration(data):
         refused("unknown version")
     known(top, "top", "version disparities census penalties warp camera grid regions")
     made = Calibration()
-    disparities = known(get(top, "disparities", dict), "disparities", "first count")
-    made.first = whole(disparities, "disparities.first", -1024, 1024)
-    made.count = whole(disparities, "disparities.count", 1, 256)
-    census = known(get(top, "census", dict), "census", "width height")
-    window_width = get(census, "census.width", int)
-    in_range(window_width in (3, 5, 7, 9), "census.width")
-    window_height = get(census, "census.height", int)
-    in_range(window_height in (3, 5, 7), "census.height")
-    made.window = (window_width, window_height)
-    penalties = known(get(top, "penalties", dict), "penalties", "p1 p2")
-    made.p1 = whole(penalties, "penalties.p1", 1, 4000)
-    made.p2 = whole(penalties, "penalties.p2", made.p1, 4000)
+    disparities = section(top, "disparities")
+    made.first, made.count = disparities["first"], disparities["count"]
+    census = section(top, "census")
+    made.window = (census["width"], census["height"])
+    penalties = section(top, "penalties")
+    made.p1, made.p2 = penalties["p1"], penalties["p2"]
     if "warp" in top:
         both = known(get(top, "warp", dict), "warp", "left right")
         made.left, made.right = warp(both, "warp.left"), warp(both, "warp.right")
     if "camera" in top or "grid" in top:
-        made.camera = camera(top)
+        made.camera = section(top, "camera")
     if "grid" in top or "regions" in top:
-        made.grid = grid(top)
+        made.grid = section(top, "grid")
     if "regions" in top:
         regions = get(top, "regions", list)
         in_range(len(regions) <= 1000, "regions")

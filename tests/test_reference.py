@@ -19,19 +19,15 @@ import reference
 import reference_inputs as inputs
 import reference_matching as matching
 
-PLAIN = (
-    '{"version":1,"disparities":{"first":0,"count":2},'
-    '"census":{"width":3,"height":3},"penalties":{"p1":1,"p2":3}'
-)
-CAMERA = (
-    ',"camera":{"focal":25600,"baseline":1000,"cx":0,"cy":0,"doffs":0,'
-    '"mount":150000,"near":1,"far":1000000}'
-)
-GRID = ',"grid":{"west":2000,"south":-2000,"cell":1000,"cols":4,"rows":3}'
-REGIONS = (
-    ',"regions":[{"name":"all","col":0,"row":0,"cols":4,"rows":3,"base":40000},'
-    '{"name":"east","col":3,"row":0,"cols":1,"rows":1,"base":60000}]'
-)
+
+def members(*names):
+    """These members of the worked example's calibration, as JSON without its braces."""
+    part = {name: calibration_cases.WHOLE[name] for name in names}
+    return json.dumps(part, separators=(",", ":"))[1:-1]
+
+
+PLAIN = "{" + members("version", "disparities", "census", "penalties")
+CAMERA, GRID, REGIONS = ("," + members(name) for name in ("camera", "grid", "regions"))
 WORKED = {
     "l.pgm": b"P5\n5 3\n255\n" + 3 * bytes([90, 10, 50, 20, 40]),
     "r.pgm": b"P5\n5 3\n255\n" + 3 * bytes([10, 50, 20, 40, 30]),

@@ -6,7 +6,8 @@ use Rattle.sgm_height.specs.declared.camera.Camera.{Camera}
 use Rattle.sgm_grid.specs.declared.grid_spec.GridSpec.{GridSpec}
 use Rattle.sgm_report.specs.Areas.{Area, IsArea}
 use Rattle.sgm_calib.specs.Table as table
-use Rattle.sgm_calib.specs.Judge.{grid_of, grid_in}
+use Rattle.sgm_calib.specs.Table.{grid_of}
+use Rattle.sgm_calib.specs.Judge.{grid_in}
 
 pub IfSome-map : {A B : Type 0} (f : A → B) (P : B → Type 0) (found : Option A) → IfSome found (λ a. P (f a)) → IfSome (option_map f found) P
 IfSome-map f P None h = h

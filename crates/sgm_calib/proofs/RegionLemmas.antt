@@ -8,7 +8,8 @@ use Rattle.sgm_grid.specs.declared.grid_spec.GridSpec.{GridSpec}
 use Rattle.sgm_calib.specs.Table as table
 use Rattle.sgm_calib.specs.Checks.{first_of, value_of}
 use Rattle.sgm_calib.specs.RegionKeys.{region_place, region_fault, region_faults, regions_fault_of, regions_fault}
-use Rattle.sgm_calib.specs.Judge.{grid_of, grid_in}
+use Rattle.sgm_calib.specs.Table.{grid_of}
+use Rattle.sgm_calib.specs.Judge.{grid_in}
 
 -- what is left of a list from an element on is that element and what is left after it
 at_element : {X : Type 0} (xs : List X) (i : ℕ) (x : X) → i < length xs → x ≡ get_or xs i x → drop i xs ≡ x ∷ drop (i + 1) xs

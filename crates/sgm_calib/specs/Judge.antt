@@ -5,17 +5,15 @@ use Rattle.std.specs.Option.{option_or}
 use Rattle.std.specs.Result.{result_err}
 use Rattle.serde_json.specs.Data.{Data}
 use Rattle.serde_json.specs.Find.{get, as_object}
-use Rattle.sgm_base.specs.Disparities.{Disparities}
-use Rattle.sgm_census.specs.Windows.{WindowSides}
 use Rattle.sgm_height.specs.declared.camera.Camera.{Camera}
 use Rattle.sgm_grid.specs.declared.grid_spec.GridSpec.{GridSpec}
 use Rattle.sgm_calib.specs.declared.keys.CalibFault.{CalibFault}
 use Rattle.sgm_calib.specs.declared.keys.CalibFault.TheVariants.{Version, Missing}
 use Rattle.sgm_calib.specs.declared.place.TheConstants.{PLAIN}
-use Rattle.sgm_calib.specs.Calibration.{Calibration, Penalties}
+use Rattle.sgm_calib.specs.Calibration.{Calibration}
 use Rattle.sgm_calib.specs.Table as table
-use Rattle.sgm_calib.specs.Table.{rows_in}
-use Rattle.sgm_calib.specs.Rows.{Row, Form, object, warps, regions, key_at, whole, number_of, count_of, is_in_range, is_required}
+use Rattle.sgm_calib.specs.Table.{rows_in, span_of, window_of, penalties_of, camera_of, grid_of}
+use Rattle.sgm_calib.specs.Rows.{Row, Form, object, warps, regions, key_at, whole, is_in_range, is_required}
 use Rattle.sgm_calib.specs.Checks.{first_of, typed_in, or_out_of_range, object_fault, type_fault, keys_fault, value_of}
 use Rattle.sgm_calib.specs.WarpKeys.{warps_fault, warp_in}
 use Rattle.sgm_calib.specs.RegionKeys.{regions_fault, regions_in}
@@ -65,39 +63,6 @@ abbrev pub fault_in : Data → Option CalibFault
 fault_in top = option_or (top_fault top) (entries_fault top)
 
 -- ---- the calibration that a value without a fault is
-
--- the disparities, the window and the penalties that an object is
-abbrev pub span_of : Data → Disparities
-span_of d = record { first = number_of table.first d; count = count_of table.count d }
-
-abbrev pub window_of : Data → WindowSides
-window_of d = record { width = count_of table.width d; height = count_of table.height d }
-
-abbrev pub penalties_of : Data → Penalties
-penalties_of d = record { p1 = count_of table.p1 d; p2 = count_of table.p2 d }
-
--- the camera that an object is
-unfoldable pub camera_of : Data → Camera
-camera_of d = record {
-  focal = number_of table.focal d;
-  baseline = number_of table.baseline d;
-  cx = number_of table.cx d;
-  cy = number_of table.cy d;
-  doffs = number_of table.doffs d;
-  mount = number_of table.mount d;
-  near = number_of table.near d;
-  far = number_of table.far d;
-}
-
--- the grid that an object is
-unfoldable pub grid_of : Data → GridSpec
-grid_of d = record {
-  west = number_of table.west d;
-  south = number_of table.south d;
-  cell = number_of table.cell d;
-  cols = count_of table.grid_cols d;
-  rows = count_of table.grid_rows d;
-}
 
 -- the camera and the grid of a value, where it has them
 unfoldable pub camera_in : Data → Option Camera

@@ -1,13 +1,19 @@
 -- The key table of calibration files: a row for each key, in the order of the checks. The names of an object, the keys' paths
--- and the order of the checks follow from it.
+-- and the order of the checks follow from it. Behind it stands what the keys of an object of whole numbers become.
 use Rattle.std.specs.Prelude.{ℕ, ◌+◌, ◌==◌, ℤ, pos, neg_ℤ, Bool, ◌&&◌, List, [], ◌∷◌, ◌++◌, codes, filter, map}
-use Rattle.std.specs.List.{list_any}
+use Rattle.std.specs.List.{list_any, range_with_len}
 use Rattle.std.specs.Str.{bytes_eq}
+use Rattle.serde_json.specs.Data.{Data}
+use Rattle.sgm_base.specs.Disparities.{Disparities}
 use Rattle.sgm_base.specs.declared.limits.TheConstants.{MAX_COUNT, MAX_FIRST, MAX_GRID_LINES, MAX_PENALTY, MAX_WINDOW_HEIGHT, MAX_WINDOW_WIDTH, MIN_FIRST, MIN_WINDOW_SIDE}
+use Rattle.sgm_census.specs.Windows.{WindowSides}
+use Rattle.sgm_grid.specs.declared.grid_spec.GridSpec.{GridSpec}
 use Rattle.sgm_grid.specs.declared.limits.TheConstants.{MAX_CELL, MAX_HEIGHT, MAX_PLACE}
+use Rattle.sgm_height.specs.declared.camera.Camera.{Camera}
 use Rattle.sgm_height.specs.declared.limits.TheConstants.{MAX_BASELINE, MAX_DEPTH, MAX_FOCAL, MAX_MOUNT, MAX_OFFSET}
 use Rattle.sgm_rectify.specs.declared.limits.TheConstants.{MAX_ENTRY, MAX_NODE, MAX_NODE_COUNT, MAX_STEP, MIN_ENTRY, MIN_NODE, MIN_NODE_COUNT, MIN_STEP}
-use Rattle.sgm_calib.specs.Rows.{Form, object, warps, kind, name, regions, between, odd, from, column, line, columns_from, lines_from, matrix, nodes, Presence, required, optional, with, of_kind, Row, is_given}
+use Rattle.sgm_calib.specs.Calibration.{Penalties}
+use Rattle.sgm_calib.specs.Rows.{Form, object, warps, kind, name, regions, between, odd, from, column, line, columns_from, lines_from, matrix, nodes, Presence, required, optional, with, of_kind, Row, is_given, number_of, count_of}
 
 -- the row of a key of the value itself, and of a key of an object
 abbrev pub entry : ℕ → List ℕ → Form → Presence → Row
@@ -203,6 +209,10 @@ keys =
     ++ (region_list ∷ [])
     ++ (region ∷ region_keys)
 
+-- their numbers in that order: 49, from 1 on
+abbrev pub order : List ℕ
+order = range_with_len 1 49
+
 -- the keys of an object, in the order of their checks
 unfoldable pub rows_in : Row → List Row
 rows_in holder = filter (λ row. row.object == holder.number) keys
@@ -210,3 +220,38 @@ rows_in holder = filter (λ row. row.object == holder.number) keys
 -- whether the table gives an object of that kind the name
 unfoldable pub is_known : Row → List ℕ → List ℕ → Bool
 is_known holder word key = list_any (λ row. (row.object == holder.number) && is_given row.presence word && bytes_eq row.name key) keys
+
+-- ---- what an object of whole numbers is
+
+-- the disparities, the window and the penalties that an object is
+abbrev pub span_of : Data → Disparities
+span_of d = record { first = number_of first d; count = count_of count d }
+
+abbrev pub window_of : Data → WindowSides
+window_of d = record { width = count_of width d; height = count_of height d }
+
+abbrev pub penalties_of : Data → Penalties
+penalties_of d = record { p1 = count_of p1 d; p2 = count_of p2 d }
+
+-- the camera that an object is
+unfoldable pub camera_of : Data → Camera
+camera_of d = record {
+  focal = number_of focal d;
+  baseline = number_of baseline d;
+  cx = number_of cx d;
+  cy = number_of cy d;
+  doffs = number_of doffs d;
+  mount = number_of mount d;
+  near = number_of near d;
+  far = number_of far d;
+}
+
+-- the grid that an object is
+unfoldable pub grid_of : Data → GridSpec
+grid_of d = record {
+  west = number_of west d;
+  south = number_of south d;
+  cell = number_of cell d;
+  cols = count_of grid_cols d;
+  rows = count_of grid_rows d;
+}

@@ -19,6 +19,3 @@ pub use calib::Calib;
 pub use keys::{CalibError, CalibFault, Key};
 pub use reading::read;
 pub use sgm_base::{MAX_CALIB_BYTES, MAX_REGIONS};
-
-#[cfg(test)]
-mod tests;

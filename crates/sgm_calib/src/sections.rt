@@ -10,7 +10,8 @@ ghost use Rattle.sgm_energy.specs.Pens.{p1_of, p2_of};
 ghost use Rattle.sgm_calib.specs.Table as table;
 ghost use Rattle.sgm_calib.specs.Rows.{number_of, count_of, meant, form_meant, presence_meant};
 ghost use Rattle.sgm_calib.specs.Checks.{keys_fault, value_of};
-ghost use Rattle.sgm_calib.specs.Judge.{section_fault, span_of, window_of, penalties_of, camera_of, camera_in, grid_of, grid_in};
+ghost use Rattle.sgm_calib.specs.Table.{span_of, window_of, penalties_of, camera_of, grid_of};
+ghost use Rattle.sgm_calib.specs.Judge.{section_fault, camera_in, grid_in};
 
 use crate::checks::{object_in, odd_or_whole, whole};
 use crate::keys::CalibFault;
@@ -26,6 +27,7 @@ use sgm_energy::Pen;
 use sgm_grid::GridSpec;
 use sgm_height::Camera;
 
+#[tactic(auto, using(std::proofs::lemmas::Int::ints))]
 fn span(first: i64, count: i64) -> Span
     requires first_low { MIN_FIRST ≤ℤ first }
     requires first_high { first ≤ℤ MAX_FIRST }
@@ -62,6 +64,7 @@ pub fn disparities(top: &Value) -> Result<Span, CalibFault>
     span_of(object)
 }
 
+#[tactic(auto, using(std::proofs::lemmas::Int::ints))]
 fn sides(width: i64, height: i64) -> Window
     requires width_low { pos MIN_WINDOW_SIDE ≤ℤ width }
     requires width_high { width ≤ℤ pos MAX_WINDOW_WIDTH }
@@ -100,6 +103,7 @@ pub fn census(top: &Value) -> Result<Window, CalibFault>
     window_of(object)
 }
 
+#[tactic(auto, using(std::proofs::lemmas::Int::ints))]
 fn pen(p1: i64, p2: i64) -> Pen
     requires low { pos 1 ≤ℤ p1 }
     requires ordered { p1 ≤ℤ p2 }
@@ -139,7 +143,7 @@ pub fn penalties(top: &Value) -> Result<Pen, CalibFault>
 }
 
 /// The camera that an object is, once its names are known.
-#[tactic(auto, unfolding(crate::specs::Judge::camera_of))]
+#[tactic(auto, unfolding(crate::specs::Table::camera_of))]
 fn camera_of(object: &Value) -> Result<Camera, CalibFault>
     ensures ok { OnOk result (keys_fault PLAIN (view object.now) table.camera_keys ≡ None) }
     ensures value { IfOk result (λ c. c ≡ camera_of (view object.now)) }
@@ -186,7 +190,7 @@ pub fn camera(top: &Value) -> Result<Option<Camera>, CalibFault>
 }
 
 /// The grid that an object is, once its names are known.
-#[tactic(auto, unfolding(crate::specs::Judge::grid_of))]
+#[tactic(auto, unfolding(crate::specs::Table::grid_of))]
 fn grid_of(object: &Value) -> Result<GridSpec, CalibFault>
     ensures ok { OnOk result (keys_fault PLAIN (view object.now) table.grid_keys ≡ None) }
     ensures value { IfOk result (λ g. g ≡ grid_of (view object.now)) }

@@ -1,14 +1,12 @@
 //! `calib TEXT`: the calibration that the text is, or its first fault.
 //!
 //! The answer is `ok`, the least disparity and their number, the window's sides, the penalties, and then
-//! each warp, the camera, the grid and the regions with their names and numbers, where they are there; or
-//! the fault with its key's number, index and path. Of more than eight nodes or regions the last alone
-//! stands there, after their number.
+//! each warp, the camera, the grid and the regions with their names and numbers, where they are there, the
+//! camera and the grid field by field; or the fault with its key's number, index and path. Of more than
+//! eight nodes or regions the last alone stands there, after their number.
 
 use crate::escapes;
 use sgm_calib::{Calib, CalibError, CalibFault, Key, read};
-use sgm_grid::GridSpec;
-use sgm_height::Camera;
 use sgm_rectify::Warp;
 use sgm_report::Region;
 use std::alloc::{AllocError, Global};
@@ -77,34 +75,6 @@ fn push_warp(text: &mut String, warp: &Warp) -> Result<(), AllocError> {
     }
 }
 
-fn push_camera(text: &mut String, camera: Camera) -> Result<(), AllocError> {
-    let Camera {
-        focal,
-        baseline,
-        cx,
-        cy,
-        doffs,
-        mount,
-        near,
-        far,
-    } = camera;
-    write!(
-        text,
-        " camera {focal} {baseline} {cx} {cy} {doffs} {mount} {near} {far}"
-    )
-}
-
-fn push_grid(text: &mut String, grid: GridSpec) -> Result<(), AllocError> {
-    let GridSpec {
-        west,
-        south,
-        cell,
-        cols,
-        rows,
-    } = grid;
-    write!(text, " grid {west} {south} {cell} {cols} {rows}")
-}
-
 fn push_region(text: &mut String, region: &Region) -> Result<(), AllocError> {
     let (name, col, row) = (region.name.as_str(), region.col, region.row);
     let (cols, rows, base) = (region.cols, region.rows, region.base);
@@ -128,10 +98,10 @@ fn push_calib(text: &mut String, calib: &Calib) -> Result<(), AllocError> {
     push_warp(text, calib.left())?;
     push_warp(text, calib.right())?;
     if let Some(camera) = calib.camera() {
-        push_camera(text, camera)?;
+        write!(text, " {camera:?}")?;
     }
     if let Some(grid) = calib.grid() {
-        push_grid(text, grid)?;
+        write!(text, " {grid:?}")?;
     }
     if let Some(regions) = calib.regions() {
         push_regions(text, regions)?;

@@ -1,6 +1,8 @@
-//! Answers cases from standard input, one a line, `KIND REST`, with one line each. What a kind asks and
-//! how its answers are written is said in its module. Its stored input and output are tests of the crates
-//! below: the answers stand there as the formats ask for them.
+//! Compares answers with those that were worked out apart from the program. Standard input has two lines for
+//! each case: `KIND REST`, and the answer as the formats ask for it. A case that is answered otherwise is
+//! printed with its answer. What a kind asks and how its answers are written is said in its module.
+//!
+//! The stored input is a test of the crates below. Its last case has a false answer, so it is printed.
 #![tactic(auto)]
 
 mod calib;
@@ -25,12 +27,27 @@ fn answer(alloc: Global, kind: &str, rest: &str) -> Result<String, AllocError> {
     }
 }
 
-fn main(rt: HostRuntime) -> io::Result<()> {
-    for line in rt.lines(rt.alloc()) {
-        let line = line?;
-        let (kind, rest) = cut(line.as_str());
-        let text = answer(rt.alloc(), kind, rest)?;
-        println!(rt; "{text}")?;
+/// Prints the case where its answer isn't the one that is owed.
+fn compare(rt: &HostRuntime, case: &str, owed: &str) -> io::Result<()> {
+    let (kind, rest) = cut(case);
+    let text = answer(rt.alloc(), kind, rest)?;
+    if text.as_str() != owed {
+        println!(rt; "{case}: {text}")?;
     }
     Ok(())
+}
+
+fn main(rt: HostRuntime) -> io::Result<()> {
+    let mut asked: Option<String> = None;
+    for line in rt.lines(rt.alloc()) {
+        let line = line?;
+        match asked.take() {
+            None => asked = Some(line),
+            Some(case) => compare(&rt, case.as_str(), line.as_str())?,
+        }
+    }
+    match asked {
+        None => Ok(()),
+        Some(case) => compare(&rt, case.as_str(), ""),
+    }
 }

@@ -2,6 +2,7 @@
 
 use sgm_base::{Image, Size};
 use sgm_calib::{Calib, read};
+use sgm_example::END;
 use std::alloc::Global;
 use std::test::Fail;
 
@@ -10,18 +11,6 @@ pub const LEFT: [u16; 5] = [90, 10, 50, 20, 40];
 
 /// A row of its right image.
 pub const RIGHT: [u16; 5] = [10, 50, 20, 40, 30];
-
-/// What its calibration begins with.
-pub const EXAMPLE: &str =
-    "{\"version\":1,\"disparities\":{\"first\":0,\"count\":2},\"census\":{\"width\":3,\"height\":3},\"penalties\":{\"p1\":1,\"p2\":3}";
-
-/// The camera of the worked example.
-pub const CAMERA: &str =
-    ",\"camera\":{\"focal\":25600,\"baseline\":1000,\"cx\":0,\"cy\":0,\"doffs\":0,\"mount\":150000,\"near\":1,\"far\":1000000}";
-
-/// Its grid.
-pub const GRID: &str =
-    ",\"grid\":{\"west\":2000,\"south\":-2000,\"cell\":1000,\"cols\":4,\"rows\":3}";
 
 pub fn image(alloc: Global, sides: (u32, u32), samples: &[u16]) -> Result<Image, Fail> {
     let size = Size::make(sides.0, sides.1).ok_or("size")?;
@@ -56,13 +45,13 @@ pub fn map_of(alloc: Global, rows: &[&str]) -> Result<Vec<Option<u16>>, Fail> {
     Ok(entries)
 }
 
-/// The calibration whose text has these parts, up to its last brace.
+/// The calibration whose text has these parts, up to its end.
 pub fn calib(alloc: Global, parts: &[&str]) -> Result<Calib, Fail> {
     let mut text = String::new(alloc);
     for part in parts {
         text.push_str(part)?;
     }
-    text.push_str("}")?;
+    text.push_str(END)?;
     Ok(read(alloc, text.as_bytes()).ok().ok_or("calibration")?)
 }
 

@@ -5,18 +5,16 @@ ghost use Rattle.std.specs.Prelude.{◌≤◌};
 ghost use Rattle.sgm_base.specs.declared.limits.TheConstants.{MAX_STRIPS};
 
 use crate::fixtures::{
-    CAMERA, EXAMPLE, GRID, LEFT, RIGHT, calib, even_image, image, image_of_rows, map_of, span,
+    LEFT, RIGHT, calib, even_image, image, image_of_rows, map_of, span,
 };
 use crate::{SurveyError, SurveyFault, Surveyed, survey};
 use sgm_base::{Image, Side, Size};
 use sgm_calib::Calib;
+use sgm_example::{CAMERA, GRID, REGIONS, SETTINGS};
 use sgm_rectify::WarpFault;
 use sgm_report::RegionTally;
 use std::alloc::Global;
 use std::test::Fail;
-
-const REGIONS: &str =
-    ",\"regions\":[{\"name\":\"all\",\"col\":0,\"row\":0,\"cols\":4,\"rows\":3,\"base\":40000},{\"name\":\"east\",\"col\":3,\"row\":0,\"cols\":1,\"rows\":1,\"base\":60000}]";
 
 /// The denominator is 4 at the corner 0 and 0 at the corner 1 of an image of five columns.
 const TILTED: &str =
@@ -50,7 +48,7 @@ fn fault(alloc: Global, left: &Image, right: &Image, calib: &Calib) -> Option<Su
 #[test]
 fn the_worked_example(rt: HostRuntime) -> Result<(), Fail> {
     let alloc = rt.alloc();
-    let calib = calib(alloc, &[EXAMPLE, CAMERA, GRID, REGIONS])?;
+    let calib = calib(alloc, &[SETTINGS, CAMERA, GRID, REGIONS])?;
     let map = map_of(alloc, &["00111", "00111", "00111"])?;
     let height = Some(50_000);
     let row = [height, height, height, None];

@@ -1,32 +1,7 @@
-//! The worked example. What the runs are to write is worked by hand.
+//! The files of the worked example. What the runs are to write is worked by hand.
 
+use sgm_example::{CALIBRATION, LEFT, RIGHT};
 use std::alloc::{AllocError, Global};
-
-/// The left image: three times the row 90 10 50 20 40.
-pub const LEFT: &[u8] =
-    b"P5\n5 3\n255\n\x5a\x0a\x32\x14\x28\x5a\x0a\x32\x14\x28\x5a\x0a\x32\x14\x28";
-
-/// The right image: three times the row 10 50 20 40 30.
-pub const RIGHT: &[u8] =
-    b"P5\n5 3\n255\n\x0a\x32\x14\x28\x1e\x0a\x32\x14\x28\x1e\x0a\x32\x14\x28\x1e";
-
-/// What the calibration begins with. Its keys follow in the order of these constants.
-pub const SETTINGS: &str =
-    "{\"version\":1,\"disparities\":{\"first\":0,\"count\":2},\n \"census\":{\"width\":3,\"height\":3},\"penalties\":{\"p1\":1,\"p2\":3}";
-
-pub const CAMERA: &str =
-    ",\n \"camera\":{\"focal\":25600,\"baseline\":1000,\"cx\":0,\"cy\":0,\"doffs\":0,\n           \"mount\":150000,\"near\":1,\"far\":1000000}";
-
-pub const GRID: &str =
-    ",\n \"grid\":{\"west\":2000,\"south\":-2000,\"cell\":1000,\"cols\":4,\"rows\":3}";
-
-pub const REGIONS: &str =
-    ",\n \"regions\":[{\"name\":\"all\",\"col\":0,\"row\":0,\"cols\":4,\"rows\":3,\"base\":40000},\n            {\"name\":\"east\",\"col\":3,\"row\":0,\"cols\":1,\"rows\":1,\"base\":60000}]";
-
-pub const END: &str = "}\n";
-
-/// The calibration of the worked example.
-pub const EXAMPLE: [&str; 5] = [SETTINGS, CAMERA, GRID, REGIONS, END];
 
 /// The disparity image: three times the samples 16 16 32 32 32.
 pub const DISPARITIES: &[u8] =
@@ -68,5 +43,5 @@ pub fn files_with(alloc: Global, calib: &[&str]) -> Result<Vec<(String, Vec<u8>)
 
 /// The pair of the worked example and its calibration.
 pub fn example(alloc: Global) -> Result<Vec<(String, Vec<u8>)>, AllocError> {
-    files_with(alloc, &EXAMPLE)
+    files_with(alloc, &CALIBRATION)
 }

@@ -2,10 +2,10 @@
 
 use super::ended::{assert_ended, assert_held, end_on, shelf_of};
 use super::fixtures::{
-    CAMERA, DISPARITIES, END, EXAMPLE, GRID, HEIGHTS, LEFT, REPORT, SETTINGS, SUMMARY, example,
-    file, files_with, words_of,
+    DISPARITIES, HEIGHTS, REPORT, SUMMARY, example, file, files_with, words_of,
 };
 use crate::run;
+use sgm_example::{CALIBRATION, CAMERA, END, GRID, LEFT, SETTINGS};
 use sgm_io::{MemorySink, SureShelf};
 use std::test::Fail;
 
@@ -87,7 +87,7 @@ fn plain_settings_serve_a_pair_of_two_pixels(rt: HostRuntime) -> Result<(), Fail
 fn sinks_fill_up(rt: HostRuntime) -> Result<(), Fail> {
     let alloc = rt.alloc();
     let line = words_of(alloc, "match l.pgm r.pgm c.json o")?;
-    let mut shelf = shelf_of(alloc, files_with(alloc, &EXAMPLE)?)?;
+    let mut shelf = shelf_of(alloc, files_with(alloc, &CALIBRATION)?)?;
     let mut out = MemorySink::make(alloc, 4096, Some(6))?;
     let mut deaf = MemorySink::make(alloc, 0, None)?;
     let outcome = run(alloc, &line, &mut shelf, &mut out, &mut deaf);

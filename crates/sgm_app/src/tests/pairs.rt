@@ -1,7 +1,8 @@
 //! The generated pair: a demo, and a whole run over a larger one.
 
 use super::ended::{assert_ended, assert_held, end_on, held, shelf_of};
-use super::fixtures::{CAMERA, END, GRID, REGIONS, files_with};
+use super::fixtures::files_with;
+use sgm_example::{CAMERA, END, GRID, REGIONS};
 use crate::pair;
 use sgm_base::{Image, Size};
 use std::alloc::{AllocError, Global};

@@ -1,7 +1,8 @@
 //! Inputs that are refused, and those that can't be read: one case of each.
 
 use super::ended::{assert_ended, assert_held, end_on, shelf_of};
-use super::fixtures::{END, GRID, SETTINGS, example, file, files_with};
+use super::fixtures::{example, file, files_with};
+use sgm_example::{END, GRID, SETTINGS};
 use std::alloc::{AllocError, Global};
 use std::process::Abort;
 use std::test::Fail;

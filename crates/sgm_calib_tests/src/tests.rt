@@ -1,4 +1,5 @@
-use super::{Calib, CalibError, CalibFault, Key, read};
+use sgm_calib::{Calib, CalibError, CalibFault, Key, read};
+use sgm_example::CALIBRATION;
 use std::alloc::Global;
 use std::test::Fail;
 
@@ -44,31 +45,37 @@ fn plain_settings(rt: HostRuntime) {
     assert!(rt; plain.camera().is_none());
 }
 
-/// Two regions in a grid of four columns and three rows, as a user writes them.
-const WORKED: &str = "{\"version\":1,\"disparities\":{\"first\":0,\"count\":2},
- \"census\":{\"width\":3,\"height\":3},\"penalties\":{\"p1\":1,\"p2\":3},
- \"camera\":{\"focal\":25600,\"baseline\":1000,\"cx\":0,\"cy\":0,\"doffs\":0,
-           \"mount\":150000,\"near\":1,\"far\":1000000},
- \"grid\":{\"west\":2000,\"south\":-2000,\"cell\":1000,\"cols\":4,\"rows\":3},
- \"regions\":[{\"name\":\"all\",\"col\":0,\"row\":0,\"cols\":4,\"rows\":3,\"base\":40000},
-            {\"name\":\"east\",\"col\":3,\"row\":0,\"cols\":1,\"rows\":1,\"base\":60000}]}
-";
+/// The calibration of the worked example.
+fn worked(alloc: Global) -> Result<Calib, Fail> {
+    let mut text = String::new(alloc);
+    for part in CALIBRATION {
+        text.push_str(part)?;
+    }
+    Ok(read(alloc, text.as_bytes()).ok().ok_or("no calibration")?)
+}
 
 #[test]
-fn a_whole_calibration(rt: HostRuntime) -> Result<(), Fail> {
-    let calib = read(rt.alloc(), WORKED.as_bytes())
-        .ok()
-        .ok_or("no calibration")?;
+fn settings_of_a_whole_calibration(rt: HostRuntime) -> Result<(), Fail> {
+    let calib = worked(rt.alloc())?;
+    assert_eq!(rt; calib.span().count, 2);
+    assert_eq!(rt; calib.window().width, 3);
+    assert_eq!(rt; calib.pen().p2(), 3);
+    Ok(())
+}
+
+#[test]
+fn grid_of_a_whole_calibration(rt: HostRuntime) -> Result<(), Fail> {
+    let calib = worked(rt.alloc())?;
     let grid = calib.grid().ok_or("no grid")?;
+    assert_eq!(rt; (grid.west, grid.cell), (2000, 1000));
+    assert_eq!(rt; (grid.cols, grid.rows), (4, 3));
+    Ok(())
+}
+
+#[test]
+fn regions_of_a_whole_calibration(rt: HostRuntime) -> Result<(), Fail> {
+    let calib = worked(rt.alloc())?;
     let regions = calib.regions().ok_or("no regions")?;
-    assert_eq!(rt;
-        (calib.span().count, calib.window().width, calib.pen().p2()),
-        (2, 3, 3)
-    );
-    assert_eq!(rt;
-        (grid.west, grid.cell, grid.cols, grid.rows),
-        (2000, 1000, 4, 3)
-    );
     assert_eq!(rt; regions.len(), 2);
     Ok(())
 }
