@@ -2,8 +2,6 @@ ghost use Rattle.std.specs.Prelude.{◌≡◌, IfOk};
 
 use super::{base_row, check_row, match_row};
 use sgm_base::Span;
-use std::alloc::{AllocError, Global};
-use std::process::Abort;
 use std::test::Fail;
 
 /// The sums of two rows of a worked pair: five columns, two indices each.
@@ -138,87 +136,5 @@ fn disparities_of_a_pair(rt: HostRuntime) -> Result<(), Fail> {
     // The column x - 2 - base leaves the row on the left at the first three.
     check_row(&base, &matched, &values, &values, span_of(2, 2)?, &mut into);
     assert!(rt; into == [None, None, None, Some(16), Some(16)]);
-    Ok(())
-}
-
-/// Sums with many ties.
-fn sums_of(alloc: Global, len: usize) -> Result<Vec<u16>, AllocError> {
-    let mut sums = Vec::with_capacity(alloc, len)?;
-    let mut state = 1u32;
-    for _ in 0..len {
-        state = state.wrapping_mul(1_664_525).wrapping_add(1_013_904_223);
-        sums.push((state >> 29) as u16)?;
-    }
-    Ok(sums)
-}
-
-/// The least index of some at which the sum is least, where the sum of the index `d` stands at
-/// `(start + d * step) * count + d`, if its column is one of `width`.
-fn plain_index(sums: &[u16], width: u32, count: u32, start: i32, step: i32) -> Option<u16> {
-    let mut best: Option<(u16, u16)> = None;
-    for d in 0..count.min(256) {
-        let column = i64::from(start) + i64::from(step) * i64::from(d);
-        if column < 0 || i64::from(width) <= column {
-            continue;
-        }
-        let sum = *sums.get(
-            (column as usize)
-                .wrapping_mul(count as usize)
-                .wrapping_add(d as usize),
-        )?;
-        if best.is_none_or(|(least, _)| sum < least) {
-            best = Some((sum, d as u16));
-        }
-    }
-    best.map(|(_, index)| index)
-}
-
-/// Compares both rows with plain loops.
-fn compare(
-    rt: &(impl AllocGlobal + Abort),
-    width: u16,
-    first: i32,
-    count: u32,
-) -> Result<(), Fail> {
-    let span = span_of(first, count)?;
-    let sums = sums_of(rt.alloc(), width as usize * count as usize)?;
-    let mut base = vec![in rt.alloc(); 0u16; width as usize]?;
-    let mut matched = vec![in rt.alloc(); None; width as usize]?;
-    if count < 1 || 256 < count || sums.len() != width as usize * count as usize {
-        return Err("lengths")?;
-    }
-    base_row(&sums, count as usize, base.as_mut_slice());
-    match_row(&sums, span, matched.as_mut_slice());
-    for (x, index) in base.iter().enumerate() {
-        let want = plain_index(&sums, u32::from(width), count, (x & 0xffff) as i32, 0);
-        assert!(rt;
-            Some(*index) == want,
-            "base of {x} of {width}, {count} indices"
-        );
-    }
-    for (q, index) in matched.iter().enumerate() {
-        let start = ((q & 0xffff) as i32).wrapping_add(first);
-        let want = plain_index(&sums, u32::from(width), count, start, 1);
-        assert!(rt;
-            *index == want,
-            "match of {q} of {width}, {count} indices from {first}"
-        );
-    }
-    Ok(())
-}
-
-/// Odd widths, more columns than are held at a time, and counts from 1 to 256.
-#[test]
-fn rows_as_by_plain_loops(rt: HostRuntime) -> Result<(), Fail> {
-    for (width, first, count) in [
-        (1, 0, 1),
-        (3, -1, 2),
-        (37, -20, 17),
-        (40, 3, 256),
-        (131, -7, 31),
-        (4101, 1, 3),
-    ] {
-        compare(&rt, width, first, count)?;
-    }
     Ok(())
 }
