@@ -5,12 +5,12 @@
 
 mod board;
 mod calls;
-
+mod close;
 mod deal;
 mod pass;
 mod rule;
 mod slot;
-
+mod start;
 mod steps;
 mod view;
 
