@@ -19,3 +19,10 @@ pub mod Reading
 pub mod Carried
 pub mod Getting
 pub mod Dealt
+pub mod Parts
+pub mod Visits
+pub mod Options
+pub mod Laying
+pub mod Starting
+pub mod Emptying
+pub mod Ending

@@ -4,13 +4,13 @@
 #![tactic(auto)]
 
 mod board;
-
-
+mod calls;
+mod close;
 mod deal;
 mod pass;
 mod rule;
 mod slot;
-
+mod start;
 mod steps;
 mod view;
 
