@@ -19,3 +19,6 @@ pub mod Reading
 pub mod Carried
 pub mod Getting
 pub mod Dealt
+pub mod Parts
+pub mod Visits
+pub mod Options

@@ -4,7 +4,7 @@
 #![tactic(auto)]
 
 mod board;
-
+mod calls;
 
 mod deal;
 mod pass;
