@@ -2,7 +2,8 @@
 use Rattle.std.proofs.Common.{◌≡◌, ◌≢◌, ℕ, ◌+◌, ◌-◌, ◌<◌, Bool, true, false, arith, cond, refl, sym, ap, ◌∙◌, Some}
 use Rattle.sgm_energy.specs.declared.dir.Dir.{Dir}
 use Rattle.sgm_energy.specs.Dirs.{number_of, is_level, goes_down, position_of, strip_at, front_of}
-use Rattle.sgm_handover.proofs.Dirs.{front_lt, same_front, same_number, front_is}
+use Rattle.sgm_energy.proofs.DirLemmas.{same_number}
+use Rattle.sgm_handover.proofs.Dirs.{front_lt, same_front, front_is}
 use Rattle.sgm_board.specs.Words.{dir_word, strip_word}
 
 pub dir_word_lt : (dir : Dir) → dir_word dir < 6

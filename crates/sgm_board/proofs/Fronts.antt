@@ -11,7 +11,7 @@ use Rattle.sgm_handover.specs.Handover.{Handover, next}
 use Rattle.sgm_handover.specs.Events.{after}
 use Rattle.sgm_handover.specs.declared.event.Event.TheVariants.{Take, Put}
 use Rattle.sgm_handover.proofs.Maps.{changed_there, changed_else, changed_cases, some_none}
-use Rattle.sgm_handover.proofs.Dirs.{same_number}
+use Rattle.sgm_energy.proofs.DirLemmas.{same_number}
 use Rattle.sgm_board.specs.declared.view.View.{View}
 use Rattle.sgm_board.specs.Tallies.{has}
 use Rattle.sgm_board.specs.Words.{dir_word}

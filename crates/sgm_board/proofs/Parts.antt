@@ -9,7 +9,7 @@ use Rattle.sgm_energy.specs.Dirs.{number_of, is_level}
 use Rattle.sgm_strip.specs.Parcels.{ParcelParts, IsParcel, is_done}
 use Rattle.sgm_handover.specs.Handover.{changed}
 use Rattle.sgm_handover.proofs.Maps.{changed_there, changed_else}
-use Rattle.sgm_handover.proofs.Dirs.{same_number}
+use Rattle.sgm_energy.proofs.DirLemmas.{same_number}
 use Rattle.sgm_board.specs.declared.view.About.{About}
 use Rattle.sgm_board.specs.declared.view.View.{View}
 use Rattle.sgm_board.specs.Tallies.{has, put_at}

@@ -14,7 +14,7 @@ use Rattle.sgm_handover.specs.Handover.{Handover, next}
 use Rattle.sgm_handover.specs.Events.{Legal, after}
 use Rattle.sgm_handover.specs.declared.event.Event.TheVariants.{Put}
 use Rattle.sgm_handover.proofs.Maps.{changed_there, changed_here, changed_else, some_none}
-use Rattle.sgm_handover.proofs.Dirs.{same_number}
+use Rattle.sgm_energy.proofs.DirLemmas.{same_number}
 use Rattle.sgm_board.specs.declared.view.About.{About}
 use Rattle.sgm_board.specs.declared.view.View.{View}
 use Rattle.sgm_board.specs.declared.slot.Slot.{Slot}
