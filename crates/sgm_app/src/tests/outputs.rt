@@ -2,11 +2,9 @@
 
 use super::ended::{assert_ended, assert_held, end_on, shelf_of};
 use super::fixtures::{
-    CAMERA, DISPARITIES, END, EXAMPLE, GRID, HEIGHTS, LEFT, REPORT, SETTINGS, SUMMARY, example,
-    file, files_with, words_of,
+    CAMERA, DISPARITIES, END, GRID, HEIGHTS, LEFT, REPORT, SETTINGS, SUMMARY, example, file,
+    files_with,
 };
-use crate::run;
-use sgm_io::MemorySink;
 use std::test::Fail;
 
 #[test]
@@ -68,19 +66,4 @@ fn plain_settings_serve_a_pair_of_two_pixels(rt: HostRuntime) -> Result<(), Fail
         assert_held(&rt, alloc, &mut shelf, [disparities, None, None], line)?;
     }
     Ok(())
-}
-
-#[test]
-fn sinks_fill_up(rt: HostRuntime) -> Result<(), Fail> {
-    let alloc = rt.alloc();
-    let line = words_of(alloc, "match l.pgm r.pgm c.json o")?;
-    let mut shelf = shelf_of(alloc, files_with(alloc, &EXAMPLE)?)?;
-    let mut out = MemorySink::make(alloc, 4096, Some(6))?;
-    let mut deaf = MemorySink::make(alloc, 0, None)?;
-    let outcome = run(alloc, &line, &mut shelf, &mut out, &mut deaf);
-    assert_eq!(rt; outcome.status(), 5);
-    assert_eq!(rt; out.taken(), b"valid ".as_slice());
-    assert_eq!(rt; deaf.taken(), b"".as_slice());
-    let outputs = [Some(DISPARITIES), Some(HEIGHTS), Some(REPORT)];
-    assert_held(&rt, alloc, &mut shelf, outputs, "the summary")
 }
