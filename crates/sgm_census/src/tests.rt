@@ -3,8 +3,7 @@ ghost use Rattle.std.specs.Prelude.{◌≡◌, IfOk};
 use super::{CodePlane, Window, codes, cost_row};
 use crate::code_plane::CodeRow;
 use sgm_base::{Plane, Size, Span};
-use std::alloc::{AllocError, Global};
-use std::process::Abort;
+use std::alloc::Global;
 use std::test::Fail;
 
 const LEFT: [u16; 5] = [90, 10, 50, 20, 40];
@@ -163,84 +162,5 @@ fn a_window_wider_than_high(rt: HostRuntime) -> Result<(), Fail> {
     let row = row_of(&plane, 1)?;
     assert!(rt; row.words == [0, 0, 0b10001_0110_00100, 0, 0].as_slice());
     assert!(rt; row.present == [false, false, true, false, false].as_slice());
-    Ok(())
-}
-
-/// The code of the pixel (x, y) by the definition: neighbour by neighbour, row by row.
-fn plain_code(
-    entries: &[Option<u16>],
-    width: usize,
-    window: Window,
-    x: usize,
-    y: usize,
-) -> Option<u64> {
-    let (wide, high) = (window.width as usize, window.height as usize);
-    let centre = (*entries.get(y.wrapping_mul(width).wrapping_add(x))?)?;
-    let mut code = 0u64;
-    for j in 0..high {
-        for i in 0..wide {
-            let column = x.wrapping_add(i).checked_sub(wide / 2)?;
-            let row = y.wrapping_add(j).checked_sub(high / 2)?;
-            if width <= column {
-                return None;
-            }
-            let value = (*entries.get(row.wrapping_mul(width).wrapping_add(column))?)?;
-            if i != wide / 2 || j != high / 2 {
-                code = code.wrapping_mul(2) | u64::from(value < centre);
-            }
-        }
-    }
-    Some(code)
-}
-
-/// Many equal values, and here and there a void.
-fn noise(alloc: Global, len: usize) -> Result<Vec<Option<u16>>, AllocError> {
-    let mut entries = Vec::with_capacity(alloc, len)?;
-    let mut state = 1u32;
-    for _ in 0..len {
-        state = state.wrapping_mul(1_664_525).wrapping_add(1_013_904_223);
-        let value = (state >> 29) as u16;
-        entries.push(if (state >> 16) % 97 == 0 {
-            None
-        } else {
-            Some(value)
-        })?;
-    }
-    Ok(entries)
-}
-
-/// Compares the codes of a plane of such sides with those by plain loops.
-fn compare(
-    rt: &(impl AllocGlobal + Abort),
-    sides: (u32, u32),
-    window: (u32, u32),
-) -> Result<(), Fail> {
-    let size = Size::make(sides.0, sides.1).ok_or("size")?;
-    let entries = noise(rt.alloc(), size.pixels())?;
-    let plane = codes_of(rt.alloc(), sides, &entries, window)?;
-    let window = plane.window();
-    for y in 0..sides.1 {
-        let row = row_of(&plane, y)?;
-        for (place, (word, is_there)) in row.words.iter().zip(row.present).enumerate() {
-            let x = (sides.0 as usize).wrapping_sub(place).wrapping_sub(1);
-            let code = if *is_there { Some(*word) } else { None };
-            let want = plain_code(&entries, sides.0 as usize, window, x, y as usize);
-            assert!(rt; code == want, "({x}, {y}) of {sides:?}");
-        }
-    }
-    Ok(())
-}
-
-/// Odd widths, and sides that the window just fits.
-#[test]
-fn codes_as_by_plain_loops(rt: HostRuntime) -> Result<(), Fail> {
-    for (sides, window) in [
-        ((37, 9), (9, 7)),
-        ((131, 6), (3, 5)),
-        ((9, 7), (9, 7)),
-        ((7, 20), (7, 3)),
-    ] {
-        compare(&rt, sides, window)?;
-    }
     Ok(())
 }

@@ -121,6 +121,32 @@ fn value_at(
     Ok(*plane.entries().get(at).ok_or("pixel")?)
 }
 
+/// A pixel, how far it is moved, in 1/256 of a pixel to the right and downwards, and its value.
+type Row = ((u32, u32), i64, i64, Option<u16>);
+
+/// That the pixels of the image have these values.
+fn assert_values(rt: &impl Abort, alloc: Global, image: &Image, table: &[Row]) -> Result<(), Fail> {
+    for (pixel, u, v, want) in table {
+        let value = value_at(rt, alloc, image, &shift(*u, *v), *pixel)?;
+        assert_eq!(rt; value, *want, "{pixel:?} {u} {v}");
+    }
+    Ok(())
+}
+
+/// The place of a pixel of such sides by a mesh.
+fn place_by_mesh(
+    rt: &impl Abort,
+    alloc: Global,
+    mesh: (u32, u32, u32, &[(i32, i32)]),
+    sides: (u32, u32),
+    pixel: (u32, u32),
+) -> Result<(i64, i64), Fail> {
+    let size = size_of(sides.0, sides.1)?;
+    let (step, cols, rows, places) = mesh;
+    let warp = mesh_of(alloc, step, cols, rows, places)?;
+    Ok(place_in(rt, &warp, size, pixel))
+}
+
 /// Writes a row of an image by a warp.
 fn write_row(rt: &impl Abort, image: &Image, warp: &Warp, y: u32, into: &mut [Option<u16>]) {
     assert!(rt; suits(warp, image.size()));
@@ -164,9 +190,8 @@ fn greatest_places(rt: HostRuntime) -> Result<(), Fail> {
 #[test]
 fn identity_keeps_places(rt: HostRuntime) -> Result<(), Fail> {
     let size = size_of(5, 3)?;
-    for (pixel, place) in [((0, 0), (0, 0)), ((4, 0), (1024, 0)), ((1, 2), (256, 512))] {
-        assert_eq!(rt; place_in(&rt, &Warp::Identity, size, pixel), place);
-    }
+    assert_eq!(rt; Warp::Identity.check(size), Ok(()));
+    assert_eq!(rt; place_in(&rt, &Warp::Identity, size, (1, 2)), (256, 512));
     Ok(())
 }
 
@@ -174,22 +199,15 @@ fn identity_keeps_places(rt: HostRuntime) -> Result<(), Fail> {
 fn places_of_meshes(rt: HostRuntime) -> Result<(), Fail> {
     let alloc = rt.alloc();
     let nodes = [(0, 0), (511, 0), (0, 512), (511, 512)];
-    let row = mesh_of(alloc, 2, 2, 2, nodes.as_slice())?;
-    assert_eq!(rt; place_in(&rt, &row, size_of(2, 1)?, (1, 0)), (255, 0));
+    let row = (2, 2, 2, nodes.as_slice());
+    assert_eq!(rt; place_by_mesh(&rt, alloc, row, (2, 1), (1, 0))?, (255, 0));
     let nodes = [(-1, 0), (0, 0), (0, 0), (0, -5)];
-    let low = mesh_of(alloc, 2, 2, 2, nodes.as_slice())?;
-    assert_eq!(rt; place_in(&rt, &low, size_of(2, 2)?, (1, 1)), (-1, -2));
+    let low = (2, 2, 2, nodes.as_slice());
+    assert_eq!(rt; place_by_mesh(&rt, alloc, low, (2, 2), (1, 1))?, (-1, -2));
     let nodes = [(0, 0), (300, 3), (600, 6), (9, 300), (309, 303), (609, 306)];
-    let wide = mesh_of(alloc, 3, 3, 2, nodes.as_slice())?;
-    for (pixel, place) in [
-        ((0, 0), (0, 0)),
-        ((1, 0), (100, 1)),
-        ((0, 1), (3, 100)),
-        ((3, 0), (300, 3)),
-        ((2, 2), (206, 202)),
-        ((4, 1), (403, 104)),
-    ] {
-        assert_eq!(rt; place_in(&rt, &wide, size_of(5, 3)?, pixel), place);
+    let wide = (3, 3, 2, nodes.as_slice());
+    for (pixel, place) in [((1, 0), (100, 1)), ((0, 1), (3, 100)), ((4, 1), (403, 104))] {
+        assert_eq!(rt; place_by_mesh(&rt, alloc, wide, (5, 3), pixel)?, place);
     }
     Ok(())
 }
@@ -198,17 +216,11 @@ fn places_of_meshes(rt: HostRuntime) -> Result<(), Fail> {
 fn first_corner_without_a_positive_denominator(rt: HostRuntime) -> Result<(), Fail> {
     let size = size_of(5, 3)?;
     for (line, corner) in [
-        ([1, 1, 0], Some(0)),
-        ([-1, 1, 4], Some(1)),
+        ([0, 0, 0], Some(0)),
+        ([-1, 0, 4], Some(1)),
         ([1, -1, 2], Some(2)),
         ([-1, -1, 6], Some(3)),
-        ([-1, 0, 4], Some(1)),
-        ([0, -1, 1], Some(2)),
-        ([0, 0, -1], Some(0)),
-        ([0, 0, 0], Some(0)),
         ([-1, -1, 7], None),
-        ([-1, 0, 5], None),
-        ([0, 0, 1], None),
     ] {
         let [a, b, c] = line;
         let warp = Warp::Projective([1, 0, 0, 0, 1, 0, a, b, c]);
@@ -258,80 +270,33 @@ fn counts_of_meshes(rt: HostRuntime) -> Result<(), Fail> {
 }
 
 #[test]
-fn identity_fits_every_size(rt: HostRuntime) -> Result<(), Fail> {
-    for (width, height) in [(1, 1), (5, 3), (4096, 4096)] {
-        assert_eq!(rt; Warp::Identity.check(size_of(width, height)?), Ok(()));
-    }
-    Ok(())
-}
-
-#[test]
 fn values_between_two_samples(rt: HostRuntime) -> Result<(), Fail> {
     let image = image_of(rt.alloc(), size_of(2, 1)?, &[0, 255])?;
-    for (u, v, want) in [
-        (0, 0, Some(0)),
-        (1, 0, Some(1)),
-        (128, 0, Some(128)),
-        (255, 0, Some(254)),
-        (256, 0, Some(255)),
-        (257, 0, None),
-        (-1, 0, None),
-        (0, 1, None),
-        (0, -1, None),
-        (256, 1, None),
-    ] {
-        assert_eq!(rt;
-            value_at(&rt, rt.alloc(), &image, &shift(u, v), (0, 0))?,
-            want,
-            "{u} {v}"
-        );
-    }
-    Ok(())
+    let table = [
+        ((0, 0), 1, 0, Some(1)),
+        ((0, 0), 128, 0, Some(128)),
+        ((0, 0), 256, 0, Some(255)),
+        ((0, 0), 257, 0, None),
+        ((0, 0), -1, 0, None),
+    ];
+    assert_values(&rt, rt.alloc(), &image, &table)
 }
 
 #[test]
 fn values_inside_and_outside(rt: HostRuntime) -> Result<(), Fail> {
     let image = image_of(rt.alloc(), size_of(3, 2)?, &[10, 20, 30, 40, 50, 60])?;
-    for (pixel, u, v, want) in [
-        ((0, 0), 0, 0, Some(10)),
-        ((2, 1), 0, 0, Some(60)),
-        ((0, 0), 1, 0, Some(10)),
-        ((0, 0), 128, 0, Some(15)),
-        ((0, 0), 255, 0, Some(20)),
-        ((0, 0), 0, 1, Some(10)),
-        ((0, 0), 0, 128, Some(25)),
-        ((0, 0), 0, 255, Some(40)),
+    let table = [
         ((0, 0), 128, 128, Some(30)),
-        ((0, 0), 1, 1, Some(10)),
         ((1, 0), 64, 192, Some(45)),
         ((2, 0), 1, 0, None),
         ((2, 0), 0, 128, Some(45)),
         ((2, 1), 0, 1, None),
-        ((0, 0), -1, 0, None),
-        ((0, 0), 0, -1, None),
-        ((1, 0), -255, 0, Some(10)),
         ((1, 0), -256, 0, Some(10)),
-        ((1, 0), -257, 0, None),
-        ((0, 1), 0, -255, Some(10)),
-        ((0, 1), 0, -256, Some(10)),
         ((0, 1), 0, -257, None),
-        ((0, 0), 511, 0, Some(30)),
-        ((0, 0), 512, 0, Some(30)),
-        ((0, 0), 513, 0, None),
         ((0, 0), 512, 256, Some(60)),
-        ((0, 0), 512, 257, None),
-        ((0, 0), 768, 0, None),
-        ((0, 0), 0, 512, None),
         ((0, 0), MAX_ENTRY, 0, None),
-        ((0, 0), 0, MIN_ENTRY, None),
-    ] {
-        assert_eq!(rt;
-            value_at(&rt, rt.alloc(), &image, &shift(u, v), pixel)?,
-            want,
-            "{pixel:?} {u} {v}"
-        );
-    }
-    Ok(())
+    ];
+    assert_values(&rt, rt.alloc(), &image, &table)
 }
 
 #[test]
@@ -347,7 +312,7 @@ fn greatest_values(rt: HostRuntime) -> Result<(), Fail> {
 }
 
 #[test]
-fn rectified_images(rt: HostRuntime) -> Result<(), Fail> {
+fn a_row_moved_by_one_column(rt: HostRuntime) -> Result<(), Fail> {
     let alloc = rt.alloc();
     let image = image_of(alloc, size_of(5, 1)?, &[90, 10, 50, 20, 40])?;
     let moved = Warp::Projective([1, 0, 1, 0, 1, 0, 0, 0, 1]);
@@ -355,11 +320,7 @@ fn rectified_images(rt: HostRuntime) -> Result<(), Fail> {
     let plane = rectify(alloc, &image, &moved)?;
     let want = [Some(10), Some(50), Some(20), Some(40), None];
     assert_eq!(rt; plane.entries(), want.as_slice());
-    assert!(rt; suits(&Warp::Identity, image.size()));
-    let plane = rectify(alloc, &image, &Warp::Identity)?;
-    let want = [Some(90), Some(10), Some(50), Some(20), Some(40)];
-    assert_eq!(rt; plane.entries(), want.as_slice());
-    assert_eq!(rt; plane.size(), size_of(5, 1)?);
+    assert_eq!(rt; plane.size(), image.size());
     Ok(())
 }
 
@@ -395,15 +356,6 @@ fn rows_one_by_one(rt: HostRuntime) -> Result<(), Fail> {
     assert_eq!(rt; row, [Some(45), Some(55), None]);
     write_row(&rt, &image, &Warp::Identity, 1, &mut row);
     assert_eq!(rt; row, [Some(40), Some(50), Some(60)]);
-    Ok(())
-}
-
-#[test]
-fn nodes_are_given_back(rt: HostRuntime) -> Result<(), Fail> {
-    let places = [(1, -2), (3, 4)].to_vec(rt.alloc())?;
-    let nodes = Nodes::make(places);
-    assert_eq!(rt; nodes.as_slice(), [(1, -2), (3, 4)].as_slice());
-    assert_eq!(rt; nodes.into_vec().as_slice(), [(1, -2), (3, 4)].as_slice());
     Ok(())
 }
 

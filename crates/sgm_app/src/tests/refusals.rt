@@ -39,16 +39,7 @@ fn words_and_absent_files_end_a_run(rt: HostRuntime) -> Result<(), Fail> {
     let err = "sgm: word 1 is also an output\n";
     assert_refused(&rt, alloc, example(alloc)?, "match o.pgm b - o", 2, err)?;
     let err = "sgm: cannot read left\n";
-    assert_refused(&rt, alloc, example(alloc)?, "match none none - o", 4, err)?;
-    let err = "sgm: cannot read calibration\n";
-    assert_refused(
-        &rt,
-        alloc,
-        example(alloc)?,
-        "match l.pgm r.pgm none o",
-        4,
-        err,
-    )
+    assert_refused(&rt, alloc, example(alloc)?, "match none none - o", 4, err)
 }
 
 #[test]
@@ -60,15 +51,6 @@ fn images_are_judged_before_the_calibration(rt: HostRuntime) -> Result<(), Fail>
         alloc,
         example(alloc)?,
         "match c.json c.json l.pgm o",
-        3,
-        err,
-    )?;
-    let err = "sgm: right: not a binary PGM\n";
-    assert_refused(
-        &rt,
-        alloc,
-        example(alloc)?,
-        "match l.pgm c.json l.pgm o",
         3,
         err,
     )?;

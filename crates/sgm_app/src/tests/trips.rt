@@ -10,9 +10,7 @@ use std::test::Fail;
 #[derive(Clone, Copy)]
 pub enum Call {
     Fetch,
-    Create,
     AppendAt(usize),
-    Finish,
 }
 
 /// The trips that fail these calls of these names.
@@ -22,9 +20,7 @@ pub fn trips_of(alloc: Global, calls: &[(&str, Call)]) -> Result<Vec<Trip>, Allo
         let name = String::from_str(alloc, name)?;
         trips.push(match *call {
             Call::Fetch => Trip::Fetch { name },
-            Call::Create => Trip::Create { name },
             Call::AppendAt(length) => Trip::AppendAt { name, length },
-            Call::Finish => Trip::Finish { name },
         })?;
     }
     Ok(trips)
