@@ -5,7 +5,7 @@
 
 Makes pairs of three sizes, runs the program on each with 64 and, for the two larger sizes, 128
 disparities, and prints a Markdown table: the least seconds of some runs, cells a second (width *
-height * disparities / seconds) and the greatest memory that a run held. The program's seconds are
+height * disparities / seconds), the greatest memory that a run held and the least processor seconds. The program's seconds are
 those of the whole run, with reading and writing files. Where `import cv2` works (Debian:
 python3-opencv, for /usr/bin/python3), StereoSGBM with all eight directions (MODE_HH) and one thread
 matches the same pairs in the same run; its seconds are those of the matching alone. The program is
@@ -30,7 +30,7 @@ CRATE = os.path.realpath(os.path.join(HERE, "..", "crates", "sgm_cli"))
 GATE, BETTER = "x86-64-v2", "x86-64-v3"
 NEEDED = set("avx avx2 bmi1 bmi2 f16c fma abm movbe".split())
 # What the launcher sets, so that programs that are started without it are measured alike.
-TUNABLES = "glibc.malloc.hugetlb=1"
+TUNABLES = "glibc.malloc.hugetlb=1:glibc.malloc.mmap_threshold=1073741824"
 CASES = [(640, 480, 64), (1280, 720, 64), (1280, 720, 128), (1920, 1080, 64), (1920, 1080, 128)]
 DEEPEST = 60
 OPENCV = """
@@ -86,7 +86,7 @@ def write_calibration(folder, count):
 
 
 def measured(command):
-    """Seconds, greatest memory in megabytes and standard output of a run that has to succeed."""
+    """Seconds, greatest memory in megabytes, standard output and processor seconds of a run that has to succeed."""
     start = time.perf_counter()
     process = subprocess.Popen(command, stdout=subprocess.PIPE)
     said = process.stdout.read().decode()
@@ -95,7 +95,7 @@ def measured(command):
     process.returncode = os.waitstatus_to_exitcode(status)
     if process.returncode:
         sys.exit(f"bench: {' '.join(command)} ended with {process.returncode}")
-    return seconds, usage.ru_maxrss * 1024 / 1e6, said
+    return seconds, usage.ru_maxrss * 1024 / 1e6, said, usage.ru_utime + usage.ru_stime
 
 
 def python_with_opencv():
@@ -198,8 +198,8 @@ def beside(python, pair, count, runs):
     if python is None:
         return []
     made = [measured([python, "-c", OPENCV, *pair, str(count)]) for _ in range(runs)]
-    seconds, busy = (min(float(said.split()[at]) for _, _, said in made) for at in (0, 1))
-    return [seconds, max(memory for _, memory, _ in made), busy]
+    seconds, busy = (min(float(said.split()[at]) for _, _, said, _ in made) for at in (0, 1))
+    return [seconds, max(memory for _, memory, _, _ in made), busy]
 
 
 def splits(words):
@@ -210,8 +210,9 @@ def splits(words):
 
 
 def heads(words, has_opencv):
-    made = ["Size", "Disparities", "Strips, workers", "Seconds", "Million cells/s", "Memory, MB"]
-    made += ["OpenCV, seconds", "OpenCV, MB", "Seconds / OpenCV's"] if has_opencv else []
+    made = ["Size", "Disparities", "Strips, workers", "Seconds", "Million cells/s", "Memory, MB", "Processor, seconds"]
+    if has_opencv:
+        made += ["OpenCV, seconds", "OpenCV, MB", "OpenCV, processor", "Seconds / OpenCV's", "Processor / OpenCV's"]
     return ["Build", *made] if words.builds else made
 
 
@@ -224,11 +225,12 @@ def measure(words, cases, programs, python, folder):
             for strips, workers in splits(words):
                 command = [program, "match", *pair, calibration, out, f"strips={strips}", f"workers={workers}"]
                 runs = [measured(command) for _ in range(words.runs)]
-                seconds, memory = min(run[0] for run in runs), max(run[1] for run in runs)
+                seconds, memory, busy = min(run[0] for run in runs), max(run[1] for run in runs), min(run[3] for run in runs)
                 cells = [f"{width} x {height}", str(count), f"{strips}, {workers}", f"{seconds:.2f}"]
-                cells += [f"{width * height * count / seconds / 1e6:.1f}", f"{memory:.0f}"]
+                cells += [f"{width * height * count / seconds / 1e6:.1f}", f"{memory:.0f}", f"{busy:.2f}"]
                 if opencv:
-                    cells += [f"{opencv[0]:.2f}", f"{opencv[1]:.0f}", f"{seconds / opencv[0]:.2f}"]
+                    cells += [f"{opencv[0]:.2f}", f"{opencv[1]:.0f}", f"{opencv[2]:.2f}"]
+                    cells += [f"{seconds / opencv[0]:.2f}", f"{busy / opencv[2]:.2f}"]
                 row(*([build_name] if words.builds else []), *cells)
                 yield f"{width} x {height}, {count} disparities, {strips}, {workers}, {build_name}", command, opencv
 

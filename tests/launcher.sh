@@ -9,6 +9,8 @@ set -u
 . "$(dirname "$0")/common.sh"
 passed=0 failed=0
 unset GLIBC_TUNABLES CDPATH
+# What the launcher sets.
+tunables=glibc.malloc.hugetlb=1:glibc.malloc.mmap_threshold=1073741824
 # The commands that the launcher uses, and git where it is there: a folder without another rt.
 plain=$work/commands
 mkdir "$plain"
@@ -103,13 +105,13 @@ begin build
 started match 'a b' '' $'c\nd' '*'
 is status "$status" 7
 is "the program's words" "$out" "[match][a b][][c
-d][*] in $repository with glibc.malloc.hugetlb=1"
+d][*] in $repository with $tunables"
 has_line "standard error" "$err" "sgm: first build: this proves every crate, about 1 to 1 minutes;"
 is "how rt was called" "$(sed 's/ --cpu x86-64-v3//' calls)" "in $repository/crates/sgm_cli: run -- demo 0"
 started
 is "status without words" "$status" 7
 is "standard error of a later start" "$err" ""
-is "the program without words" "$out" "[] in $repository with glibc.malloc.hugetlb=1"
+is "the program without words" "$out" "[] in $repository with $tunables"
 is "builds" "$(calls)" 1
 
 # One source after the other becomes newer than the program.
@@ -122,7 +124,7 @@ for source in crates/sgm_cli/src/main.rt crates/low/src/lib.rt crates/low/specs/
     count=$((count + 1))
     is "builds after a change of $source" "$(calls)" $count
     has_line "standard error" "$err" "sgm: a source is newer than the program: proving and building what has changed"
-    is "the program's words" "$out" "[demo][1] in $repository with glibc.malloc.hugetlb=1"
+    is "the program's words" "$out" "[demo][1] in $repository with $tunables"
 done
 age
 touch crates/sgm_cli/out/sgm_cli
@@ -166,28 +168,30 @@ is "standard output" "$out" ""
 begin "a folder with spaces"
 started demo 0
 is "status" "$status" 7
-is "the program's words" "$out" "[demo][0] in $repository with glibc.malloc.hugetlb=1"
+is "the program's words" "$out" "[demo][0] in $repository with $tunables"
 mkdir -p "$work/links/else where"
 ln -s "$repository/sgm" "$work/links/one"
 ln -s ../one "$work/links/else where/two"
 cd "$work/links/else where" || exit 1
 for launcher in "$work/links/one" "./two" "../one"; do
     started demo 2
-    is "what $launcher starts" "$out" "[demo][2] in $PWD with glibc.malloc.hugetlb=1"
+    is "what $launcher starts" "$out" "[demo][2] in $PWD with $tunables"
 done
 PATH="$work/links:$path" one demo 3 >"$work/out"
-is "what one on the PATH starts" "$(cat "$work/out")" "[demo][3] in $PWD with glibc.malloc.hugetlb=1"
+is "what one on the PATH starts" "$(cat "$work/out")" "[demo][3] in $PWD with $tunables"
 unset launcher
 is "builds" "$(calls)" 1
 
 begin tunables
 started demo 0
 for pair in "" glibc.malloc.arena_max=1 glibc.malloc.hugetlb=0 glibc.malloc.hugetlb=2 \
-    glibc.malloc.check=3:glibc.malloc.hugetlb=0 glibc.malloc.hugetlb=0:glibc.malloc.check=3; do
+    glibc.malloc.check=3:glibc.malloc.hugetlb=0 glibc.malloc.hugetlb=0:glibc.malloc.check=3 \
+    glibc.malloc.mmap_threshold=4096; do
     case $pair in
-    "") wanted=glibc.malloc.hugetlb=1 ;;
+    "") wanted=$tunables ;;
     *hugetlb*) wanted=$pair ;;
-    *) wanted=$pair:glibc.malloc.hugetlb=1 ;;
+    *mmap_threshold*) wanted=$pair:glibc.malloc.hugetlb=1 ;;
+    *) wanted=$pair:$tunables ;;
     esac
     GLIBC_TUNABLES=$pair started demo 0
     is "with '$pair'" "$out" "[demo][0] in $repository with $wanted"
@@ -203,7 +207,7 @@ is "the program's fault" $? 0
 is "the mode of what stands in its place" "$(head -n 1 crates/sgm_cli/out/streams)" 0
 PATH=$path ./sgm demo 0 2>&- >"$work/out"
 is "standard output beside a closed standard error" "$(cat "$work/out")" \
-    "[demo][0] in $repository with glibc.malloc.hugetlb=1"
+    "[demo][0] in $repository with $tunables"
 is "the modes of both streams" "$(tr '\n' ' ' <crates/sgm_cli/out/streams)" "1 0 "
 
 echo "launcher: $passed passed, $failed failed"

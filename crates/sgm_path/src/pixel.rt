@@ -14,7 +14,8 @@ fn follow(prev: &[u16], costs: &[u8], p1: u16, far: u16, into: &mut [u16])
     requires penalties { (p1 ≤ far) × (far ≤ MAX_PENALTY) }
     requires values { All (λ v. v ≤ MAX_PATH_VALUE) prev.now }
     requires costs { All (λ c. c ≤ MAX_COST) costs.now }
-    ensures each { EachIndex into.new (λ d. Follows (slice_index prev.now) (length prev.now) p1 far (slice_index costs.now d) d (slice_index into.new d)) }
+    ensures each { EachIndex into.new
+        (λ d. Follows (slice_index prev.now) (length prev.now) p1 far (slice_index costs.now d) d (slice_index into.new d)) }
     ensures bound { All (λ v. v ≤ MAX_PATH_VALUE) into.new }
 {
     step(prev, least(prev), costs, p1, far, into);
@@ -46,7 +47,8 @@ pub(crate) fn from_left(costs: &[u8], count: usize, p1: u16, far: u16, at: usize
     requires costs { All (λ c. c ≤ MAX_COST) costs.now }
     requires values { (k : ℕ) → k < at → slice_index into.old k ≤ MAX_PATH_VALUE }
     ensures others { (k : ℕ) → (k < at) ⊎ (at + count ≤ k) → slice_index into.new k ≡ slice_index into.old k }
-    ensures each { (d : ℕ) → d < count → Follows (λ a. slice_index into.old (at - count + a)) count p1 far (slice_index costs.now (at + d)) d (slice_index into.new (at + d)) }
+    ensures each { (d : ℕ) → d < count
+        → Follows (λ a. slice_index into.old (at - count + a)) count p1 far (slice_index costs.now (at + d)) d (slice_index into.new (at + d)) }
     ensures bound { (d : ℕ) → d < count → slice_index into.new (at + d) ≤ MAX_PATH_VALUE }
 {
     let (done, rest) = into.split_at_mut(at);
@@ -64,7 +66,8 @@ pub(crate) fn from_right(costs: &[u8], count: usize, p1: u16, far: u16, at: usiz
     requires costs { All (λ c. c ≤ MAX_COST) costs.now }
     requires values { (k : ℕ) → at + count ≤ k → k < length into.old → slice_index into.old k ≤ MAX_PATH_VALUE }
     ensures others { (k : ℕ) → (k < at) ⊎ (at + count ≤ k) → slice_index into.new k ≡ slice_index into.old k }
-    ensures each { (d : ℕ) → d < count → Follows (λ a. slice_index into.old (at + count + a)) count p1 far (slice_index costs.now (at + d)) d (slice_index into.new (at + d)) }
+    ensures each { (d : ℕ) → d < count
+        → Follows (λ a. slice_index into.old (at + count + a)) count p1 far (slice_index costs.now (at + d)) d (slice_index into.new (at + d)) }
     ensures bound { (d : ℕ) → d < count → slice_index into.new (at + d) ≤ MAX_PATH_VALUE }
 {
     let (front, done) = into.split_at_mut(at + count);
@@ -82,7 +85,8 @@ pub(crate) fn from_other(prev: &[u16], costs: &[u8], p1: u16, far: u16, at: usiz
     requires costs { All (λ c. c ≤ MAX_COST) costs.now }
     requires values { All (λ v. v ≤ MAX_PATH_VALUE) prev.now }
     ensures others { (k : ℕ) → (k < at) ⊎ (at + length prev.now ≤ k) → slice_index into.new k ≡ slice_index into.old k }
-    ensures each { (d : ℕ) → d < length prev.now → Follows (slice_index prev.now) (length prev.now) p1 far (slice_index costs.now (at + d)) d (slice_index into.new (at + d)) }
+    ensures each { (d : ℕ) → d < length prev.now
+        → Follows (slice_index prev.now) (length prev.now) p1 far (slice_index costs.now (at + d)) d (slice_index into.new (at + d)) }
     ensures bound { (d : ℕ) → d < length prev.now → slice_index into.new (at + d) ≤ MAX_PATH_VALUE }
 {
     let (_, rest) = into.split_at_mut(at);

@@ -136,12 +136,15 @@ pub fn step_row(
     requires costs { All (λ c. c ≤ MAX_COST) costs.now }
     requires values { IfSome before (λ b. All (λ v. v ≤ MAX_PATH_VALUE) b.now) }
     ensures bound { All (λ v. v ≤ MAX_PATH_VALUE) into.new }
-    ensures costs_alone { IfNone before.entry (EachIndex into.new (λ k. slice_index into.new k ≡ slice_index costs.now k)) }
-    ensures each { IfSome before.entry (λ b. RowFollows dir count (p1_of pen) (λ _ _. p2_of pen) b.now costs.now into.new) }
+    ensures costs_alone { IfNone before.entry
+        (EachIndex into.new (λ k. slice_index into.new k ≡ slice_index costs.now k)) }
+    ensures each { IfSome before.entry
+        (λ b. RowFollows dir count (p1_of pen) (λ _ _. p2_of pen) b.now costs.now into.new) }
     // Whatever row of whatever problem the costs belong to, path values of the row before give its
     // path values.
     ensures paths { (g : Problem) (y : ℕ) → Suits g y (p1_of pen) count costs.now
-        → MatchOption before.entry (row_before dir g.height y ≡ None) (λ b. HoldsRowBefore g dir y (λ _ _. p2_of pen) b.now)
+        → MatchOption before.entry (row_before dir g.height y ≡ None)
+        (λ b. HoldsRowBefore g dir y (λ _ _. p2_of pen) b.now)
         → HoldsRow g y (path_value g dir) into.new }
 {
     match before {
@@ -170,12 +173,15 @@ pub fn add_step_row(
     requires values { IfSome before (λ b. All (λ v. v ≤ MAX_PATH_VALUE) b.now) }
     requires room { EachIndex sums.old (λ k. slice_index sums.old k + MAX_PATH_VALUE < 2 ^ 16) }
     ensures bound { All (λ v. v ≤ MAX_PATH_VALUE) into.new }
-    ensures costs_alone { IfNone before.entry (EachIndex into.new (λ k. slice_index into.new k ≡ slice_index costs.now k)) }
-    ensures each { IfSome before.entry (λ b. RowFollows dir count (p1_of pen) (λ _ _. p2_of pen) b.now costs.now into.new) }
+    ensures costs_alone { IfNone before.entry
+        (EachIndex into.new (λ k. slice_index into.new k ≡ slice_index costs.now k)) }
+    ensures each { IfSome before.entry
+        (λ b. RowFollows dir count (p1_of pen) (λ _ _. p2_of pen) b.now costs.now into.new) }
     ensures added { EachIndex sums.new (λ k. slice_index sums.new k ≡ slice_index sums.old k + slice_index into.new k) }
     // As `step_row`'s.
     ensures paths { (g : Problem) (y : ℕ) → Suits g y (p1_of pen) count costs.now
-        → MatchOption before.entry (row_before dir g.height y ≡ None) (λ b. HoldsRowBefore g dir y (λ _ _. p2_of pen) b.now)
+        → MatchOption before.entry (row_before dir g.height y ≡ None)
+        (λ b. HoldsRowBefore g dir y (λ _ _. p2_of pen) b.now)
         → HoldsRow g y (path_value g dir) into.new }
 {
     match before {

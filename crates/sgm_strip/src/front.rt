@@ -31,7 +31,8 @@ impl Model for Front {
 
     ghost view = { λ f. front_parts f.scene.value f.cut f.dir f.row.items f.visits.items };
 
-    ghost invariant = { λ f. IsFront (front_parts f.scene.value f.cut f.dir f.row.items f.visits.items) × (f.cut.strips ≤ vec_capacity f.visits) };
+    ghost invariant = { λ f. IsFront (front_parts f.scene.value f.cut f.dir f.row.items f.visits.items)
+        × (f.cut.strips ≤ vec_capacity f.visits) };
 }
 
 impl Front {
