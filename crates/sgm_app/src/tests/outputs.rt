@@ -1,9 +1,7 @@
 //! What a match writes.
 
 use super::ended::{assert_ended, assert_held, end_on, shelf_of};
-use super::fixtures::{
-    DISPARITIES, HEIGHTS, REPORT, SUMMARY, example, file, files_with, words_of,
-};
+use super::fixtures::{DISPARITIES, HEIGHTS, REPORT, SUMMARY, example, file, files_with, words_of};
 use crate::run;
 use sgm_example::{CALIBRATION, CAMERA, END, GRID, LEFT, SETTINGS};
 use sgm_io::{MemorySink, SureShelf};
