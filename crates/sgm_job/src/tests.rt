@@ -4,9 +4,7 @@
 ghost use Rattle.std.specs.Prelude.{◌≤◌};
 ghost use Rattle.sgm_base.specs.declared.limits.TheConstants.{MAX_STRIPS};
 
-use crate::fixtures::{
-    LEFT, RIGHT, calib, even_image, image, image_of_rows, map_of, span,
-};
+use crate::fixtures::{LEFT, RIGHT, calib, even_image, image, image_of_rows, map_of, span};
 use crate::{SurveyError, SurveyFault, Surveyed, survey};
 use sgm_base::{Image, Side, Size};
 use sgm_calib::Calib;

@@ -1,9 +1,7 @@
 //! What a match writes.
 
 use super::ended::{assert_ended, assert_held, end_on, shelf_of};
-use super::fixtures::{
-    DISPARITIES, HEIGHTS, REPORT, SUMMARY, example, file, files_with,
-};
+use super::fixtures::{DISPARITIES, HEIGHTS, REPORT, SUMMARY, example, file, files_with};
 use sgm_example::{CAMERA, END, GRID, LEFT, SETTINGS};
 use std::test::Fail;
 

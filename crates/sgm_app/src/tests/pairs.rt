@@ -2,9 +2,9 @@
 
 use super::ended::{assert_ended, assert_held, end_on, held, shelf_of};
 use super::fixtures::files_with;
-use sgm_example::{CAMERA, END, GRID, REGIONS};
 use crate::pair;
 use sgm_base::{Image, Size};
+use sgm_example::{CAMERA, END, GRID, REGIONS};
 use std::alloc::{AllocError, Global};
 use std::process::Abort;
 use std::test::Fail;
