@@ -2,6 +2,7 @@
 use Rattle.std.specs.Prelude.{◌≡◌, ℕ, ◌+◌, ◌*◌, ◌<◌, Bool, false, List, slice_index, slice_set, Some, None}
 use mathlib.Core.Option as maybe
 use mathlib.Core.Option.{some}
+use lib.ListN.{get_elem?}
 use Rattle.atomic_table.specs.Table.{State}
 use Rattle.sgm_energy.specs.declared.dir.Dir.{Dir}
 use Rattle.sgm_energy.specs.Dirs.{is_level, position_of}
@@ -21,6 +22,14 @@ use Rattle.sgm_board.specs.declared.slot.Slot.TheVariants.{OfStrip, OfFront}
 -- what a word was
 abbrev pub found : State Slot View → ℕ → ℕ
 found s word = slice_index s.words word
+
+-- the pass at this place knows v
+abbrev pub IsAt : State Slot View → ℕ → View → Type 0
+IsAt s at v = get_elem? s.views at ≡ some v
+
+-- the pass at this place knows v now, and nothing else changed
+abbrev pub with_view : State Slot View → ℕ → View → State Slot View
+with_view s at v = record s { views = slice_set s.views at v }
 
 -- the word is now x, the slot of its number has this or is empty, and the pass at this place knows w
 abbrev pub after_step : State Slot View → ℕ → ℕ → ℕ → maybe.Option Slot → View → State Slot View

@@ -7,6 +7,7 @@ mod board;
 mod calls;
 mod close;
 mod deal;
+pub mod laws;
 mod pass;
 mod rule;
 mod slot;
