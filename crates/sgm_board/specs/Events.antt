@@ -40,21 +40,21 @@ pub data Makes (about : About) (m : Handover) (s : State Slot View) (at : ℕ) (
   -- the pass, which is live, holds no strip. A strip's word goes from 0 to 1, and its parcel comes out
   claims : (strip : ℕ) (done : List Bool) → IsLive v → v.strip ≡ None → strip < m.strips → found s (strip_word strip) ≡ 0
       → Makes about m s at v (Claim v.number strip)
-          (after_step s at (strip_word strip) 1 maybe.none (after_claim (after_look v (strip_word strip) (found s (strip_word strip))) strip done))
+      (after_step s at (strip_word strip) 1 maybe.none (after_claim (after_look v (strip_word strip) (found s (strip_word strip))) strip done))
   -- the pass holds a strip and has no front. The strip's word becomes 0, and its parcel goes in, with the directions done
   -- whose front has passed the strip
   returns : (strip : ℕ) (parcel : ParcelParts) → v.strip ≡ Some strip → v.front ≡ None → IsParcelAt about strip (has_passed m strip) parcel
       → Makes about m s at v (Return v.number)
-          (after_step s at (strip_word strip) 0 (some (OfStrip parcel)) (after_return (after_look v (strip_word strip) (found s (strip_word strip)))))
+      (after_step s at (strip_word strip) 0 (some (OfStrip parcel)) (after_return (after_look v (strip_word strip) (found s (strip_word strip)))))
   -- the pass holds a strip and has no front. A direction's word goes from twice the strip's position to 1 more, and its
   -- front comes out
   takes : (dir : Dir) (strip : ℕ) → is_level dir ≡ false → v.strip ≡ Some strip → v.front ≡ None
       → found s (dir_word dir) ≡ 2 * position_of dir strip m.strips
       → Makes about m s at v (Take v.number dir)
-          (after_step s at (dir_word dir) (2 * position_of dir strip m.strips + 1) maybe.none
-            (after_take (after_try (after_look v (dir_word dir) (found s (dir_word dir))) strip dir) dir))
+      (after_step s at (dir_word dir) (2 * position_of dir strip m.strips + 1) maybe.none
+      (after_take (after_try (after_look v (dir_word dir) (found s (dir_word dir))) strip dir) dir))
   -- the pass has a front. The direction's word goes on by 1, and the front goes in, with one visit more
   puts : (dir : Dir) (front : FrontParts) → v.front ≡ Some dir → IsFrontAt about dir (m.passed dir + 1) front
       → Makes about m s at v (Put v.number dir)
-          (after_step s at (dir_word dir) (found s (dir_word dir) + 1) (some (OfFront front))
-            (after_put (after_look v (dir_word dir) (found s (dir_word dir))) dir))
+      (after_step s at (dir_word dir) (found s (dir_word dir) + 1) (some (OfFront front))
+      (after_put (after_look v (dir_word dir) (found s (dir_word dir))) dir))

@@ -17,3 +17,6 @@ mod view;
 
 pub use board::Board;
 pub use pass::Pass;
+
+#[cfg(test)]
+mod tests;
