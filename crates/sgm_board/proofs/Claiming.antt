@@ -1,5 +1,5 @@
 -- A Claim is legal in the state that the board shows, and leads to the state after it.
-use Rattle.std.proofs.Common.{◌≡◌, ◌≢◌, ℕ, ◌+◌, ◌<◌, Bool, false, List, length, get_or, set, sym, refl, ap, ◌∙◌, ⊎_elim, arith, length-set, get_or-set_other, Some, None}
+use Rattle.std.proofs.Common.{◌≡◌, ◌≢◌, ℕ, ◌<◌, Bool, List, length, get_or, set, refl, ◌∙◌, ⊎_elim, arith, length-set, get_or-set_other, Some, None}
 use mathlib.Core.Option as maybe
 use mathlib.Core.Option.{some}
 use lib.ListN.{get_elem?}
@@ -21,7 +21,7 @@ use Rattle.sgm_board.proofs.Fronts.{fronts_stay}
 use Rattle.sgm_board.proofs.Due.{seen_set, due_same}
 use Rattle.sgm_board.proofs.Homes.{parcel_stays, front_stays}
 use Rattle.sgm_board.proofs.Dirs.{dir_word_lt}
-use Rattle.sgm_board.proofs.Looking.{moved, found_at, abouts_set, no_front}
+use Rattle.sgm_board.proofs.Looking.{moved, abouts_set, no_front}
 
 module _ (about : About) (made : ℕ) (s : State Slot View) (m : Handover) (sh : Shows about made s m) (id : ℕ) (v : View) (at : get_elem? s.views id ≡ some v) where
   pub claim_law : (t : ℕ) (done : List Bool) → IsLive v → v.strip ≡ None → t < m.strips → get_or s.words (strip_word t) 0 ≡ 0

@@ -1,5 +1,5 @@
 -- What stands in the slots at the end is settled.
-use Rattle.std.proofs.Common.{◌≡◌, ℕ, ◌+◌, ◌*◌, ◌<◌, ◌≤◌, true, false, nat_lt, List, length, get_or, sym, refl, ap, ◌∙◌, subst, arith, All, Option, Some, None}
+use Rattle.std.proofs.Common.{◌≡◌, ℕ, ◌+◌, ◌*◌, ◌<◌, ◌≤◌, true, false, nat_lt, List, length, get_or, sym, refl, ap, ◌∙◌, subst, arith, Option, Some, None}
 use Rattle.std.specs.List.{slice_get}
 use Rattle.std.proofs.lemmas.Option.{slice_get_within, slice_get-get_or}
 use mathlib.Core.Option.{some, some-injective}
@@ -10,7 +10,7 @@ use Rattle.sgm_energy.specs.declared.dir.Dir.TheVariants.{Right, Left, Down, Dow
 use Rattle.sgm_energy.specs.Dirs.{is_level, front_of, position_of}
 use Rattle.sgm_strip.specs.Cuts.{CutParts, IsCut}
 use Rattle.sgm_strip.specs.Scenes.{SceneParts}
-use Rattle.sgm_strip.specs.Parcels.{ParcelParts, is_done}
+use Rattle.sgm_strip.specs.Parcels.{ParcelParts}
 use Rattle.sgm_strip.specs.Fronts.{FrontParts}
 use Rattle.sgm_handover.specs.Handover.{Handover}
 use Rattle.sgm_handover.proofs.Maps.{some_none, none_if}

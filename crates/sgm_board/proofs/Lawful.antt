@@ -1,7 +1,5 @@
 -- The laws of the board.
-use Rattle.std.proofs.Common.{◌≡◌, ℕ, ◌+◌, ◌*◌, ◌<◌, ◌≤◌, Bool, true, false, ◌&&◌, ◌||◌, nat_lt, List, get_or, set, sym, refl, ap, ◌∙◌, subst, arith, le-ltb, Option, Some, is_some}
-use mathlib.Core.Option.{some}
-use lib.ListN.{get_elem?}
+use Rattle.std.proofs.Common.{◌≡◌, ℕ, ◌+◌, ◌*◌, ◌≤◌, Bool, true, false, ◌&&◌, ◌||◌, List, set, sym, refl, ap, ◌∙◌, subst, arith, le-ltb, Option, Some, is_some}
 use lib.Seq.{set-get_or}
 use Rattle.atomic_table.specs.Table.{State}
 use Rattle.sgm_energy.specs.declared.dir.Dir.{Dir}

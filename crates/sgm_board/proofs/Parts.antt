@@ -1,5 +1,5 @@
 -- What contracts see of a pass, over each kind of step.
-use Rattle.std.proofs.Common.{◌≡◌, ◌≢◌, ℕ, ◌+◌, ◌*◌, ◌<◌, ◌≤◌, Bool, true, false, ◌&&◌, ◌||◌, ◌==◌, cond, nat_lt, List, [], ◌∷◌, get_or, max, sym, refl, ap, ◌∙◌, arith, eq-eqb, ne_eqb, lt-ltb, le-ltb, lt_of_not-le, Option, Some, None, is_some}
+use Rattle.std.proofs.Common.{◌≡◌, ◌≢◌, ℕ, ◌+◌, Bool, true, false, ◌&&◌, ◌||◌, ◌==◌, cond, nat_lt, List, [], ◌∷◌, get_or, sym, refl, ap, ◌∙◌, arith, eq-eqb, ne_eqb, lt-ltb, le-ltb, lt_of_not-le, Option, Some, None, is_some}
 use mathlib.Core.Logic.{dite}
 use native.Mathlib.Decide.{ℕ_discrete, dec_le}
 use Rattle.std.proofs.lemmas.Bool.{true≢false}

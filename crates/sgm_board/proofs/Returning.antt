@@ -1,5 +1,5 @@
 -- A Return is legal in the state that the board shows, and leads to the state after it.
-use Rattle.std.proofs.Common.{◌≡◌, ◌≢◌, ℕ, ◌+◌, ◌<◌, Bool, false, List, length, get_or, set, sym, refl, ap, ◌∙◌, subst, arith, length-set, get_or-set_other, Option, Some, None}
+use Rattle.std.proofs.Common.{◌≡◌, ◌≢◌, ℕ, ◌<◌, length, get_or, set, sym, refl, ap, ◌∙◌, subst, arith, length-set, get_or-set_other, Option, Some, None}
 use mathlib.Core.Logic.{dite}
 use mathlib.Core.Option.{some}
 use native.Mathlib.Decide.{ℕ_discrete}
@@ -16,7 +16,7 @@ use Rattle.sgm_board.specs.declared.view.View.{View}
 use Rattle.sgm_board.specs.declared.slot.Slot.{Slot}
 use Rattle.sgm_board.specs.declared.slot.Slot.TheVariants.{OfStrip}
 use Rattle.sgm_board.specs.Words.{dir_word, strip_word}
-use Rattle.sgm_board.specs.Views.{IsLive, after_look, after_return, has_read}
+use Rattle.sgm_board.specs.Views.{after_look, after_return, has_read}
 use Rattle.sgm_board.specs.Shows.{Shows, IsParcelAt, has_passed}
 use Rattle.sgm_board.proofs.Numbered.{SamePass, live', numbers_set, one_pass}
 use Rattle.sgm_board.proofs.Strips.{return-shown}

@@ -1,6 +1,6 @@
 -- What each kind of step tells the pass that makes it: of the step, what the pass knew and has out, the number found, and
 -- what it knows and has out then.
-use Rattle.std.specs.Prelude.{◌≡◌, ◌≢◌, ℕ, ◌*◌, ◌≤◌, Bool, false, ◌∷◌, length, Some}
+use Rattle.std.specs.Prelude.{◌≡◌, ◌≢◌, ℕ, ◌*◌, ◌≤◌, Bool, false, ◌∷◌, Some}
 use Rattle.atomic_table.specs.Table.{Me, Step, rest}
 use Rattle.sgm_energy.specs.declared.dir.Dir.{Dir}
 use Rattle.sgm_energy.specs.Dirs.{is_level}

@@ -6,7 +6,6 @@ use Rattle.sgm_board.specs.declared.view.View.{View}
 use Rattle.sgm_board.specs.declared.slot.Slot.TheVariants.{Empty, OfStrip}
 use Rattle.sgm_board.specs.Words.{strip_word}
 use Rattle.sgm_board.specs.Plans.{about_of}
-use Rattle.sgm_board.specs.Tallies.{has}
 use Rattle.sgm_board.specs.Views.{IsLive, after_look, after_claim}
 use Rattle.sgm_board.specs.Shows.{IsParcelAt}
 use Rattle.sgm_board.specs.Pockets.{HasRead}

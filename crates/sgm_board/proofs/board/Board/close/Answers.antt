@@ -1,9 +1,9 @@
-use Rattle.std.proofs.Common.{◌≡◌, ◌<◌, ◌≤◌, ◌*◌, ℕ, List, length, ap, sym, ◌∙◌, subst, Some}
+use Rattle.std.proofs.Common.{ℕ, List, sym, ◌∙◌, subst}
 use Rattle.std.specs.Mem.Slots.{slots_items}
-use Rattle.sgm_strip.specs.Cuts.{CutParts, IsCut}
+use Rattle.sgm_strip.specs.Cuts.{IsCut}
 use Rattle.sgm_board.specs.declared.slot.Slot.{Slot}
 use Rattle.sgm_board.specs.Plans.{about_of}
-use Rattle.sgm_board.specs.Emptied.{AreFirstParcels, HaveFronts, HaveParcels}
+use Rattle.sgm_board.specs.Emptied.{AreFirstParcels, HaveParcels}
 use Rattle.sgm_board.proofs.Ending.{at_end, have_fronts, have_parcels, settled, half_seen}
 use Rattle.sgm_board.proofs.board.Board.close.Goals as goal
 

@@ -1,4 +1,4 @@
-use Rattle.std.proofs.Common.{◌≡◌, ◌<◌, ◌≤◌, ◌+◌, ◌++◌, map, replicate, ℕ, List, length, vec_capacity, arith, ap, refl, sym, ◌∙◌, subst, Some}
+use Rattle.std.proofs.Common.{◌≡◌, ◌≤◌, ◌+◌, ◌++◌, map, replicate, ℕ, List, length, vec_capacity, arith, ap, sym, ◌∙◌, subst, Some}
 use Rattle.std.proofs.lemmas.List.{length-replicate}
 use Rattle.sgm_strip.specs.Cuts.{CutParts, IsCut}
 use Rattle.sgm_strip.specs.Parcels.{ParcelParts}
@@ -8,7 +8,6 @@ use Rattle.sgm_board.specs.declared.slot.Slot.{Slot}
 use Rattle.sgm_board.specs.declared.slot.Slot.TheVariants.{OfStrip, OfFront}
 use Rattle.sgm_board.specs.Words.{word_count}
 use Rattle.sgm_board.specs.Plans.{about_of}
-use Rattle.sgm_board.specs.Ready.{AreReady}
 use Rattle.sgm_board.specs.Passes.{parts_of_view}
 use Rattle.sgm_board.proofs.Laying.{AreLaid, laid, first_of}
 use Rattle.sgm_board.proofs.Starting.{starts}

@@ -1,10 +1,7 @@
-use Rattle.std.proofs.Common.{◌≡◌, ◌+◌, ◌*◌, ◌∷◌, ℕ, ◌∙◌, ap, sym, subst, Some, None}
+use Rattle.std.proofs.Common.{◌*◌, ◌∷◌, ℕ, ◌∙◌, ap, sym, subst, Some}
 use Rattle.sgm_energy.specs.Dirs.{position_of}
 use Rattle.sgm_board.specs.Words.{dir_word}
-use Rattle.sgm_board.specs.declared.view.View.{View}
-use Rattle.sgm_board.specs.declared.slot.Slot.{Slot}
 use Rattle.sgm_board.specs.declared.slot.Slot.TheVariants.{Empty}
-use Rattle.sgm_board.specs.declared.pass.Pass.{Pass}
 use Rattle.sgm_board.specs.Views as view
 use Rattle.sgm_board.specs.Views.{IsLive}
 use Rattle.sgm_board.specs.Pockets.{ReadsAll, pocket}
