@@ -1,5 +1,5 @@
 -- A Claim is legal in the state that the board shows, and leads to the state after it.
-use Rattle.std.proofs.Common.{◌≡◌, ◌≢◌, ℕ, ◌+◌, ◌<◌, Bool, false, List, length, get_or, set, sym, refl, ap, ◌∙◌, ⊎_elim, arith, length-set, get_or-set_other, Some, None}
+use Rattle.std.proofs.Common.{◌≡◌, ◌≢◌, ℕ, ◌<◌, Bool, List, length, get_or, set, refl, ◌∙◌, ⊎_elim, arith, length-set, get_or-set_other, Some, None}
 use mathlib.Core.Option as maybe
 use mathlib.Core.Option.{some}
 use lib.ListN.{get_elem?}
@@ -21,7 +21,7 @@ use Rattle.sgm_board.proofs.Fronts.{fronts_stay}
 use Rattle.sgm_board.proofs.Due.{seen_set, due_same}
 use Rattle.sgm_board.proofs.Homes.{parcel_stays, front_stays}
 use Rattle.sgm_board.proofs.Dirs.{dir_word_lt}
-use Rattle.sgm_board.proofs.Looking.{moved, found_at, abouts_set, no_front}
+use Rattle.sgm_board.proofs.Looking.{moved, abouts_set, no_front}
 
 module _ (about : About) (made : ℕ) (s : State Slot View) (m : Handover) (sh : Shows about made s m) (id : ℕ) (v : View) (at : get_elem? s.views id ≡ some v) where
   pub claim_law : (t : ℕ) (done : List Bool) → IsLive v → v.strip ≡ None → t < m.strips → get_or s.words (strip_word t) 0 ≡ 0
@@ -37,7 +37,7 @@ module _ (about : About) (made : ℕ) (s : State Slot View) (m : Handover) (sh :
       let homes = set s.homes i maybe.none in
       let others : (f : ℕ) → f < 6 → get_or (set s.words i 1) f 0 ≡ get_or s.words f 0 = λ f lf. get_or-set_other s.words i f 1 0 (λ e. omega arith) in
       let fronts = fronts_stay m s.words s.views id v w (set s.words i 1) (λ f. others (dir_word f) (dir_word_lt f)) at
-          record { number = refl; front = refl; alive = live' v w r; strip = λ f e. absurd (no_front about made s m sh id v at idle f e) } sh.front_words in (
+      record { number = refl; front = refl; alive = live' v w r; strip = λ f e. absurd (no_front about made s m sh id v at idle f e) } sh.front_words in (
         legal,
         record {
           strips = sh.strips;

@@ -1,5 +1,5 @@
 -- The words of directions, and the positions of strips.
-use Rattle.std.proofs.Common.{◌≡◌, ◌≢◌, ℕ, ◌+◌, ◌-◌, ◌<◌, Bool, true, false, arith, cond, refl, sym, ap, ◌∙◌, Some}
+use Rattle.std.proofs.Common.{◌≡◌, ◌≢◌, ℕ, ◌-◌, ◌<◌, Bool, true, false, arith, cond, refl, sym, ◌∙◌, Some}
 use Rattle.sgm_energy.specs.declared.dir.Dir.{Dir}
 use Rattle.sgm_energy.specs.Dirs.{number_of, is_level, goes_down, position_of, strip_at, front_of}
 use Rattle.sgm_energy.proofs.DirLemmas.{same_number}

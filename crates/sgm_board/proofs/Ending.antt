@@ -1,5 +1,5 @@
 -- What stands in the slots at the end is settled.
-use Rattle.std.proofs.Common.{◌≡◌, ℕ, ◌+◌, ◌*◌, ◌<◌, ◌≤◌, true, false, nat_lt, List, length, get_or, sym, refl, ap, ◌∙◌, subst, arith, All, Option, Some, None}
+use Rattle.std.proofs.Common.{◌≡◌, ℕ, ◌+◌, ◌*◌, ◌<◌, ◌≤◌, true, false, nat_lt, List, length, get_or, sym, refl, ap, ◌∙◌, subst, arith, Option, Some, None}
 use Rattle.std.specs.List.{slice_get}
 use Rattle.std.proofs.lemmas.Option.{slice_get_within, slice_get-get_or}
 use mathlib.Core.Option.{some, some-injective}
@@ -10,7 +10,7 @@ use Rattle.sgm_energy.specs.declared.dir.Dir.TheVariants.{Right, Left, Down, Dow
 use Rattle.sgm_energy.specs.Dirs.{is_level, front_of, position_of}
 use Rattle.sgm_strip.specs.Cuts.{CutParts, IsCut}
 use Rattle.sgm_strip.specs.Scenes.{SceneParts}
-use Rattle.sgm_strip.specs.Parcels.{ParcelParts, is_done}
+use Rattle.sgm_strip.specs.Parcels.{ParcelParts}
 use Rattle.sgm_strip.specs.Fronts.{FrontParts}
 use Rattle.sgm_handover.specs.Handover.{Handover}
 use Rattle.sgm_handover.proofs.Maps.{some_none, none_if}
@@ -43,16 +43,16 @@ module _ (about : About) (made : ℕ) where
       → (m : Handover) × AtEnd about v.seen m slots
   at_end id v words slots idle bare all (s, ((m, sh, kn), at), is, long, put) =
       let only : (j : ℕ) (u : View) → get_elem? s.views j ≡ some u → IsLive u → u ≡ v = (λ j u h lu.
-          let e = sh.numbers.once j id u.number u v h at lu (all u.number (sh.numbers.below j u.number u h lu)) in
-          some-injective u v (sym h ∙ (ap (get_elem? s.views) e ∙ at))) in
+      let e = sh.numbers.once j id u.number u v h at lu (all u.number (sh.numbers.below j u.number u h lu)) in
+      some-injective u v (sym h ∙ (ap (get_elem? s.views) e ∙ at))) in
       let home : (f : Dir) → is_level f ≡ false → m.away f ≡ None = (λ f l. none_if (m.away f) (λ w e.
-          let x = sh.front_words.out f w l e in
-          let z = sh.front_words.has_it x.0 f x.1 x.2 x.3.0 in
-          some_dir_none f (sym x.3.0 ∙ (ap (λ (u : View). u.front) (only x.0 x.1 x.2 z.2) ∙ bare)))) in
+      let x = sh.front_words.out f w l e in
+      let z = sh.front_words.has_it x.0 f x.1 x.2 x.3.0 in
+      some_dir_none f (sym x.3.0 ∙ (ap (λ (u : View). u.front) (only x.0 x.1 x.2 z.2) ∙ bare)))) in
       let free : (t : ℕ) → t < m.strips → m.holder t ≡ None = (λ t l. none_if (m.holder t) (λ w e.
-          let x = sh.strip_words.held t w l e in
-          let z = sh.strip_words.holds x.0 t x.1 x.2 x.3.0 in
-          some_none t (sym x.3.0 ∙ (ap (λ (u : View). u.strip) (only x.0 x.1 x.2 z.1) ∙ idle)))) in (
+      let x = sh.strip_words.held t w l e in
+      let z = sh.strip_words.holds x.0 t x.1 x.2 x.3.0 in
+      some_none t (sym x.3.0 ∙ (ap (λ (u : View). u.strip) (only x.0 x.1 x.2 z.1) ∙ idle)))) in (
         m,
         record {
           strips = sh.strips;

@@ -1,15 +1,14 @@
 -- The steps on the word of a direction keep the rule.
-use Rattle.std.proofs.Common.{◌≡◌, ◌≢◌, ℕ, ◌+◌, ◌*◌, ◌<◌, eqb, Bool, true, false, ◌&&◌, nat_lt, List, [], ◌∷◌, length, get_or, set, sym, refl, ap, ◌∙◌, subst, arith, le-ltb, Option, Some, None}
+use Rattle.std.proofs.Common.{◌≡◌, ℕ, ◌+◌, ◌*◌, eqb, false, List, ◌∷◌, get_or, set, sym, refl, ap, ◌∙◌, subst, arith, le-ltb, Option, Some, None}
 use mathlib.Core.Option as maybe
 use mathlib.Core.Option.{some}
-use lib.ListN.{get_elem?}
 use prog.Atomic.{either}
-use Rattle.atomic_table.specs.Table.{State, step, Act, keeps, takes, gives, Allows}
+use Rattle.atomic_table.specs.Table.{step, keeps, takes, gives, Allows}
 use Rattle.atomic_table.proofs.Lists.{exchanged}
 use Rattle.sgm_energy.specs.declared.dir.Dir.{Dir}
-use Rattle.sgm_energy.specs.Dirs.{is_level, position_of, strip_at}
+use Rattle.sgm_energy.specs.Dirs.{is_level, position_of}
 use Rattle.sgm_strip.specs.Fronts.{FrontParts}
-use Rattle.sgm_handover.specs.Handover.{Handover, next}
+use Rattle.sgm_handover.specs.Handover.{next}
 use Rattle.sgm_handover.specs.Events.{after}
 use Rattle.sgm_handover.specs.declared.event.Event.TheVariants.{Take, Put}
 use Rattle.sgm_board.specs.declared.view.About.{About}
@@ -17,7 +16,7 @@ use Rattle.sgm_board.specs.declared.view.View.{View}
 use Rattle.sgm_board.specs.declared.slot.Slot.{Slot}
 use Rattle.sgm_board.specs.declared.slot.Slot.TheVariants.{OfFront}
 use Rattle.sgm_board.specs.Words.{dir_word}
-use Rattle.sgm_board.specs.Views.{IsLive, after_look, after_try, after_take, after_put, is_known_done}
+use Rattle.sgm_board.specs.Views.{after_look, after_try, after_take, after_put, is_known_done}
 use Rattle.sgm_board.specs.Shows.{Shows, Rule, IsFrontAt, one_if_any}
 use Rattle.sgm_board.specs.Plays.{Known, take_told, put_told}
 use Rattle.sgm_board.proofs.Due.{due_same}
@@ -38,7 +37,7 @@ module _ (about : About) (made : ℕ) where
       let x = 2 * position_of d t about.cut.strips in
       -- the strip and the direction that the step speaks of are these
       let same : (t' : ℕ) (d' : Dir) → v.strip ≡ Some t' → is_level d' ≡ false → f ≡ dir_word d' → (t ≡ t') × (d ≡ d') =
-          (λ t' d' e level' w. ((let q : Some t ≡ Some t' = sym mine ∙ e in cc), same_word d d' level level' w)) in
+      (λ t' d' e level' w. ((let q : Some t ≡ Some t' = sym mine ∙ e in cc), same_word d d' level level' w)) in
       exchanged r x (x + 1) (Leaves about made s f id me (take_told (step slots f x (x + 1) maybe.none) me))
       (λ hit.
       let law = take_law about made s m sh id v at d t level mine bare (hit ∙ ap (λ (n : ℕ). 2 * position_of d t n) (sym sh.strips)) in

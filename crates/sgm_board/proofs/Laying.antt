@@ -1,5 +1,5 @@
 -- The slots of a new board.
-use Rattle.std.proofs.Common.{◌≡◌, ℕ, zero, suc, ◌+◌, ◌<◌, false, List, [], ◌∷◌, ◌++◌, map, length, sym, refl, ap, ◌∙◌, subst, arith, length-append, get_or, All, Some}
+use Rattle.std.proofs.Common.{◌≡◌, ℕ, zero, suc, ◌+◌, ◌<◌, false, List, [], ◌∷◌, ◌++◌, map, length, refl, ap, ◌∙◌, arith, length-append, get_or, All}
 use mathlib.Core.Option.{some}
 use lib.ListN.{get_elem?, length-map}
 use Rattle.std.proofs.lemmas.Option.{slice_get_read}
@@ -44,7 +44,6 @@ at_after : {A : Type 0} (xs ys : List A) (k : ℕ) (a : A) → get_elem? ys k �
 at_after {A} [] ys k a h i e = let q : i ≡ k = omega arith in ap (λ (j : ℕ). get_elem? ys j) q ∙ h
 at_after (x ∷ xs) ys k a h zero e = absurd (omega arith)
 at_after (x ∷ xs) ys k a h (suc i) e = at_after xs ys k a h i (omega arith)
-
 
 pub laid : (about : About) (ps : List ParcelParts) (fs : List FrontParts) → AreReady about.scene about.cut ps fs → All IsParcel ps → All IsFront fs → AreLaid about (map OfFront fs ++ map OfStrip ps)
 laid about ps fs ready kept_ps kept_fs =

@@ -1,5 +1,5 @@
 -- A Put is legal in the state that the board shows, and leads to the state after it.
-use Rattle.std.proofs.Common.{◌≡◌, ◌≢◌, ℕ, ◌+◌, ◌*◌, ◌<◌, ◌≤◌, Bool, true, false, ◌&&◌, ◌||◌, ◌==◌, nat_lt, List, length, get_or, set, sym, refl, ap, ◌∙◌, subst, arith, length-set, get_or-set_same, get_or-set_other, lt-ltb, le-ltb, lt_of_not-le, eq-eqb, ne_eqb, Option, Some, None}
+use Rattle.std.proofs.Common.{◌≡◌, ◌≢◌, ℕ, ◌+◌, ◌*◌, ◌<◌, Bool, true, ◌&&◌, ◌||◌, ◌==◌, nat_lt, length, get_or, set, sym, refl, ap, ◌∙◌, subst, arith, length-set, get_or-set_same, get_or-set_other, lt-ltb, le-ltb, lt_of_not-le, eq-eqb, ne_eqb, Option, Some, None}
 use mathlib.Core.Logic.{dite}
 use mathlib.Core.Option.{some}
 use native.Mathlib.Decide.{ℕ_discrete, dec_le}
@@ -7,7 +7,7 @@ use lib.ListN.{get_elem?}
 use Rattle.atomic_table.specs.Table.{State}
 use Rattle.atomic_table.proofs.Lists.{set_here, set_else}
 use Rattle.sgm_energy.specs.declared.dir.Dir.{Dir}
-use Rattle.sgm_energy.specs.Dirs.{number_of, is_level, position_of, strip_at}
+use Rattle.sgm_energy.specs.Dirs.{number_of, position_of, strip_at}
 use Rattle.sgm_strip.specs.Parcels.{is_done}
 use Rattle.sgm_strip.specs.Fronts.{FrontParts}
 use Rattle.sgm_handover.specs.Handover.{Handover, next}
@@ -46,6 +46,7 @@ passed_else m f s w g l away =
     ∙ subst (λ (k : Dir). nat_lt (position_of k s m.strips) p₁ ≡ nat_lt (position_of k s m.strips) (m.passed k)) (sym gf)
     (lt_next (position_of f s m.strips) (m.passed f) (λ p. away (sym (strip_at-position_of f s m.strips l) ∙ ap (λ (q : ℕ). strip_at f q m.strips) p))))
     (λ ne. ap (nat_lt (position_of g s m.strips)) (changed_else number_of m.passed f p₁ g ne))
+
 module _ (about : About) (made : ℕ) (s : State Slot View) (m : Handover) (sh : Shows about made s m) (id : ℕ) (v : View) (at : get_elem? s.views id ≡ some v) where
   -- what is due once the front that the pass shows has passed the strip that it shows
   pub put_due : (mask : View → Dir → Bool) (f : Dir) (r : ℕ) → ((g : Dir) → mask (after_put (after_look v (dir_word f) r) f) g ≡ mask v g) → v.front ≡ Some f → KnowsDue mask m s.views

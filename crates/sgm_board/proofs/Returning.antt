@@ -1,5 +1,5 @@
 -- A Return is legal in the state that the board shows, and leads to the state after it.
-use Rattle.std.proofs.Common.{◌≡◌, ◌≢◌, ℕ, ◌+◌, ◌<◌, Bool, false, List, length, get_or, set, sym, refl, ap, ◌∙◌, subst, arith, length-set, get_or-set_other, Option, Some, None}
+use Rattle.std.proofs.Common.{◌≡◌, ◌≢◌, ℕ, ◌<◌, length, get_or, set, sym, refl, ap, ◌∙◌, subst, arith, length-set, get_or-set_other, Option, Some, None}
 use mathlib.Core.Logic.{dite}
 use mathlib.Core.Option.{some}
 use native.Mathlib.Decide.{ℕ_discrete}
@@ -16,7 +16,7 @@ use Rattle.sgm_board.specs.declared.view.View.{View}
 use Rattle.sgm_board.specs.declared.slot.Slot.{Slot}
 use Rattle.sgm_board.specs.declared.slot.Slot.TheVariants.{OfStrip}
 use Rattle.sgm_board.specs.Words.{dir_word, strip_word}
-use Rattle.sgm_board.specs.Views.{IsLive, after_look, after_return, has_read}
+use Rattle.sgm_board.specs.Views.{after_look, after_return, has_read}
 use Rattle.sgm_board.specs.Shows.{Shows, IsParcelAt, has_passed}
 use Rattle.sgm_board.proofs.Numbered.{SamePass, live', numbers_set, one_pass}
 use Rattle.sgm_board.proofs.Strips.{return-shown}
@@ -56,7 +56,7 @@ module _ (about : About) (made : ℕ) (s : State Slot View) (m : Handover) (sh :
       let homes = set s.homes i (some (OfStrip p)) in
       let others : (f : ℕ) → f < 6 → get_or (set s.words i 0) f 0 ≡ get_or s.words f 0 = λ f lf. get_or-set_other s.words i f 0 0 (λ e. omega arith) in
       let fronts = fronts_stay m s.words s.views id v w (set s.words i 0) (λ f. others (dir_word f) (dir_word_lt f)) at
-          record { number = refl; front = refl; alive = live' v w r; strip = λ f e. absurd (some_dir_none f (sym e ∙ bare)) } sh.front_words in (
+      record { number = refl; front = refl; alive = live' v w r; strip = λ f e. absurd (some_dir_none f (sym e ∙ bare)) } sh.front_words in (
         ((t, y.0), has_none about made s m sh id v at y.1 bare),
         record {
           strips = sh.strips;

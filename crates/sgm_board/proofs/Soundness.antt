@@ -1,5 +1,5 @@
 -- A state that a board shows is sound.
-use Rattle.std.proofs.Common.{◌≡◌, ℕ, ◌+◌, ◌*◌, ◌<◌, ◌≤◌, false, length, get_or, sym, refl, ap, ◌∙◌, arith, Option, Some, None}
+use Rattle.std.proofs.Common.{◌≡◌, ℕ, ◌+◌, ◌*◌, ◌≤◌, false, length, get_or, sym, refl, ap, ◌∙◌, arith, Option, Some, None}
 use Rattle.atomic_table.specs.Table.{State}
 use Rattle.sgm_energy.specs.declared.dir.Dir.{Dir}
 use Rattle.sgm_energy.specs.Dirs.{is_level}

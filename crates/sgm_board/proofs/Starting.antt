@@ -1,5 +1,5 @@
 -- A new board shows the state before the first event.
-use Rattle.std.proofs.Common.{◌≡◌, ℕ, zero, suc, ◌+◌, ◌*◌, ◌<◌, ◌≤◌, Bool, true, false, nat_lt, List, [], ◌∷◌, length, replicate, get_or, sym, refl, ap, ◌∙◌, subst, arith, le-ltb, Some, None}
+use Rattle.std.proofs.Common.{◌≡◌, ℕ, zero, suc, ◌+◌, ◌*◌, ◌≤◌, Bool, true, false, List, [], ◌∷◌, length, replicate, get_or, sym, refl, ap, ◌∙◌, subst, arith, le-ltb}
 use mathlib.Core.Option.{some, some-injective, some-ne-none}
 use lib.ListN.{get_elem?, length-map, length-replicate}
 use Rattle.std.proofs.lemmas.Bool.{true≢false}
@@ -15,7 +15,7 @@ use Rattle.sgm_board.specs.declared.view.About.{About}
 use Rattle.sgm_board.specs.declared.view.View.{View}
 use Rattle.sgm_board.specs.declared.slot.Slot.{Slot}
 use Rattle.sgm_board.specs.declared.slot.Slot.TheVariants.{OfStrip, OfFront}
-use Rattle.sgm_board.specs.Tallies.{has, count_up}
+use Rattle.sgm_board.specs.Tallies.{has}
 use Rattle.sgm_board.specs.Words.{dir_word, strip_word, word_count}
 use Rattle.sgm_board.specs.Views.{IsLive, dealer}
 use Rattle.sgm_board.specs.Shows.{Rule}

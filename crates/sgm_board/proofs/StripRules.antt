@@ -1,15 +1,11 @@
 -- The steps on the word of a strip keep the rule.
-use Rattle.std.proofs.Common.{◌≡◌, ◌≢◌, ℕ, ◌+◌, ◌<◌, eqb, Bool, true, false, ◌&&◌, List, [], ◌∷◌, get_or, set, sym, refl, ap, ◌∙◌, subst, arith, Some, None}
+use Rattle.std.proofs.Common.{◌≡◌, ℕ, ◌<◌, eqb, List, [], ◌∷◌, get_or, sym, refl, ap, ◌∙◌, subst, arith, Some, None}
 use mathlib.Core.Option as maybe
 use mathlib.Core.Option.{some}
-use lib.ListN.{get_elem?}
 use prog.Atomic.{either}
 use Rattle.atomic_table.specs.Table.{State, step, Act, keeps, takes, gives, stepped, Valid, carried_after, Allows}
 use Rattle.atomic_table.proofs.Lists.{exchanged}
-use Rattle.sgm_energy.specs.declared.dir.Dir.{Dir}
-use Rattle.sgm_energy.specs.Dirs.{is_level}
 use Rattle.sgm_strip.specs.Parcels.{ParcelParts, is_done}
-use Rattle.sgm_handover.specs.Handover.{Handover}
 use Rattle.sgm_handover.specs.Events.{after}
 use Rattle.sgm_handover.specs.declared.event.Event.TheVariants.{Claim, Return}
 use Rattle.sgm_handover.proofs.Maps.{some_none}
@@ -19,7 +15,7 @@ use Rattle.sgm_board.specs.declared.slot.Slot.{Slot}
 use Rattle.sgm_board.specs.declared.slot.Slot.TheVariants.{OfStrip}
 use Rattle.sgm_board.specs.Words.{strip_word}
 use Rattle.sgm_board.specs.Views.{IsLive, after_look, after_claim, after_return, is_known_done}
-use Rattle.sgm_board.specs.Shows.{Shows, Rule, IsParcelAt, one_if_any, has_passed}
+use Rattle.sgm_board.specs.Shows.{Rule, IsParcelAt, one_if_any, has_passed}
 use Rattle.sgm_board.specs.Plays.{Known, claim_told, return_told}
 use Rattle.sgm_board.proofs.Tallies.{or_false}
 use Rattle.sgm_board.proofs.Strips.{one_if_not_zero}
@@ -53,23 +49,23 @@ module _ (about : About) (made : ℕ) where
           after m (Claim v.number t),
           (claim_law about made s m sh id v at t p.done lv idle lm hit).1,
           due_same all m s.views id w
-          (λ t' f e l.
-          let x : Some t ≡ Some t' = e in
-          let tt' : t ≡ t' = cc in
-          or_false (is_done p.done f) ∙ (home.2.done f l ∙ ap (λ (k : ℕ). has_passed m k f) tt')) kn,
+              (λ t' f e l.
+              let x : Some t ≡ Some t' = e in
+              let tt' : t ≡ t' = cc in
+              or_false (is_done p.done f) ∙ (home.2.done f l ∙ ap (λ (k : ℕ). has_passed m k f) tt')) kn,
         ),
         λ t' e.
-        let tt' : t ≡ t' = omega arith in (
-          (λ _. (
-            p,
-            has_passed m t,
-            about,
-            sh.abouts id v at lv,
-            subst (λ (k : ℕ). IsParcelAt about k (has_passed m t) p) tt' home.2,
-            (λ k. (after_claim (after_look v i r) (tt' k) p.done, (i, OfStrip p) ∷ me.1)),
-          )),
-          λ ne. absurd (ne hit),
-        ),
+            let tt' : t ≡ t' = omega arith in (
+              (λ _. (
+                p,
+                has_passed m t,
+                about,
+                sh.abouts id v at lv,
+                subst (λ (k : ℕ). IsParcelAt about k (has_passed m t) p) tt' home.2,
+                (λ k. (after_claim (after_look v i r) (tt' k) p.done, (i, OfStrip p) ∷ me.1)),
+              )),
+              λ ne. absurd (ne hit),
+            ),
       ))
       (λ ne.
       let w = after_look v i r in

@@ -1,11 +1,11 @@
 -- The words of the strips, over each kind of step.
-use Rattle.std.proofs.Common.{◌≡◌, ◌≢◌, ℕ, ◌+◌, ◌<◌, Bool, cond, List, [], ◌∷◌, ◌++◌, length, get_or, set, sym, refl, ap, ◌∙◌, subst, ⊎_elim, arith, get_or-set_same, get_or-set_other, Option, Some, None}
+use Rattle.std.proofs.Common.{◌≡◌, ◌≢◌, ℕ, ◌<◌, Bool, cond, List, [], ◌∷◌, ◌++◌, length, get_or, set, sym, refl, ap, ◌∙◌, subst, ⊎_elim, arith, get_or-set_same, get_or-set_other, Option, Some, None}
 use mathlib.Core.Logic.{dite}
 use mathlib.Core.Option.{some}
 use native.Mathlib.Decide.{ℕ_discrete}
 use lib.ListN.{get_elem?}
 use Rattle.atomic_table.proofs.Lists.{at_set, at_snoc}
-use Rattle.sgm_handover.specs.Handover.{Handover, Holds, is_worker}
+use Rattle.sgm_handover.specs.Handover.{Handover}
 use Rattle.sgm_handover.specs.Events.{Legal, after}
 use Rattle.sgm_handover.specs.declared.event.Event.TheVariants.{Claim, Return}
 use Rattle.sgm_handover.proofs.Maps.{changed_there, changed_else, changed_cases, some_none, released, released_at, released_else, is_worker_here}

@@ -1,5 +1,5 @@
 -- A board and its passes, as contracts see them.
-use Rattle.std.specs.Prelude.{◌≡◌, ℕ, ◌<◌, ◌-◌, true, false, List, slice_get, length, Some, None}
+use Rattle.std.specs.Prelude.{◌≡◌, ℕ, ◌<◌, ◌-◌, true, List, slice_get, length, Some, None}
 use Rattle.atomic_table.specs.Seated.{TableId}
 use Rattle.sgm_energy.specs.declared.dir.Dir.{Dir}
 use Rattle.sgm_strip.specs.Cuts.{CutParts}
@@ -9,7 +9,6 @@ use Rattle.sgm_strip.specs.Fronts.{FrontParts}
 use Rattle.sgm_strip.specs.declared.front.Visit.{Visit}
 use Rattle.sgm_board.specs.Plans.{about_of}
 use Rattle.sgm_board.specs.Passes.{PassParts, parts_of_view, new_pass}
-use Rattle.sgm_board.specs.declared.view.View.{View}
 use Rattle.sgm_board.specs.declared.pass.Pass.{Pass}
 use Rattle.sgm_board.specs.declared.board.Board.{Board}
 

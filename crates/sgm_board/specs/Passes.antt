@@ -1,10 +1,9 @@
 -- What contracts see of a pass, and what each kind of step leaves of it.
-use Rattle.std.specs.Prelude.{◌≡◌, ℕ, ◌+◌, ◌*◌, ◌≤◌, ◌<◌, Bool, true, false, ◌&&◌, ◌||◌, ◌==◌, nat_lt, Option, Some, None, slice_index, max, if◌then◌else◌}
+use Rattle.std.specs.Prelude.{◌≡◌, ℕ, ◌+◌, ◌*◌, ◌≤◌, ◌<◌, Bool, true, false, ◌||◌, ◌==◌, nat_lt, Option, Some, None, slice_index, max, if◌then◌else◌}
 use Rattle.sgm_energy.specs.declared.dir.Dir.{Dir}
 use Rattle.sgm_energy.specs.Dirs.{is_level, number_of}
 use Rattle.sgm_handover.specs.Handover.{changed}
 use Rattle.sgm_board.specs.Tallies.{has}
-use Rattle.sgm_board.specs.Words.{dir_word, strip_word}
 use Rattle.sgm_board.specs.Views.{has_read, shows_done, try_place}
 use Rattle.sgm_board.specs.declared.view.View.{View}
 

@@ -1,7 +1,7 @@
 -- Parcels and fronts as a board takes them.
-use Rattle.std.specs.Prelude.{◌≡◌, ℕ, false, List, [], length, slice_get, Some, All}
+use Rattle.std.specs.Prelude.{◌≡◌, ℕ, List, [], length, slice_get, Some, All}
 use Rattle.sgm_energy.specs.declared.dir.Dir.{Dir}
-use Rattle.sgm_energy.specs.Dirs.{is_level, front_of}
+use Rattle.sgm_energy.specs.Dirs.{front_of}
 use Rattle.sgm_strip.specs.Cuts.{CutParts}
 use Rattle.sgm_strip.specs.Scenes.{SceneParts}
 use Rattle.sgm_strip.specs.Parcels.{ParcelParts, level_done}

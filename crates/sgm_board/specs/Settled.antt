@@ -1,5 +1,5 @@
 -- Parcels and fronts that fit one another: as a board gives them back.
-use Rattle.std.specs.Prelude.{◌≡◌, ℕ, ◌*◌, ◌≤◌, true, nat_lt, List, length, slice_get, Some, All}
+use Rattle.std.specs.Prelude.{◌≡◌, ℕ, true, nat_lt, List, length, slice_get, Some, All}
 use Rattle.sgm_energy.specs.declared.dir.Dir.{Dir}
 use Rattle.sgm_energy.specs.declared.dir.Dir.TheVariants.{Right, Left}
 use Rattle.sgm_energy.specs.Dirs.{front_of, position_of}

@@ -5,10 +5,10 @@ use mathlib.Core.Option.{some}
 use lib.ListN.{get_elem?}
 use Rattle.atomic_table.specs.Table.{State}
 use Rattle.sgm_energy.specs.declared.dir.Dir.{Dir}
-use Rattle.sgm_energy.specs.Dirs.{is_level, position_of, strip_at}
+use Rattle.sgm_energy.specs.Dirs.{is_level, position_of}
 use Rattle.sgm_strip.specs.Parcels.{ParcelParts, IsParcel, is_done}
 use Rattle.sgm_strip.specs.Fronts.{FrontParts, IsFront}
-use Rattle.sgm_handover.specs.Handover.{Handover, next, Holds, HoldsNext}
+use Rattle.sgm_handover.specs.Handover.{Handover, next, Holds}
 use Rattle.sgm_board.specs.Tallies.{has}
 use Rattle.sgm_board.specs.Words.{dir_word, strip_word, word_count}
 use Rattle.sgm_board.specs.Views.{IsLive, has_read, is_known_done}

@@ -1,4 +1,4 @@
-use Rattle.std.proofs.Common.{arith, ◌≡◌, ◌∙◌, ℕ, ap, subst, sym, refl, true}
+use Rattle.std.proofs.Common.{arith, ◌≡◌, ◌∙◌, ℕ, ap, subst, refl}
 use Rattle.sgm_board.specs.Tallies.{has}
 use Rattle.sgm_board.specs.Plans.{about_of}
 use Rattle.sgm_board.specs.Views.{IsLive}

@@ -1,4 +1,4 @@
-use Rattle.std.proofs.Common.{rules, arith, ◌≡◌, ◌∙◌, ◌*◌, ◌+◌, ℕ, ap, sym, subst, Some, false}
+use Rattle.std.proofs.Common.{rules, arith, ◌≡◌, ◌∙◌, ◌*◌, ℕ, ap, sym, subst, Some}
 use Rattle.sgm_energy.specs.Dirs.{position_of}
 use Rattle.sgm_strip.specs.Fronts.{FrontParts}
 use Rattle.sgm_board.specs.declared.view.About.{About}

@@ -1,4 +1,4 @@
-use Rattle.std.proofs.Common.{◌≡◌, ◌∙◌, ap, subst, sym, Some, None}
+use Rattle.std.proofs.Common.{◌∙◌, ap, subst, sym}
 use Rattle.sgm_handover.proofs.Maps.{some_none}
 use Rattle.sgm_board.specs.Views.{IsLive}
 use Rattle.sgm_board.specs.Passes.{parts_of_view, HasJoined}

@@ -1,10 +1,7 @@
-use Rattle.std.proofs.Common.{◌≡◌, ◌+◌, ◌*◌, ◌∷◌, ℕ, ◌∙◌, ap, sym, subst, Some, None}
+use Rattle.std.proofs.Common.{◌*◌, ◌∷◌, ℕ, ◌∙◌, ap, sym, subst, Some}
 use Rattle.sgm_energy.specs.Dirs.{position_of}
 use Rattle.sgm_board.specs.Words.{dir_word}
-use Rattle.sgm_board.specs.declared.view.View.{View}
-use Rattle.sgm_board.specs.declared.slot.Slot.{Slot}
 use Rattle.sgm_board.specs.declared.slot.Slot.TheVariants.{Empty}
-use Rattle.sgm_board.specs.declared.pass.Pass.{Pass}
 use Rattle.sgm_board.specs.Views as view
 use Rattle.sgm_board.specs.Views.{IsLive}
 use Rattle.sgm_board.specs.Pockets.{ReadsAll, pocket}
@@ -67,8 +64,8 @@ returns-clause-none c =
       found,
       λ e. none.1 (e ∙ (λ i. 2 * position_of dir (sym c.strip-strip.ensures.value i) (sym c.strips-strips.ensures i))),
       ap (λ m. parts_of_view m.0) none.2
-      ∙ (parts-try (view.after_look v (dir_word dir) found) strip dir c.requires.across
-      ∙ (ap (λ p. after_try p strip dir) (parts-look v (dir_word dir) found)
-      ∙ ap (λ (s : ℕ). after_try (after_look (parts_of_view v) (dir_word dir) found) s dir) c.strip-strip.ensures.value)),
+          ∙ (parts-try (view.after_look v (dir_word dir) found) strip dir c.requires.across
+          ∙ (ap (λ p. after_try p strip dir) (parts-look v (dir_word dir) found)
+          ∙ ap (λ (s : ℕ). after_try (after_look (parts_of_view v) (dir_word dir) found) s dir) c.strip-strip.ensures.value)),
     ))
     c.take.ensures.none
