@@ -1,3 +1,5 @@
 pub mod Lists
 pub mod Handing
 pub mod Ending
+pub mod Adding
+pub mod Visiting
