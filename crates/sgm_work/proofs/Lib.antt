@@ -3,3 +3,4 @@ pub mod Handing
 pub mod Ending
 pub mod Adding
 pub mod Visiting
+pub mod Glancing

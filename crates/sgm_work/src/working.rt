@@ -49,7 +49,7 @@ pub fn work<G: Gate>(board: &Board, pass: &mut Pass, spare: &mut Row, gate: &G)
         ⊎ LooksMore (most_scans (strips_of board.now)) (strips_of board.now) (parts_of pass.old) (parts_of pass.new) }
 {
     let most = 6 * u64::from(board.strips()) + MORE_SCANS;
-    for _scan in 0..most {
+    for _round in 0..most {
         let handed = scan(board, pass, spare, gate);
         if is_over(board, pass) {
             return;
