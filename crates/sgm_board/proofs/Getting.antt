@@ -1,6 +1,8 @@
 -- What stands at a place of a list.
-use Rattle.std.proofs.Common.{◌≡◌, ℕ, zero, suc, ◌+◌, ◌<◌, ◌⊎◌, List, [], ◌∷◌, ◌++◌, length, sym, refl, ap, ◌∙◌, inl, inr, ⊎_elim, arith, Option, Some, None}
+use Rattle.std.proofs.Common.{◌≡◌, ℕ, zero, suc, ◌+◌, ◌<◌, ◌⊎◌, List, [], ◌∷◌, ◌++◌, length, sym, refl, ap, ◌∙◌, inl, inr, ⊎_elim, arith, subst, All, Option, Some, None}
 use Rattle.std.specs.List.{slice_get}
+use Rattle.std.proofs.lemmas.Option.{get_or_from_slice_get, slice_get_within}
+use Rattle.std.proofs.lemmas.List.Elements.{All-append}
 use mathlib.Core.Option.{some, some-injective, some-ne-none}
 use lib.ListN.{get_elem?}
 
@@ -28,3 +30,13 @@ pub some_at : {A : Type 0} (xs : List A) (i : ℕ) → i < length xs → (a : A)
 some_at [] i l = absurd (omega arith)
 some_at (x ∷ xs) zero l = (x, refl)
 some_at (x ∷ xs) (suc i) l = some_at xs i (omega arith)
+
+pub all_at : {A : Type 0} (P : A → Type 0) (xs : List A) (i : ℕ) (a : A) → All P xs → slice_get xs i ≡ Some a → P a
+all_at P xs i a h e = subst P (get_or_from_slice_get xs i a a e) (h i a (slice_get_within xs i a e))
+
+one : {A : Type 0} (P : A → Type 0) (a : A) → P a → All P (a ∷ [])
+one P a p zero d l = p
+one P a p (suc i) d l = absurd (omega arith)
+
+pub All-push : {A : Type 0} (P : A → Type 0) (xs : List A) (a : A) → All P xs → P a → All P (xs ++ a ∷ [])
+All-push P xs a all last = All-append P xs (a ∷ []) all (one P a last)

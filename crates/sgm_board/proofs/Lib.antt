@@ -22,3 +22,8 @@ pub mod Dealt
 pub mod Parts
 pub mod Visits
 pub mod Options
+pub mod Laying
+pub mod Starting
+pub mod Emptying
+pub mod Ending
+pub mod Lawful

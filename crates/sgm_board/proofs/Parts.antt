@@ -1,5 +1,5 @@
 -- What contracts see of a pass, over each kind of step.
-use Rattle.std.proofs.Common.{◌≡◌, ◌≢◌, ℕ, ◌+◌, ◌*◌, ◌<◌, ◌≤◌, Bool, true, false, ◌&&◌, ◌||◌, ◌==◌, cond, nat_lt, List, get_or, max, sym, refl, ap, ◌∙◌, arith, eq-eqb, ne_eqb, lt-ltb, le-ltb, lt_of_not-le, Option, Some, None, is_some}
+use Rattle.std.proofs.Common.{◌≡◌, ◌≢◌, ℕ, ◌+◌, ◌*◌, ◌<◌, ◌≤◌, Bool, true, false, ◌&&◌, ◌||◌, ◌==◌, cond, nat_lt, List, [], ◌∷◌, get_or, max, sym, refl, ap, ◌∙◌, arith, eq-eqb, ne_eqb, lt-ltb, le-ltb, lt_of_not-le, Option, Some, None, is_some}
 use mathlib.Core.Logic.{dite}
 use native.Mathlib.Decide.{ℕ_discrete, dec_le}
 use Rattle.std.proofs.lemmas.Bool.{true≢false}
@@ -10,14 +10,15 @@ use Rattle.sgm_strip.specs.Parcels.{ParcelParts, IsParcel, is_done}
 use Rattle.sgm_handover.specs.Handover.{changed}
 use Rattle.sgm_handover.proofs.Maps.{changed_there, changed_else}
 use Rattle.sgm_energy.proofs.DirLemmas.{same_number}
+use Rattle.sgm_board.specs.declared.view.About.{About}
 use Rattle.sgm_board.specs.declared.view.View.{View}
 use Rattle.sgm_board.specs.Tallies.{has, put_at}
 use Rattle.sgm_board.specs.Words.{dir_word, strip_word}
 use Rattle.sgm_board.specs.Views as view
 use Rattle.sgm_board.specs.Views.{has_read, is_known_done, shows_done, try_place, joined_view}
 use Rattle.sgm_board.specs.Pockets.{ReadsAll, HasRead}
-use Rattle.sgm_board.specs.Passes.{PassParts, parts_of_view, after_look, after_claim, after_return, after_try, after_put, HasReadAll, HasJoined}
-use Rattle.sgm_board.proofs.Tallies.{put_at_here, put_at_else, or_left, or_right, has-append_is, get-greater}
+use Rattle.sgm_board.specs.Passes.{PassParts, parts_of_view, new_pass, after_look, after_claim, after_return, after_try, after_put, HasReadAll, HasJoined}
+use Rattle.sgm_board.proofs.Tallies.{put_at_here, put_at_else, or_left, or_right, or_false, has-append_is, get-greater}
 use Rattle.sgm_board.proofs.Dirs.{dir_word_lt, other_word}
 
 -- a list that is written to is, by place, the changed map
@@ -44,6 +45,16 @@ parts-look v word found = λ i. record (parts_of_view v) {
 
 no_read : (dir : Dir) → cond (is_level dir) false false ≡ false
 no_read dir = either_level dir _ (λ e. ap (λ (b : Bool). cond b false false) e) (λ e. ap (λ (b : Bool). cond b false false) e)
+
+no_tries : (dir : Dir) → cond {A = ℕ} (is_level dir) 0 0 ≡ 0
+no_tries dir = either_level dir _ (λ e. ap (λ (b : Bool). cond {A = ℕ} b 0 0) e) (λ e. ap (λ (b : Bool). cond {A = ℕ} b 0 0) e)
+
+pub parts-new : (about : Option About) (number : ℕ) → parts_of_view (view.new_view about number (number ∷ [])) ≡ new_pass number
+parts-new about number = λ i. record (new_pass number) {
+  gathered = λ other. or_false (number == other) i;
+  read = λ dir. no_read dir i;
+  tries = λ strip dir. no_tries dir i;
+}
 
 pub parts-return : (v : View) → parts_of_view (view.after_return v) ≡ after_return (parts_of_view v)
 parts-return v = λ i. record (parts_of_view v) { strip = None; done = λ dir. false; read = λ dir. no_read dir i }
@@ -106,7 +117,7 @@ module _ (v : View) where
       let dd = same_number d dir e in
       let flat : is_level d ≡ false = ap is_level dd ∙ level in
       let known : is_known_done w d ≡ true =
-          or_right (is_done v.done_at_claim d) ((dir_word dir == dir_word d) || has v.put_since (dir_word d)) (or_left (dir_word dir == dir_word d) (has v.put_since (dir_word d)) (eq-eqb (dir_word dir) (dir_word d) (ap dir_word (sym dd)))) in
+      or_right (is_done v.done_at_claim d) ((dir_word dir == dir_word d) || has v.put_since (dir_word d)) (or_left (dir_word dir == dir_word d) (has v.put_since (dir_word d)) (eq-eqb (dir_word dir) (dir_word d) (ap dir_word (sym dd)))) in
       (λ i. is_some (held i) && (flat i || (all strip d held flat i && known i))) ∙ sym (changed_there number_of (shows_done v) dir true d e))
       (λ ne.
       either_level d _
@@ -130,15 +141,11 @@ level_done_in parcel Up kept e = absurd (true≢false (sym e))
 level_done_in parcel UpRight kept e = absurd (true≢false (sym e))
 level_done_in parcel UpLeft kept e = absurd (true≢false (sym e))
 
-or_none : (b : Bool) → (b || false) ≡ b
-or_none true = refl
-or_none false = refl
-
 module _ (strips strip : ℕ) (v w : View) (parcel : ParcelParts) (kept : IsParcel parcel) (h : HasRead strips 6 (view.after_claim (view.after_look v (strip_word strip) 0) strip parcel.done) w) where
   pub shows_claimed : (dir : Dir) → shows_done w dir ≡ is_done parcel.done dir
   shows_claimed dir = either_level dir _
       (λ up. (λ i. is_some (h.strip i) && (up i || (has_read w dir && is_known_done w dir))) ∙ sym (level_done_in parcel dir kept up))
-      (λ flat. (λ i. is_some (h.strip i) && (flat i || (h.reads (dir_word dir) (dir_word_lt dir) i && (is_done (h.done_at_claim i) dir || has (h.put_since i) (dir_word dir))))) ∙ or_none (is_done parcel.done dir))
+      (λ flat. (λ i. is_some (h.strip i) && (flat i || (h.reads (dir_word dir) (dir_word_lt dir) i && (is_done (h.done_at_claim i) dir || has (h.put_since i) (dir_word dir))))) ∙ or_false (is_done parcel.done dir))
 
   abbrev claimed : PassParts
   claimed = after_claim (after_look (parts_of_view v) (strip_word strip) 0) strip (is_done parcel.done)

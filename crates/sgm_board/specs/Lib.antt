@@ -7,6 +7,7 @@ pub mod Plans
 pub mod Events
 pub mod Ready
 pub mod Settled
+pub mod Emptied
 pub mod Passes
 pub mod Pockets
 pub mod Dealt

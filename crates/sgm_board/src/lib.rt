@@ -5,14 +5,18 @@
 
 mod board;
 mod calls;
-
+mod close;
 mod deal;
+pub mod laws;
 mod pass;
 mod rule;
 mod slot;
-
+mod start;
 mod steps;
 mod view;
 
 pub use board::Board;
 pub use pass::Pass;
+
+#[cfg(test)]
+mod tests;
