@@ -1,7 +1,8 @@
 -- The words of directions, and the positions of strips.
-use Rattle.std.proofs.Common.{◌≡◌, ◌≢◌, ℕ, ◌-◌, ◌<◌, Bool, true, false, arith, cond, refl, sym, ◌∙◌, Some}
+use Rattle.std.proofs.Common.{◌≡◌, ◌≢◌, ℕ, ◌-◌, ◌<◌, Bool, true, false, arith, cond, refl, sym, ap, ◌∙◌, Some, None}
 use Rattle.sgm_energy.specs.declared.dir.Dir.{Dir}
-use Rattle.sgm_energy.specs.Dirs.{number_of, is_level, goes_down, position_of, strip_at, front_of}
+use Rattle.sgm_energy.specs.declared.dir.Dir.TheVariants.{Right, Left, Down, DownRight, DownLeft, Up, UpRight, UpLeft}
+use Rattle.sgm_energy.specs.Dirs.{number_of, is_level, goes_down, position_of, strip_at, front_of, dir_of_front}
 use Rattle.sgm_energy.proofs.DirLemmas.{same_number}
 use Rattle.sgm_handover.proofs.Dirs.{front_lt, same_front, front_is}
 use Rattle.sgm_board.specs.Words.{dir_word, strip_word}
@@ -40,3 +41,20 @@ strip_at-position_of dir strip strips h = twice_either (goes_down dir) strips st
 
 pub position_of-strip_at : (dir : Dir) (position strips : ℕ) → position < strips → position_of dir (strip_at dir position strips) strips ≡ position
 position_of-strip_at dir position strips h = twice_either (goes_down dir) strips position h
+
+none_place : (place : ℕ) → None ≡ Some place → ⊥
+none_place place e = cc
+
+at_place : (a b : ℕ) → Some a ≡ Some b → dir_of_front b ≡ dir_of_front a
+at_place a b e = let same : a ≡ b = cc in ap dir_of_front (sym same)
+
+-- the front of a direction is that direction's alone
+pub dir_of_front-front_of : (dir : Dir) (place : ℕ) → front_of dir ≡ Some place → dir_of_front place ≡ Some dir
+dir_of_front-front_of Right place e = absurd (none_place place e)
+dir_of_front-front_of Left place e = absurd (none_place place e)
+dir_of_front-front_of Down place e = at_place 0 place e
+dir_of_front-front_of DownRight place e = at_place 1 place e
+dir_of_front-front_of DownLeft place e = at_place 2 place e
+dir_of_front-front_of Up place e = at_place 3 place e
+dir_of_front-front_of UpRight place e = at_place 4 place e
+dir_of_front-front_of UpLeft place e = at_place 5 place e

@@ -1,5 +1,5 @@
 -- What stands at a place of a list.
-use Rattle.std.proofs.Common.{◌≡◌, ℕ, zero, suc, ◌<◌, ◌⊎◌, List, [], ◌∷◌, ◌++◌, length, sym, refl, ap, inl, inr, ⊎_elim, arith, subst, All, Some, None}
+use Rattle.std.proofs.Common.{◌≡◌, ℕ, zero, suc, ◌<◌, ◌⊎◌, List, [], ◌∷◌, ◌++◌, length, sym, refl, ◌∙◌, ap, inl, inr, ⊎_elim, arith, subst, All, Some, None}
 use Rattle.std.specs.List.{slice_get}
 use Rattle.std.proofs.lemmas.Option.{get_or_from_slice_get, slice_get_within}
 use Rattle.std.proofs.lemmas.List.Elements.{All-append}
@@ -40,3 +40,8 @@ one P a p (suc i) d l = absurd (omega arith)
 
 pub All-push : {A : Type 0} (P : A → Type 0) (xs : List A) (a : A) → All P xs → P a → All P (xs ++ a ∷ [])
 All-push P xs a all last = All-append P xs (a ∷ []) all (one P a last)
+
+-- a list that grows by one, each of which fits its place
+pub each-push : {A : Type 0} (P : ℕ → A → Type 0) (xs : List A) (a : A) (n : ℕ) → length xs ≡ n → ((i : ℕ) (x : A) → slice_get xs i ≡ Some x → P i x) → P n a → (i : ℕ) (x : A) → slice_get (xs ++ a ∷ []) i ≡ Some x → P i x
+each-push {A = A} P xs a n long all last i x h = ⊎_elim (λ (e : slice_get xs i ≡ Some x). all i x e)
+    (λ (t : (i ≡ length xs) × (a ≡ x)). subst (λ (z : ℕ × A). P z.0 z.1) (λ j. (sym (t.0 ∙ long) j, t.1 j)) last) (get-push xs a x i h)

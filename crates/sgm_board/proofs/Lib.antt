@@ -27,3 +27,6 @@ pub mod Starting
 pub mod Emptying
 pub mod Ending
 pub mod Lawful
+pub mod Handing
+pub mod Crossing
+pub mod Settling

@@ -46,6 +46,7 @@ impl Board {
         requires parcel { IsHeld self.now (parts_of pass.old) parcel.now }
         requires across { is_level dir ≡ false }
         ensures own { IsPassOf self.now pass.new }
+        ensures held { IsHeld self.now (parts_of pass.new) parcel.now }
         ensures front { IfSome result (λ front. IsFrontOn self.now front × (front.dir ≡ dir)) }
         ensures next { IfSome result (λ front. length front.visits ≡ position_of dir parcel.now.strip (strips_of self.now)) }
         ensures left { IfSome result (λ _. is_done parcel.now.done dir ≡ false) }

@@ -40,6 +40,7 @@ fn after(dir: Dir, k: usize, strips: usize) -> usize
 fn hand_through(parcels: &mut Vec<Parcel>, front: &mut Front, spare: &mut Row)
     requires spare { spare.old ≡ row_length front.old.scene }
     requires kind { All (IsOf front.old.scene front.old.cut) parcels.old.items }
+    ensures front { (front.new.scene ≡ front.old.scene) × (front.new.cut ≡ front.old.cut) }
     ensures spare { spare.new ≡ spare.old }
     ensures kind { All (IsOf front.old.scene front.old.cut) parcels.new.items }
 {
@@ -50,12 +51,11 @@ fn hand_through(parcels: &mut Vec<Parcel>, front: &mut Front, spare: &mut Row)
 }
 
 /// Hands each front through the strips that are left.
-pub(super) fn finish(mut parcels: Vec<Parcel>, fronts: Vec<Front>, spare: &mut Row) -> Vec<Parcel>
+pub(super) fn finish(mut parcels: Vec<Parcel>, mut fronts: Vec<Front>, spare: &mut Row) -> Vec<Parcel>
     requires settled { (scene : SceneParts) × (cut : CutParts) × (spare.old ≡ row_length scene) × AreSettled scene cut parcels.items fronts.items }
 {
-    for front in fronts {
-        let mut front = front;
-        hand_through(&mut parcels, &mut front, spare);
+    for number in 0..fronts.len() {
+        hand_through(&mut parcels, &mut fronts[number], spare);
     }
     parcels
 }

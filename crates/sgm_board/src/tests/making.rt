@@ -68,7 +68,9 @@ fn fronts_of(alloc: Global, scene: &Scene, cut: Cut) -> Result<Vec<Front>, Fail>
 {
     let mut fronts = Vec::new(alloc);
     for number in 0..6 {
-        let dir = dir_of(number).ok_or("front")?;
+        let Some(dir) = dir_of(number) else {
+            return Err("front")?;
+        };
         let front = Front::make(alloc, scene, cut, dir)?;
         fronts.push(front)?;
     }
@@ -100,8 +102,12 @@ pub(super) fn both_of(board: &Board, mut passes: Vec<Pass>) -> Result<(Pass, Pas
     ensures first { IfOk result (λ both. IsPassOf board.now both.0 × (parts_of both.0 ≡ new_pass 0)) }
     ensures second { IfOk result (λ both. IsPassOf board.now both.1 × (parts_of both.1 ≡ new_pass 1)) }
 {
-    let second = passes.pop().ok_or("a pass")?;
-    let first = passes.pop().ok_or("a pass")?;
     let _ = board;
+    let Some(second) = passes.pop() else {
+        return Err("a pass")?;
+    };
+    let Some(first) = passes.pop() else {
+        return Err("a pass")?;
+    };
     Ok((first, second))
 }

@@ -6,6 +6,7 @@ use Rattle.sgm_board.specs.Views as view
 use Rattle.sgm_board.specs.Views.{IsLive}
 use Rattle.sgm_board.specs.Pockets.{ReadsAll, pocket}
 use Rattle.sgm_board.specs.Passes.{parts_of_view, after_look, after_try, after_take}
+use Rattle.sgm_board.proofs.Handing.{still_held}
 use Rattle.sgm_board.proofs.Options.{if_some_map, if_none_map, either_way}
 use Rattle.sgm_board.proofs.Parts.{parts-look, parts-try}
 use Rattle.sgm_board.proofs.board.Board.try_take.Goals as goal
@@ -36,6 +37,17 @@ invariant_of-pass c =
       read = subst ReadsAll new p.read;
       slots = ap (λ m. m.1) now ∙ (p.slots ∙ (λ i. pocket (new i).strip (new i).front));
     })
+    c.take.ensures.some c.take.ensures.none
+
+pub returns-clause-held : goal.returns-clause-held
+returns-clause-held c =
+    let parcel = c.args.parcel.now in
+    let board = c.args.self.now in
+    let before = parts_of_view c.args.pass.now.seat.me.0 in
+    let after = parts_of_view c.take.new.seat.me.0 in
+    either_way c.take.result _ _ _
+    (λ front now. let e = ap (λ m. parts_of_view m.0) now in still_held board before after parcel (ap (λ p. p.strip) e) (ap (λ p. p.done) e) c.requires.parcel)
+    (λ none. let e = ap (λ m. parts_of_view m.0) none.2 in still_held board before after parcel (ap (λ p. p.strip) e) (ap (λ p. p.done) e) c.requires.parcel)
     c.take.ensures.some c.take.ensures.none
 
 pub returns-clause-some : goal.returns-clause-some
