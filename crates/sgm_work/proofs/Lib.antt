@@ -4,3 +4,5 @@ pub mod Ending
 pub mod Adding
 pub mod Visiting
 pub mod Glancing
+pub mod Threads
+pub mod Crews
