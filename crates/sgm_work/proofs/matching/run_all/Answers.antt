@@ -1,5 +1,4 @@
 use denote.Param.Send.{sendable}
-use Rattle.std.proofs.Crossing.{crosses}
 use Rattle.sgm_work.proofs.Threads.{board_sync, crew_send}
 use Rattle.sgm_work.proofs.matching.run_all.Goals as goal
 
