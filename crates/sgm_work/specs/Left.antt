@@ -7,10 +7,12 @@ use Rattle.sgm_strip.specs.Parcels.{ParcelParts, is_done}
 -- the direction is done in just the parcels at its first k positions
 abbrev pub IsDoneFirst : Dir → ℕ → ℕ → List ParcelParts → Type 0
 IsDoneFirst dir strips k parcels =
-    (strip : ℕ) (parcel : ParcelParts) → slice_get parcels strip ≡ Some parcel → is_done parcel.done dir ≡ nat_lt (position_of dir strip strips) k
+    (strip : ℕ) (parcel : ParcelParts) → slice_get parcels strip ≡ Some parcel
+    → is_done parcel.done dir ≡ nat_lt (position_of dir strip strips) k
 
 -- each other direction is done where it was
 abbrev pub KeepsOthers : Dir → List ParcelParts → List ParcelParts → Type 0
 KeepsOthers dir old new =
-    (strip : ℕ) (before after : ParcelParts) (other : Dir) → number_of other ≢ number_of dir → slice_get old strip ≡ Some before → slice_get new strip ≡ Some after
+    (strip : ℕ) (before after : ParcelParts) (other : Dir) → number_of other ≢ number_of dir
+    → slice_get old strip ≡ Some before → slice_get new strip ≡ Some after
     → is_done after.done other ≡ is_done before.done other

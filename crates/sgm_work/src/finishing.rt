@@ -43,8 +43,10 @@ fn finish_front(parcels: &mut [Parcel], front: &mut Front, spare: &mut Row)
 /// of their scene. Takes no memory.
 pub fn finish(parcels: &mut [Parcel], fronts: &mut [Front], spare: &mut Row)
     requires settled { CanFinish parcels.old fronts.old spare.old }
-    ensures finished { (scene : SceneParts) (cut : CutParts) → AreSettled scene cut parcels.old fronts.old → AreFinished scene cut parcels.new fronts.new }
-    ensures complete { (scene : SceneParts) (cut : CutParts) → AreSettled scene cut parcels.old fronts.old → AreComplete scene parcels.new }
+    ensures finished { (scene : SceneParts) (cut : CutParts) → AreSettled scene cut parcels.old fronts.old
+        → AreFinished scene cut parcels.new fronts.new }
+    ensures complete { (scene : SceneParts) (cut : CutParts) → AreSettled scene cut parcels.old fronts.old
+        → AreComplete scene parcels.new }
     ensures goes_on { AllZip (GoesOnBy 16) fronts.old fronts.new }
     ensures spare { spare.new ≡ spare.old }
 {

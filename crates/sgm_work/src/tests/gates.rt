@@ -3,19 +3,33 @@ use crate::Gate;
 use std::sync::atomic::{AtomicU64, Ordering};
 use std::thread::yield_now;
 
-/// Remembers its first sixteen calls in order.
+fn zero() -> AtomicU64 {
+    AtomicU64::new(0)
+}
+
+/// Remembers its first nine calls in order, and how many there were.
 #[derive(Drop)]
 pub(super) struct Recorder {
     calls: AtomicU64,
     // 64 times the worker, and the strip.
-    places: [AtomicU64; 16],
+    places: [AtomicU64; 9],
 }
 
 impl Recorder {
     pub(super) fn new() -> Recorder {
         Recorder {
-            calls: AtomicU64::new(0),
-            places: [const { AtomicU64::new(0) }; 16],
+            calls: zero(),
+            places: [
+                zero(),
+                zero(),
+                zero(),
+                zero(),
+                zero(),
+                zero(),
+                zero(),
+                zero(),
+                zero(),
+            ],
         }
     }
 
@@ -54,9 +68,9 @@ pub(super) struct Meeting {
 impl Meeting {
     pub(super) fn new() -> Meeting {
         Meeting {
-            called: [const { AtomicU64::new(0) }; 2],
-            come: [const { AtomicU64::new(0) }; 4],
-            ended: AtomicU64::new(0),
+            called: [zero(), zero()],
+            come: [zero(), zero(), zero(), zero()],
+            ended: zero(),
         }
     }
 
