@@ -11,7 +11,7 @@ use Rattle.sgm_strip.specs.declared.front.Visit.{Visit}
 use Rattle.sgm_strip.proofs.Sets.{done_here, done_else}
 use Rattle.sgm_handover.specs.Handover.{changed}
 use Rattle.sgm_handover.proofs.Maps.{changed_there, changed_else}
-use Rattle.sgm_handover.proofs.Dirs.{same_number}
+use Rattle.sgm_energy.proofs.DirLemmas.{same_number}
 use Rattle.sgm_board.specs.Passes.{PassParts}
 use Rattle.sgm_board.specs.Boards.{IsHeld}
 use Rattle.sgm_board.specs.declared.board.Board.{Board}
