@@ -1,57 +1,40 @@
 //! What no clause says: that boards can be made, and that threads finish one.
 mod finishing;
 mod making;
+mod taking;
 mod working;
 
 use self::finishing::{finish, has_sums};
-use self::making::{board_of, both_of, scene_of};
-use self::working::{hand_on, work_both};
-use sgm_energy::Dir;
-use sgm_strip::Row;
+use self::making::{row_of, scene_of, two_passes};
+use self::taking::{lower_strip_goes_first, refuses, upper_strip_goes_second};
+use self::working::work_both;
 use std::test::Fail;
 
 #[test]
 fn a_strip_and_a_front_go_to_one_pass_at_a_time(rt: HostRuntime) -> Result<(), Fail> {
-    let alloc = rt.alloc();
-    let scene = scene_of(alloc)?;
-    let (board, passes) = board_of(alloc, &scene, 2, 2)?;
+    let scene = scene_of(rt.alloc())?;
+    let (board, mut first, mut second) = two_passes(rt.alloc(), &scene, 2)?;
+    let mut spare = row_of(rt.alloc(), &scene)?;
     if board.strips() != 2 {
         return Err("strips")?;
     }
-    let (mut first, mut second) = both_of(&board, passes)?;
-    assert_eq!(rt; (first.number(), second.number()), (0, 1));
     let Some(upper) = board.try_claim(&mut first, 0) else {
         return Err("strip 0 is free")?;
     };
-    let None = board.try_claim(&mut second, 0) else {
-        return Err("strip 0 is held")?;
-    };
-    let Some(mut lower) = board.try_claim(&mut second, 1) else {
-        return Err("strip 1 is free")?;
-    };
-    let mut spare = Row::make(alloc, lower.size(), lower.span())?;
-    let down = hand_on(&board, &mut second, &mut lower, &mut spare, Dir::Down);
-    assert!(rt; !down, "strip 1 comes second in the direction Down");
-    let up = hand_on(&board, &mut second, &mut lower, &mut spare, Dir::Up);
-    assert!(rt; up, "strip 1 comes first in the direction Up");
-    assert_eq!(rt; board.passed(&mut first, Dir::Up), 1);
-    let Some(front) = board.try_take(&mut first, &upper, Dir::Up) else {
-        return Err("strip 0 comes second in the direction Up")?;
-    };
-    assert_eq!(rt; (front.next(), front.visits()[0].worker), (1, 1));
+    assert!(rt; refuses(&board, &mut second, 0), "strip 0 is held");
+    lower_strip_goes_first(&board, &mut second, &mut spare)?;
+    upper_strip_goes_second(&board, &mut first, &upper)?;
     Ok(())
 }
 
 #[test]
 fn two_threads_complete_a_board_of_three_strips(rt: HostRuntime) -> Result<(), Fail> {
-    let alloc = rt.alloc();
-    let scene = scene_of(alloc)?;
-    let (board, passes) = board_of(alloc, &scene, 3, 2)?;
-    let (first, second) = both_of(&board, passes)?;
-    let spare = Row::make(alloc, scene.size(), scene.span())?;
-    let other_spare = Row::make(alloc, scene.size(), scene.span())?;
-    let (parcels, fronts) = work_both(&rt, board, (first, spare), (second, other_spare));
-    let mut spare = Row::make(alloc, scene.size(), scene.span())?;
+    let scene = scene_of(rt.alloc())?;
+    let (board, first, second) = two_passes(rt.alloc(), &scene, 3)?;
+    let first = (first, row_of(rt.alloc(), &scene)?);
+    let second = (second, row_of(rt.alloc(), &scene)?);
+    let mut spare = row_of(rt.alloc(), &scene)?;
+    let (parcels, fronts) = work_both(&rt, board, first, second);
     let parcels = finish(parcels, fronts, &mut spare);
     assert_eq!(rt; parcels.len(), 3);
     assert!(rt; parcels.iter().all(|parcel| has_sums(parcel)));

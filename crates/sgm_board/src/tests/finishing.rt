@@ -51,7 +51,11 @@ fn hand_through(parcels: &mut Vec<Parcel>, front: &mut Front, spare: &mut Row)
 }
 
 /// Hands each front through the strips that are left.
-pub(super) fn finish(mut parcels: Vec<Parcel>, mut fronts: Vec<Front>, spare: &mut Row) -> Vec<Parcel>
+pub(super) fn finish(
+    mut parcels: Vec<Parcel>,
+    mut fronts: Vec<Front>,
+    spare: &mut Row,
+) -> Vec<Parcel>
     requires settled { (scene : SceneParts) × (cut : CutParts) × (spare.old ≡ row_length scene) × AreSettled scene cut parcels.items fronts.items }
 {
     for number in 0..fronts.len() {

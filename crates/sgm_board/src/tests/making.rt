@@ -5,6 +5,7 @@ ghost use Rattle.sgm_energy.specs.declared.dir.Dir.{Dir};
 ghost use Rattle.sgm_energy.specs.Dirs.{is_level, front_of, dir_of_front};
 ghost use Rattle.sgm_strip.specs.Parcels.{level_done};
 ghost use Rattle.sgm_strip.specs.Fronts.{FrontParts};
+ghost use Rattle.sgm_strip.specs.Scenes.{row_length};
 ghost use Rattle.sgm_strip.specs.Strips.{AreStrips};
 ghost use Rattle.sgm_board.specs.Ready.{IsNewFront};
 ghost use Rattle.sgm_board.specs.Passes.{new_pass};
@@ -14,7 +15,7 @@ use crate::{Board, Pass};
 use sgm_base::{MAX_STRIPS, MAX_WORKERS, Plane, Size, Span};
 use sgm_census::{CodePlane, Window, codes};
 use sgm_energy::{Dir, Pen};
-use sgm_strip::{Cut, Front, Parcel, Scene};
+use sgm_strip::{Cut, Front, Parcel, Row, Scene};
 use std::alloc::Global;
 use std::test::Fail;
 
@@ -78,7 +79,7 @@ fn fronts_of(alloc: Global, scene: &Scene, cut: Cut) -> Result<Vec<Front>, Fail>
 }
 
 /// A board of so many strips, or of three, with its passes.
-pub(super) fn board_of(
+fn board_of(
     alloc: Global,
     scene: &Scene,
     strips: u32,
@@ -97,7 +98,7 @@ pub(super) fn board_of(
 }
 
 /// The two passes of a board.
-pub(super) fn both_of(board: &Board, mut passes: Vec<Pass>) -> Result<(Pass, Pass), Fail>
+fn both_of(board: &Board, mut passes: Vec<Pass>) -> Result<(Pass, Pass), Fail>
     requires { (vec_len passes ≡ 2) × AreNew board.now passes.items }
     ensures first { IfOk result (λ both. IsPassOf board.now both.0 × (parts_of both.0 ≡ new_pass 0)) }
     ensures second { IfOk result (λ both. IsPassOf board.now both.1 × (parts_of both.1 ≡ new_pass 1)) }
@@ -110,4 +111,28 @@ pub(super) fn both_of(board: &Board, mut passes: Vec<Pass>) -> Result<(Pass, Pas
         return Err("a pass")?;
     };
     Ok((first, second))
+}
+
+/// A board of so many strips, or of three, and its two passes.
+pub(super) fn two_passes(
+    alloc: Global,
+    scene: &Scene,
+    strips: u32,
+) -> Result<(Board, Pass, Pass), Fail>
+    requires { (1 ≤ strips) × (strips ≤ MAX_STRIPS) }
+    ensures scene { IfOk result (λ made. scene_of made.0 ≡ scene.now) }
+    ensures passes { IfOk result (λ made. passes_of made.0 ≡ 2) }
+    ensures first { IfOk result (λ made. IsPassOf made.0 made.1 × (parts_of made.1 ≡ new_pass 0)) }
+    ensures second { IfOk result (λ made. IsPassOf made.0 made.2 × (parts_of made.2 ≡ new_pass 1)) }
+{
+    let (board, passes) = board_of(alloc, scene, strips, 2)?;
+    let (first, second) = both_of(&board, passes)?;
+    Ok((board, first, second))
+}
+
+/// Room for a row.
+pub(super) fn row_of(alloc: Global, scene: &Scene) -> Result<Row, Fail>
+    ensures { IfOk result (λ row. row ≡ row_length scene.now) }
+{
+    Ok(Row::make(alloc, scene.size(), scene.span())?)
 }

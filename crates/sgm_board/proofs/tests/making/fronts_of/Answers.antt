@@ -15,12 +15,16 @@ loop-number-preserved c =
     let front = c.in_ok-front.front in
     let made = c.in_ok-front.ensures.made in
     let fits : ℕ → FrontParts → Type 0 = λ place f. (d : Dir) × (dir_of_front place ≡ Some d) × IsNewFront c.args.scene.now c.args.cut d f in
-    let is : fits c.loop-number.number front = (dir, c.in-Some.ensures.dir, record {
-      same_scene = ap (λ (f : FrontParts). f.scene) made;
-      same_cut = ap (λ (f : FrontParts). f.cut) made;
-      same_dir = ap (λ (f : FrontParts). f.dir) made;
-      unvisited = ap (λ (f : FrontParts). f.visits) made;
-    }) in
+    let is : fits c.loop-number.number front = (
+      dir,
+      c.in-Some.ensures.dir,
+      record {
+        same_scene = ap (λ (f : FrontParts). f.scene) made;
+        same_cut = ap (λ (f : FrontParts). f.cut) made;
+        same_dir = ap (λ (f : FrontParts). f.dir) made;
+        unvisited = ap (λ (f : FrontParts). f.visits) made;
+      },
+    ) in
     let items : c.push.new.self.items ≡ old ++ front ∷ [] = c.in_ok-push.ensures.items in
     record {
       all = ap length items ∙ (length-append old (front ∷ []) ∙ omega (arith, inv.all));
