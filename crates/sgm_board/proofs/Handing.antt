@@ -1,12 +1,11 @@
 -- The parcel of the strip held, while fronts go through it.
-use Rattle.std.proofs.Common.{◌≡◌, ◌≢◌, ℕ, ◌-◌, ◌+◌, true, Bool, List, [], ◌∷◌, ◌++◌, length, length-append, sym, ap, ◌∙◌, subst, refl, arith, Some}
+use Rattle.std.proofs.Common.{◌≡◌, ℕ, ◌-◌, ◌+◌, true, Bool, List, [], ◌∷◌, ◌++◌, length, length-append, sym, ap, ◌∙◌, refl, arith, Some}
 use mathlib.Core.Logic.{dite}
 use native.Mathlib.Decide.{ℕ_discrete}
 use Rattle.std.specs.List.{slice_get}
 use Rattle.sgm_energy.specs.declared.dir.Dir.{Dir}
 use Rattle.sgm_energy.specs.Dirs.{number_of}
 use Rattle.sgm_strip.specs.Parcels.{ParcelParts, is_done, with_done, parcel_of}
-use Rattle.sgm_strip.specs.Fronts.{FrontParts, visit_of}
 use Rattle.sgm_strip.specs.declared.front.Visit.{Visit}
 use Rattle.sgm_strip.proofs.Sets.{done_here, done_else}
 use Rattle.sgm_handover.specs.Handover.{changed}

@@ -1,7 +1,6 @@
 -- Settled parcels and fronts are all of the scene and the cut.
-use Rattle.std.proofs.Common.{◌≡◌, ℕ, ◌-◌, ◌<◌, List, length, get_or, sym, ap, ◌∙◌, All, Some, arith}
+use Rattle.std.proofs.Common.{◌≡◌, ℕ, List, get_or, ap, ◌∙◌, All, Some, arith}
 use Rattle.std.proofs.lemmas.Option.{slice_get-get_or}
-use Rattle.sgm_energy.specs.Dirs.{number_of}
 use Rattle.sgm_handover.proofs.Dirs.{dir_of, front_is}
 use Rattle.sgm_strip.specs.Cuts.{CutParts}
 use Rattle.sgm_strip.specs.Scenes.{SceneParts}

@@ -38,7 +38,8 @@ pub record IsPassOf (board : Board) (pass : Pass) : Type 0 where
 
 -- the passes are new ones of this board, with the numbers 0, 1, 2 and so on
 abbrev pub AreNew : Board → List Pass → Type 0
-AreNew board passes = (number : ℕ) (pass : Pass) → slice_get passes number ≡ Some pass → IsPassOf board pass × (parts_of pass ≡ new_pass number)
+AreNew board passes = (number : ℕ) (pass : Pass) → slice_get passes number ≡ Some pass
+    → IsPassOf board pass × (parts_of pass ≡ new_pass number)
 
 -- it holds no strip and has no front
 pub record IsIdle (p : PassParts) : Type 0 where

@@ -13,11 +13,14 @@ abbrev pub HaveFronts : List Slot → Type 0
 HaveFronts slots = (place : ℕ) → place < 6 → (front : FrontParts) × (get_elem? slots place ≡ some (OfFront front))
 
 abbrev pub HaveParcels : List Slot → ℕ → Type 0
-HaveParcels slots strips = (strip : ℕ) → strip < strips → (parcel : ParcelParts) × (get_elem? slots (strip_word strip) ≡ some (OfStrip parcel))
+HaveParcels slots strips = (strip : ℕ) → strip < strips
+    → (parcel : ParcelParts) × (get_elem? slots (strip_word strip) ≡ some (OfStrip parcel))
 
 -- these are the first of the fronts in the slots, and these the first of the parcels
 abbrev pub AreFirstFronts : List Slot → List FrontParts → Type 0
-AreFirstFronts slots fronts = (place : ℕ) (front : FrontParts) → slice_get fronts place ≡ Some front → get_elem? slots place ≡ some (OfFront front)
+AreFirstFronts slots fronts = (place : ℕ) (front : FrontParts) → slice_get fronts place ≡ Some front
+    → get_elem? slots place ≡ some (OfFront front)
 
 abbrev pub AreFirstParcels : List Slot → List ParcelParts → Type 0
-AreFirstParcels slots parcels = (strip : ℕ) (parcel : ParcelParts) → slice_get parcels strip ≡ Some parcel → get_elem? slots (strip_word strip) ≡ some (OfStrip parcel)
+AreFirstParcels slots parcels = (strip : ℕ) (parcel : ParcelParts) → slice_get parcels strip ≡ Some parcel
+    → get_elem? slots (strip_word strip) ≡ some (OfStrip parcel)

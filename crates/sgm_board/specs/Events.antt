@@ -33,19 +33,22 @@ with_view s at v = record s { views = slice_set s.views at v }
 
 -- the word is now x, the slot of its number has this or is empty, and the pass at this place knows w
 abbrev pub after_step : State Slot View → ℕ → ℕ → ℕ → maybe.Option Slot → View → State Slot View
-after_step s at word x value w = record { words = slice_set s.words word x; homes = slice_set s.homes word value; views = slice_set s.views at w }
+after_step s at word x value w =
+    record { words = slice_set s.words word x; homes = slice_set s.homes word value; views = slice_set s.views at w }
 
 -- one step of the pass v, which stands at this place, where the board shows m
 pub data Makes (about : About) (m : Handover) (s : State Slot View) (at : ℕ) (v : View) : Event → State Slot View → Type 0 where
   -- the pass, which is live, holds no strip. A strip's word goes from 0 to 1, and its parcel comes out
   claims : (strip : ℕ) (done : List Bool) → IsLive v → v.strip ≡ None → strip < m.strips → found s (strip_word strip) ≡ 0
       → Makes about m s at v (Claim v.number strip)
-      (after_step s at (strip_word strip) 1 maybe.none (after_claim (after_look v (strip_word strip) (found s (strip_word strip))) strip done))
+      (after_step s at (strip_word strip) 1 maybe.none
+      (after_claim (after_look v (strip_word strip) (found s (strip_word strip))) strip done))
   -- the pass holds a strip and has no front. The strip's word becomes 0, and its parcel goes in, with the directions done
   -- whose front has passed the strip
   returns : (strip : ℕ) (parcel : ParcelParts) → v.strip ≡ Some strip → v.front ≡ None → IsParcelAt about strip (has_passed m strip) parcel
       → Makes about m s at v (Return v.number)
-      (after_step s at (strip_word strip) 0 (some (OfStrip parcel)) (after_return (after_look v (strip_word strip) (found s (strip_word strip)))))
+      (after_step s at (strip_word strip) 0 (some (OfStrip parcel))
+      (after_return (after_look v (strip_word strip) (found s (strip_word strip)))))
   -- the pass holds a strip and has no front. A direction's word goes from twice the strip's position to 1 more, and its
   -- front comes out
   takes : (dir : Dir) (strip : ℕ) → is_level dir ≡ false → v.strip ≡ Some strip → v.front ≡ None

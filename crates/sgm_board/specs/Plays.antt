@@ -36,7 +36,8 @@ read_told step old found new = (new ≡ (after_read (after_look old.0 step.word 
 -- the word of a strip was 0 and is 1, and its parcel comes out; or it was 1
 abbrev pub claim_told : Told
 claim_told step old found new = (strip : ℕ) → step.word ≡ strip_word strip
-    → (found ≡ 0 → (parcel : ParcelParts) × (due : Dir → Bool) × (about : About) × (old.0.about ≡ Some about) × IsParcelAt about strip due parcel
+    → (found ≡ 0 → (parcel : ParcelParts) × (due : Dir → Bool) × (about : About)
+    × (old.0.about ≡ Some about) × IsParcelAt about strip due parcel
     × (new ≡ (after_claim (after_look old.0 step.word found) strip parcel.done, (step.word, OfStrip parcel) ∷ old.1)))
     × (found ≢ 0 → (found ≡ 1) × (new ≡ (after_look old.0 step.word found, old.1)))
 
@@ -48,7 +49,8 @@ return_told step old found new = (found ≡ 1) × (new ≡ (after_return (after_
 -- another number
 abbrev pub take_told : Told
 take_told step old found new = (strip : ℕ) (dir : Dir) → old.0.strip ≡ Some strip → is_level dir ≡ false → step.word ≡ dir_word dir
-    → (found ≡ step.first → (front : FrontParts) × (visits : ℕ) × (about : About) × (old.0.about ≡ Some about) × IsFrontAt about dir visits front
+    → (found ≡ step.first → (front : FrontParts) × (visits : ℕ) × (about : About)
+    × (old.0.about ≡ Some about) × IsFrontAt about dir visits front
     × (2 * visits ≡ found) × (is_known_done old.0 dir ≡ false)
     × (new ≡ (after_take (after_try (after_look old.0 step.word found) strip dir) dir, (step.word, OfFront front) ∷ old.1)))
     × (found ≢ step.first → new ≡ (after_try (after_look old.0 step.word found) strip dir, old.1))

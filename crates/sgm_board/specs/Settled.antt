@@ -27,5 +27,6 @@ pub record AreSettled (scene : SceneParts) (cut : CutParts) (parcels : List Parc
   pub level : All (λ parcel. (is_done parcel.done Right ≡ true) × (is_done parcel.done Left ≡ true)) parcels
   pub six : length fronts ≡ 6
   pub each : (dir : Dir) (front : FrontParts) → IsAt fronts dir front → IsFrontOf scene cut dir front
-  pub done : (dir : Dir) (strip : ℕ) (front : FrontParts) (parcel : ParcelParts) → IsAt fronts dir front → slice_get parcels strip ≡ Some parcel
+  pub done : (dir : Dir) (strip : ℕ) (front : FrontParts) (parcel : ParcelParts) → IsAt fronts dir front
+      → slice_get parcels strip ≡ Some parcel
       → is_done parcel.done dir ≡ nat_lt (position_of dir strip cut.strips) (length front.visits)

@@ -38,14 +38,16 @@ one_if_any (Some _) = 1
 -- the word of a strip is 1 where one live pass shows the strip, whose number is then the holder, and otherwise 0
 pub record StripsShown (m : Handover) (words : List ℕ) (views : List View) : Type 0 where
   pub word : (strip : ℕ) → strip < m.strips → slice_index words (strip_word strip) ≡ one_if_any (m.holder strip)
-  pub held : (strip worker : ℕ) → strip < m.strips → m.holder strip ≡ Some worker → Somewhere views (λ v. (v.strip ≡ Some strip) × (v.number ≡ worker))
+  pub held : (strip worker : ℕ) → strip < m.strips → m.holder strip ≡ Some worker
+      → Somewhere views (λ v. (v.strip ≡ Some strip) × (v.number ≡ worker))
   pub holds : (at strip : ℕ) (v : View) → get_elem? views at ≡ some v → v.strip ≡ Some strip → Holds m v.number strip × IsLive v
 
 -- The word of a direction is twice the strips that its front has passed, and 1 more where one live pass shows it, whose
 -- number is then `away`. That pass shows also the strip that the front goes through next
 pub record FrontsShown (m : Handover) (words : List ℕ) (views : List View) : Type 0 where
   pub word : (dir : Dir) → is_level dir ≡ false → slice_index words (dir_word dir) ≡ 2 * m.passed dir + one_if_any (m.away dir)
-  pub out : (dir : Dir) (worker : ℕ) → is_level dir ≡ false → m.away dir ≡ Some worker → Somewhere views (λ v. (v.front ≡ Some dir) × (v.number ≡ worker))
+  pub out : (dir : Dir) (worker : ℕ) → is_level dir ≡ false → m.away dir ≡ Some worker
+      → Somewhere views (λ v. (v.front ≡ Some dir) × (v.number ≡ worker))
   pub has_it : (at : ℕ) (dir : Dir) (v : View) → get_elem? views at ≡ some v → v.front ≡ Some dir
       → (is_level dir ≡ false) × (m.away dir ≡ Some v.number) × IsLive v × (v.strip ≡ Some (next m dir)) × (m.passed dir < m.strips)
 

@@ -63,7 +63,8 @@ after_look v word found = record v { seen = put_at v.seen word found; looks = on
 
 -- a strip is held, in whose parcel these directions are done. No direction's word was read since
 abbrev pub after_claim : View → ℕ → List Bool → View
-after_claim v strip done = record v { strip = Some strip; done_at_claim = done; put_since = []; read_since = []; claims = one_more v.claims strip }
+after_claim v strip done =
+    record v { strip = Some strip; done_at_claim = done; put_since = []; read_since = []; claims = one_more v.claims strip }
 
 -- the word of one direction more was read since the claim
 abbrev pub after_read : View → ℕ → View

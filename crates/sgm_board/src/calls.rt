@@ -1,10 +1,13 @@
 //! The calls on a board. None of them takes memory or waits.
-ghost use Rattle.std.specs.Prelude.{◌≡◌, ◌≢◌, ℕ, ◌+◌, ◌*◌, ◌/◌, ◌<◌, ◌≤◌, true, false, length, Some, None, IfSome, IfNone};
+ghost use Rattle.std.specs.Prelude.{◌≡◌, ◌≢◌, ℕ, ◌+◌, ◌*◌, ◌/◌, ◌<◌};
+ghost use Rattle.std.specs.Prelude.{◌≤◌, true, false, length, Some, None, IfSome, IfNone};
 ghost use Rattle.sgm_energy.specs.Dirs.{is_level, position_of};
 ghost use Rattle.sgm_strip.specs.Parcels.{IsOf, is_done};
 ghost use Rattle.sgm_board.specs.Words.{dir_word, strip_word};
-ghost use Rattle.sgm_board.specs.Passes.{after_look, after_claim, after_return, after_try, after_take, after_put, HasReadAll, HasJoined};
-ghost use Rattle.sgm_board.specs.Boards.{parts_of, scene_of, cut_of, strips_of, IsPassOf, IsIdle, IsHeld, IsFrontOn, IsLastAt};
+ghost use Rattle.sgm_board.specs.Passes.{after_look, after_claim, after_return, after_try};
+ghost use Rattle.sgm_board.specs.Passes.{after_take, after_put, HasReadAll, HasJoined};
+ghost use Rattle.sgm_board.specs.Boards.{parts_of, scene_of, cut_of, strips_of};
+ghost use Rattle.sgm_board.specs.Boards.{IsPassOf, IsIdle, IsHeld, IsFrontOn, IsLastAt};
 
 use crate::board::Board;
 use crate::pass::Pass;
@@ -28,10 +31,12 @@ impl Board {
         requires idle { IsIdle (parts_of pass.old) }
         requires strip { strip < strips_of self.now }
         ensures own { IsPassOf self.now pass.new }
-        ensures parcel { IfSome result (λ parcel. IsOf (scene_of self.now) (cut_of self.now) parcel × (parcel.strip ≡ strip)) }
+        ensures parcel { IfSome result (λ parcel. IsOf (scene_of self.now) (cut_of self.now) parcel
+            × (parcel.strip ≡ strip)) }
         ensures shown { IfSome result (IsHeld self.now (parts_of pass.new)) }
         ensures some { let looked = after_look (parts_of pass.old) (strip_word strip) 0 in
-            IfSome result (λ parcel. HasReadAll (strips_of self.now) (after_claim looked strip (is_done parcel.done)) (parts_of pass.new)) }
+            IfSome result (λ parcel. let claimed = after_claim looked strip (is_done parcel.done) in
+            HasReadAll (strips_of self.now) claimed (parts_of pass.new)) }
         ensures none { IfNone result (parts_of pass.new ≡ after_look (parts_of pass.old) (strip_word strip) 1) }
     {
         steps::claim(&self.table.shared, &mut pass.seat, strip)
@@ -48,14 +53,16 @@ impl Board {
         ensures own { IsPassOf self.now pass.new }
         ensures held { IsHeld self.now (parts_of pass.new) parcel.now }
         ensures front { IfSome result (λ front. IsFrontOn self.now front × (front.dir ≡ dir)) }
-        ensures next { IfSome result (λ front. length front.visits ≡ position_of dir parcel.now.strip (strips_of self.now)) }
+        ensures next { let position = position_of dir parcel.now.strip (strips_of self.now) in
+            IfSome result (λ front. length front.visits ≡ position) }
         ensures left { IfSome result (λ _. is_done parcel.now.done dir ≡ false) }
         ensures some { let due = 2 * position_of dir parcel.now.strip (strips_of self.now) in
             let tried = after_try (after_look (parts_of pass.old) (dir_word dir) due) parcel.now.strip dir in
             IfSome result (λ _. parts_of pass.new ≡ after_take tried dir) }
         ensures none { let due = 2 * position_of dir parcel.now.strip (strips_of self.now) in
             IfNone result ((found : ℕ) × (found ≢ due)
-            × (parts_of pass.new ≡ after_try (after_look (parts_of pass.old) (dir_word dir) found) parcel.now.strip dir)) }
+            × (parts_of pass.new
+            ≡ after_try (after_look (parts_of pass.old) (dir_word dir) found) parcel.now.strip dir)) }
     {
         let strips = self.strips();
         let strip = parcel.strip();

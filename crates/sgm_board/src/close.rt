@@ -19,9 +19,11 @@ use std::alloc::Global;
 /// Takes the fronts out of their slots, in order.
 fn take_fronts(closed: &mut Closed<Slot, Global>, fronts: &mut Vec<Front>)
     requires room { (vec_len fronts.old ≡ 0) × (6 ≤ vec_capacity fronts.old) }
-    requires full { (6 ≤ slots_len closed.old.slots) × Filled (slots_filled closed.old.slots) 0 (slots_len closed.old.slots) }
+    requires full { (6 ≤ slots_len closed.old.slots)
+        × Filled (slots_filled closed.old.slots) 0 (slots_len closed.old.slots) }
     requires each { HaveFronts (slots_items closed.old.slots) }
-    ensures slots { (slots_items closed.new.slots ≡ slots_items closed.old.slots) × (slots_len closed.new.slots ≡ slots_len closed.old.slots) }
+    ensures slots { (slots_items closed.new.slots ≡ slots_items closed.old.slots)
+        × (slots_len closed.new.slots ≡ slots_len closed.old.slots) }
     ensures full { Filled (slots_filled closed.new.slots) 6 (slots_len closed.old.slots) }
     ensures taken { (k : ℕ) → k < 6 → slice_index_or (slots_filled closed.new.slots) k false ≡ false }
     ensures six { length fronts.new.items ≡ 6 }
@@ -38,10 +40,12 @@ fn take_fronts(closed: &mut Closed<Slot, Global>, fronts: &mut Vec<Front>)
 /// Takes the parcels out of theirs.
 fn take_parcels(closed: &mut Closed<Slot, Global>, parcels: &mut Vec<Parcel>, strips: usize)
     requires room { (vec_len parcels.old ≡ 0) × (strips ≤ vec_capacity parcels.old) }
-    requires full { (slots_len closed.old.slots ≡ word_count strips) × Filled (slots_filled closed.old.slots) 6 (slots_len closed.old.slots) }
+    requires full { (slots_len closed.old.slots ≡ word_count strips)
+        × Filled (slots_filled closed.old.slots) 6 (slots_len closed.old.slots) }
     requires taken { (k : ℕ) → k < 6 → slice_index_or (slots_filled closed.old.slots) k false ≡ false }
     requires each { HaveParcels (slots_items closed.old.slots) strips }
-    ensures taken { (k : ℕ) → k < slots_len closed.new.slots → slice_index_or (slots_filled closed.new.slots) k false ≡ false }
+    ensures taken { (k : ℕ) → k < slots_len closed.new.slots
+        → slice_index_or (slots_filled closed.new.slots) k false ≡ false }
     ensures all { length parcels.new.items ≡ strips }
     ensures parcels { AreFirstParcels (slots_items closed.old.slots) parcels.new.items }
 {

@@ -21,9 +21,11 @@ ghost use Rattle.sgm_board.specs.Events.{Makes, IsAt, found, with_view};
 /// Each step that changes a word is one event of the hand-over machine: it is legal in the state that the
 /// board shows before it, and the board shows the state after the event then.
 pub fn events()
-    ensures legal { (about : About) (made : ℕ) (s t : State Slot View) (m : Handover) (at : ℕ) (v : View) (event : Event)
+    ensures legal { (about : About) (made : ℕ) (s t : State Slot View) (m : Handover) (at : ℕ) (v : View)
+        (event : Event)
         → Shows about made s m → IsAt s at v → Makes about m s at v event t → Legal m event }
-    ensures after { (about : About) (made : ℕ) (s t : State Slot View) (m : Handover) (at : ℕ) (v : View) (event : Event)
+    ensures after { (about : About) (made : ℕ) (s t : State Slot View) (m : Handover) (at : ℕ) (v : View)
+        (event : Event)
         → Shows about made s m → IsAt s at v → Makes about m s at v event t → Shows about made t (after m event) }
 {}
 
@@ -33,15 +35,18 @@ pub fn looks()
     ensures looks { (about : About) (made : ℕ) (s : State Slot View) (m : Handover) (at word : ℕ) (v : View)
         → Shows about made s m → IsAt s at v → Shows about made (with_view s at (after_look v word (found s word))) m }
     ensures reads { (about : About) (made : ℕ) (s : State Slot View) (m : Handover) (at word : ℕ) (v : View)
-        → Rule about made s → IsAt s at v → Rule about made (with_view s at (after_read (after_look v word (found s word)) word)) }
-    ensures tries { (about : About) (made : ℕ) (s : State Slot View) (m : Handover) (at word strip : ℕ) (dir : Dir) (v : View)
+        → Rule about made s → IsAt s at v
+        → Rule about made (with_view s at (after_read (after_look v word (found s word)) word)) }
+    ensures tries { (about : About) (made : ℕ) (s : State Slot View) (m : Handover) (at word strip : ℕ) (dir : Dir)
+        (v : View)
         → Shows about made s m → IsAt s at v
         → Shows about made (with_view s at (after_try (after_look v word (found s word)) strip dir)) m }
 {}
 
 /// By its rule the table of a board shows a state at each moment between two steps, and that is sound.
 pub fn soundness()
-    ensures shown { (about : About) (made : ℕ) (s : State Slot View) → Rule about made s → (m : Handover) × Shows about made s m }
+    ensures shown { (about : About) (made : ℕ) (s : State Slot View) → Rule about made s → (m : Handover)
+        × Shows about made s m }
     ensures sound { (about : About) (made : ℕ) (s : State Slot View) (m : Handover) → Shows about made s m → Sound m }
 {}
 

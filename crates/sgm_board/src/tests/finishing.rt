@@ -56,7 +56,8 @@ pub(super) fn finish(
     mut fronts: Vec<Front>,
     spare: &mut Row,
 ) -> Vec<Parcel>
-    requires settled { (scene : SceneParts) × (cut : CutParts) × (spare.old ≡ row_length scene) × AreSettled scene cut parcels.items fronts.items }
+    requires settled { (scene : SceneParts) × (cut : CutParts) × (spare.old ≡ row_length scene)
+        × AreSettled scene cut parcels.items fronts.items }
 {
     for number in 0..fronts.len() {
         hand_through(&mut parcels, &mut fronts[number], spare);

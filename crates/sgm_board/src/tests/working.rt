@@ -125,7 +125,8 @@ pub(super) fn work_both<R: Threads + Sync>(
 ) -> (Vec<Parcel>, Vec<Front>)
     requires first { IsPassOf board first.0 × IsIdle (parts_of first.0) × (first.1 ≡ row_length (scene_of board)) }
     requires second { IsPassOf board second.0 × IsIdle (parts_of second.0) × (second.1 ≡ row_length (scene_of board)) }
-    requires all { (k : ℕ) → k < passes_of board → ((parts_of first.0).gathered k || (parts_of second.0).gathered k) ≡ true }
+    requires all { (k : ℕ) → k < passes_of board
+        → ((parts_of first.0).gathered k || (parts_of second.0).gathered k) ≡ true }
     ensures { AreSettled (scene_of board) (cut_of board) result.0.items result.1.items }
 {
     let shared = &board;
@@ -139,7 +140,8 @@ pub(super) fn work_both<R: Threads + Sync>(
             ensures same { (parts_of result).gathered ≡ (parts_of one).gathered }
         { work(shared, one, spare) },
         move || -> Pass
-            requires { IsPassOf shared.now other × IsIdle (parts_of other) × (other_spare ≡ row_length (scene_of shared.now)) }
+            requires { IsPassOf shared.now other × IsIdle (parts_of other)
+                × (other_spare ≡ row_length (scene_of shared.now)) }
             ensures own { IsPassOf shared.entry.now result × IsIdle (parts_of result) }
             ensures same { (parts_of result).gathered ≡ (parts_of other).gathered }
         { work(shared, other, other_spare) },
