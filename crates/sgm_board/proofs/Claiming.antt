@@ -37,7 +37,7 @@ module _ (about : About) (made : ℕ) (s : State Slot View) (m : Handover) (sh :
       let homes = set s.homes i maybe.none in
       let others : (f : ℕ) → f < 6 → get_or (set s.words i 1) f 0 ≡ get_or s.words f 0 = λ f lf. get_or-set_other s.words i f 1 0 (λ e. omega arith) in
       let fronts = fronts_stay m s.words s.views id v w (set s.words i 1) (λ f. others (dir_word f) (dir_word_lt f)) at
-          record { number = refl; front = refl; alive = live' v w r; strip = λ f e. absurd (no_front about made s m sh id v at idle f e) } sh.front_words in (
+      record { number = refl; front = refl; alive = live' v w r; strip = λ f e. absurd (no_front about made s m sh id v at idle f e) } sh.front_words in (
         legal,
         record {
           strips = sh.strips;

@@ -43,16 +43,16 @@ module _ (about : About) (made : ℕ) where
       → (m : Handover) × AtEnd about v.seen m slots
   at_end id v words slots idle bare all (s, ((m, sh, kn), at), is, long, put) =
       let only : (j : ℕ) (u : View) → get_elem? s.views j ≡ some u → IsLive u → u ≡ v = (λ j u h lu.
-          let e = sh.numbers.once j id u.number u v h at lu (all u.number (sh.numbers.below j u.number u h lu)) in
-          some-injective u v (sym h ∙ (ap (get_elem? s.views) e ∙ at))) in
+      let e = sh.numbers.once j id u.number u v h at lu (all u.number (sh.numbers.below j u.number u h lu)) in
+      some-injective u v (sym h ∙ (ap (get_elem? s.views) e ∙ at))) in
       let home : (f : Dir) → is_level f ≡ false → m.away f ≡ None = (λ f l. none_if (m.away f) (λ w e.
-          let x = sh.front_words.out f w l e in
-          let z = sh.front_words.has_it x.0 f x.1 x.2 x.3.0 in
-          some_dir_none f (sym x.3.0 ∙ (ap (λ (u : View). u.front) (only x.0 x.1 x.2 z.2) ∙ bare)))) in
+      let x = sh.front_words.out f w l e in
+      let z = sh.front_words.has_it x.0 f x.1 x.2 x.3.0 in
+      some_dir_none f (sym x.3.0 ∙ (ap (λ (u : View). u.front) (only x.0 x.1 x.2 z.2) ∙ bare)))) in
       let free : (t : ℕ) → t < m.strips → m.holder t ≡ None = (λ t l. none_if (m.holder t) (λ w e.
-          let x = sh.strip_words.held t w l e in
-          let z = sh.strip_words.holds x.0 t x.1 x.2 x.3.0 in
-          some_none t (sym x.3.0 ∙ (ap (λ (u : View). u.strip) (only x.0 x.1 x.2 z.1) ∙ idle)))) in (
+      let x = sh.strip_words.held t w l e in
+      let z = sh.strip_words.holds x.0 t x.1 x.2 x.3.0 in
+      some_none t (sym x.3.0 ∙ (ap (λ (u : View). u.strip) (only x.0 x.1 x.2 z.1) ∙ idle)))) in (
         m,
         record {
           strips = sh.strips;

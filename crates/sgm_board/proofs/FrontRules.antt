@@ -38,7 +38,7 @@ module _ (about : About) (made : ℕ) where
       let x = 2 * position_of d t about.cut.strips in
       -- the strip and the direction that the step speaks of are these
       let same : (t' : ℕ) (d' : Dir) → v.strip ≡ Some t' → is_level d' ≡ false → f ≡ dir_word d' → (t ≡ t') × (d ≡ d') =
-          (λ t' d' e level' w. ((let q : Some t ≡ Some t' = sym mine ∙ e in cc), same_word d d' level level' w)) in
+      (λ t' d' e level' w. ((let q : Some t ≡ Some t' = sym mine ∙ e in cc), same_word d d' level level' w)) in
       exchanged r x (x + 1) (Leaves about made s f id me (take_told (step slots f x (x + 1) maybe.none) me))
       (λ hit.
       let law = take_law about made s m sh id v at d t level mine bare (hit ∙ ap (λ (n : ℕ). 2 * position_of d t n) (sym sh.strips)) in

@@ -23,13 +23,17 @@ module _ (about : About) where
 
   pub parcel_stays : (homes homes' : List (maybe.Option Slot)) (strip : ℕ) (due due' : Dir → Bool) → get_elem? homes' (strip_word strip) ≡ get_elem? homes (strip_word strip) → ((dir : Dir) → is_level dir ≡ false → due' dir ≡ due dir)
       → ParcelIn homes strip due → ParcelIn homes' strip due'
-  parcel_stays homes homes' strip due due' same still t = (t.0, same ∙ t.1, record {
-    kept = t.2.kept;
-    same_scene = t.2.same_scene;
-    same_cut = t.2.same_cut;
-    same_strip = t.2.same_strip;
-    done = λ dir l. t.2.done dir l ∙ sym (still dir l);
-  })
+  parcel_stays homes homes' strip due due' same still t = (
+    t.0,
+    same ∙ t.1,
+    record {
+      kept = t.2.kept;
+      same_scene = t.2.same_scene;
+      same_cut = t.2.same_cut;
+      same_strip = t.2.same_strip;
+      done = λ dir l. t.2.done dir l ∙ sym (still dir l);
+    },
+  )
 
   pub front_stays : (homes homes' : List (maybe.Option Slot)) (dir : Dir) (visits visits' : ℕ) → get_elem? homes' (dir_word dir) ≡ get_elem? homes (dir_word dir) → visits' ≡ visits → FrontIn homes dir visits → FrontIn homes' dir visits'
   front_stays homes homes' dir visits visits' same still t = (t.0, same ∙ t.1, subst (λ (n : ℕ). IsFrontAt about dir n t.0) (sym still) t.2)

@@ -45,7 +45,6 @@ at_after {A} [] ys k a h i e = let q : i ≡ k = omega arith in ap (λ (j : ℕ)
 at_after (x ∷ xs) ys k a h zero e = absurd (omega arith)
 at_after (x ∷ xs) ys k a h (suc i) e = at_after xs ys k a h i (omega arith)
 
-
 pub laid : (about : About) (ps : List ParcelParts) (fs : List FrontParts) → AreReady about.scene about.cut ps fs → All IsParcel ps → All IsFront fs → AreLaid about (map OfFront fs ++ map OfStrip ps)
 laid about ps fs ready kept_ps kept_fs =
     let six = ready.six in

@@ -26,3 +26,4 @@ pub mod Laying
 pub mod Starting
 pub mod Emptying
 pub mod Ending
+pub mod Lawful

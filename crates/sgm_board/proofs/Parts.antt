@@ -117,7 +117,7 @@ module _ (v : View) where
       let dd = same_number d dir e in
       let flat : is_level d ≡ false = ap is_level dd ∙ level in
       let known : is_known_done w d ≡ true =
-          or_right (is_done v.done_at_claim d) ((dir_word dir == dir_word d) || has v.put_since (dir_word d)) (or_left (dir_word dir == dir_word d) (has v.put_since (dir_word d)) (eq-eqb (dir_word dir) (dir_word d) (ap dir_word (sym dd)))) in
+      or_right (is_done v.done_at_claim d) ((dir_word dir == dir_word d) || has v.put_since (dir_word d)) (or_left (dir_word dir == dir_word d) (has v.put_since (dir_word d)) (eq-eqb (dir_word dir) (dir_word d) (ap dir_word (sym dd)))) in
       (λ i. is_some (held i) && (flat i || (all strip d held flat i && known i))) ∙ sym (changed_there number_of (shows_done v) dir true d e))
       (λ ne.
       either_level d _

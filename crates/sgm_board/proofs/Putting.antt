@@ -46,6 +46,7 @@ passed_else m f s w g l away =
     ∙ subst (λ (k : Dir). nat_lt (position_of k s m.strips) p₁ ≡ nat_lt (position_of k s m.strips) (m.passed k)) (sym gf)
     (lt_next (position_of f s m.strips) (m.passed f) (λ p. away (sym (strip_at-position_of f s m.strips l) ∙ ap (λ (q : ℕ). strip_at f q m.strips) p))))
     (λ ne. ap (nat_lt (position_of g s m.strips)) (changed_else number_of m.passed f p₁ g ne))
+
 module _ (about : About) (made : ℕ) (s : State Slot View) (m : Handover) (sh : Shows about made s m) (id : ℕ) (v : View) (at : get_elem? s.views id ≡ some v) where
   -- what is due once the front that the pass shows has passed the strip that it shows
   pub put_due : (mask : View → Dir → Bool) (f : Dir) (r : ℕ) → ((g : Dir) → mask (after_put (after_look v (dir_word f) r) f) g ≡ mask v g) → v.front ≡ Some f → KnowsDue mask m s.views

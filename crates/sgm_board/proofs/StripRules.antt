@@ -53,23 +53,23 @@ module _ (about : About) (made : ℕ) where
           after m (Claim v.number t),
           (claim_law about made s m sh id v at t p.done lv idle lm hit).1,
           due_same all m s.views id w
-          (λ t' f e l.
-          let x : Some t ≡ Some t' = e in
-          let tt' : t ≡ t' = cc in
-          or_false (is_done p.done f) ∙ (home.2.done f l ∙ ap (λ (k : ℕ). has_passed m k f) tt')) kn,
+              (λ t' f e l.
+              let x : Some t ≡ Some t' = e in
+              let tt' : t ≡ t' = cc in
+              or_false (is_done p.done f) ∙ (home.2.done f l ∙ ap (λ (k : ℕ). has_passed m k f) tt')) kn,
         ),
         λ t' e.
-        let tt' : t ≡ t' = omega arith in (
-          (λ _. (
-            p,
-            has_passed m t,
-            about,
-            sh.abouts id v at lv,
-            subst (λ (k : ℕ). IsParcelAt about k (has_passed m t) p) tt' home.2,
-            (λ k. (after_claim (after_look v i r) (tt' k) p.done, (i, OfStrip p) ∷ me.1)),
-          )),
-          λ ne. absurd (ne hit),
-        ),
+            let tt' : t ≡ t' = omega arith in (
+              (λ _. (
+                p,
+                has_passed m t,
+                about,
+                sh.abouts id v at lv,
+                subst (λ (k : ℕ). IsParcelAt about k (has_passed m t) p) tt' home.2,
+                (λ k. (after_claim (after_look v i r) (tt' k) p.done, (i, OfStrip p) ∷ me.1)),
+              )),
+              λ ne. absurd (ne hit),
+            ),
       ))
       (λ ne.
       let w = after_look v i r in

@@ -37,7 +37,7 @@ read_told step old found new = (new ≡ (after_read (after_look old.0 step.word 
 abbrev pub claim_told : Told
 claim_told step old found new = (strip : ℕ) → step.word ≡ strip_word strip
     → (found ≡ 0 → (parcel : ParcelParts) × (due : Dir → Bool) × (about : About) × (old.0.about ≡ Some about) × IsParcelAt about strip due parcel
-        × (new ≡ (after_claim (after_look old.0 step.word found) strip parcel.done, (step.word, OfStrip parcel) ∷ old.1)))
+    × (new ≡ (after_claim (after_look old.0 step.word found) strip parcel.done, (step.word, OfStrip parcel) ∷ old.1)))
     × (found ≢ 0 → (found ≡ 1) × (new ≡ (after_look old.0 step.word found, old.1)))
 
 -- the word of the strip held was 1 and is 0
@@ -49,8 +49,8 @@ return_told step old found new = (found ≡ 1) × (new ≡ (after_return (after_
 abbrev pub take_told : Told
 take_told step old found new = (strip : ℕ) (dir : Dir) → old.0.strip ≡ Some strip → is_level dir ≡ false → step.word ≡ dir_word dir
     → (found ≡ step.first → (front : FrontParts) × (visits : ℕ) × (about : About) × (old.0.about ≡ Some about) × IsFrontAt about dir visits front
-        × (2 * visits ≡ found) × (is_known_done old.0 dir ≡ false)
-        × (new ≡ (after_take (after_try (after_look old.0 step.word found) strip dir) dir, (step.word, OfFront front) ∷ old.1)))
+    × (2 * visits ≡ found) × (is_known_done old.0 dir ≡ false)
+    × (new ≡ (after_take (after_try (after_look old.0 step.word found) strip dir) dir, (step.word, OfFront front) ∷ old.1)))
     × (found ≢ step.first → new ≡ (after_try (after_look old.0 step.word found) strip dir, old.1))
 
 -- the word of the direction whose front the pass has goes on by 1

@@ -7,6 +7,7 @@ mod board;
 mod calls;
 mod close;
 mod deal;
+pub mod laws;
 mod pass;
 mod rule;
 mod slot;
@@ -16,3 +17,6 @@ mod view;
 
 pub use board::Board;
 pub use pass::Pass;
+
+#[cfg(test)]
+mod tests;

@@ -81,7 +81,13 @@ pub(crate) fn give_back(shown: &Shown, seat: &mut PassSeat, strip: u32, parcel: 
 }
 
 /// Takes the front of the direction out, if the strip held comes next for it and nobody has it.
-pub(crate) fn take(shown: &Shown, seat: &mut PassSeat, dir: Dir, strip: u32, strips: u32) -> Option<Front>
+pub(crate) fn take(
+    shown: &Shown,
+    seat: &mut PassSeat,
+    dir: Dir,
+    strip: u32,
+    strips: u32,
+) -> Option<Front>
     requires table { (seat.old.table_id ≡ shown.now.table_id) × (shown.now.table_id.words ≡ word_count strips) × ((about_of shown.now.key).cut.strips ≡ strips) }
     requires strip { strip < strips }
     requires holds { (seat.old.me.0.strip ≡ Some strip) × (seat.old.me.0.front ≡ None) × (seat.old.me.0.about ≡ Some (about_of shown.now.key)) }
@@ -107,7 +113,14 @@ pub(crate) fn take(shown: &Shown, seat: &mut PassSeat, dir: Dir, strip: u32, str
 }
 
 /// Puts the front of the direction, which went through the strip held, into its slot.
-pub(crate) fn put(shown: &Shown, seat: &mut PassSeat, front: Front, dir: Dir, strip: u32, strips: u32)
+pub(crate) fn put(
+    shown: &Shown,
+    seat: &mut PassSeat,
+    front: Front,
+    dir: Dir,
+    strip: u32,
+    strips: u32,
+)
     requires table { (seat.old.table_id ≡ shown.now.table_id) × (shown.now.table_id.words ≡ word_count strips) × ((about_of shown.now.key).cut.strips ≡ strips) }
     requires strip { strip < strips }
     requires holds { (seat.old.me.0.strip ≡ Some strip) × (seat.old.me.0.front ≡ Some dir) × (seat.old.me.0.about ≡ Some (about_of shown.now.key)) }

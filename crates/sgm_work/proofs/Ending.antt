@@ -40,11 +40,11 @@ dir_back UpRight k e = ap dir_of_front (let q : k ≡ 4 = cc in q)
 dir_back UpLeft k e = ap dir_of_front (let q : k ≡ 5 = cc in q)
 
 -- two directions with one front are one
-at_one : (a b : Dir) (i j : ℕ) → front_of a ≡ Some i → front_of b ≡ Some j → i ≡ j → a ≡ b
+pub at_one : (a b : Dir) (i j : ℕ) → front_of a ≡ Some i → front_of b ≡ Some j → i ≡ j → a ≡ b
 at_one a b i j ea eb same = let e : Some a ≡ Some b = sym (dir_back a i ea) ∙ ap dir_of_front same ∙ dir_back b j eb in cc
 
 -- and a direction has one front
-one_place : (a b : Dir) (i j : ℕ) → front_of a ≡ Some i → front_of b ≡ Some j → number_of a ≡ number_of b → i ≡ j
+pub one_place : (a b : Dir) (i j : ℕ) → front_of a ≡ Some i → front_of b ≡ Some j → number_of a ≡ number_of b → i ≡ j
 one_place a b i j ea eb same = let e : Some i ≡ Some j = sym ea ∙ ap front_of (same_number a b same) ∙ eb in cc
 
 level_apart : (level d dir : Dir) (k : ℕ) → front_of level ≡ None → d ≡ dir → front_of dir ≡ Some k → number_of level ≢ number_of d

@@ -1,3 +1,6 @@
 pub mod Lists
 pub mod Handing
 pub mod Ending
+pub mod Adding
+pub mod Visiting
+pub mod Glancing

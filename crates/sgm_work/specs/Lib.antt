@@ -1,2 +1,4 @@
 pub mod Finished
 pub mod Left
+pub mod Worked
+pub mod Tries

@@ -3,5 +3,11 @@
 #![tactic(auto)]
 
 mod finishing;
+mod gate;
+mod scanning;
+mod working;
 
-pub use finishing::finish;
+pub use finishing::{CALLER, finish};
+pub use gate::{Gate, OpenGate};
+pub use scanning::scan;
+pub use working::work;

@@ -67,5 +67,5 @@ returns-clause-some c =
     let is : OfStrip c.in-OfStrip.parcel ≡ OfStrip g.0 = sym c.in-OfStrip.is ∙ same_value _ _ _ _ _ _ _ carried c.exchange.ensures.2 in
     let same : g.0 ≡ c.in-OfStrip.parcel = cc in
     let was : c.compare_exchange.new.seat.me.0 ≡ after_claim (after_look v (strip_word s) 0) s c.in-OfStrip.parcel.done =
-        ap (λ m. m.0) g.5 ∙ (λ i. after_claim (after_look v (strip_word s) (c.if-compare_exchange-ne0.false i)) s (same i).done) in
+    ap (λ m. m.0) g.5 ∙ (λ i. after_claim (after_look v (strip_word s) (c.if-compare_exchange-ne0.false i)) s (same i).done) in
     subst (λ (z : View × View). HasRead (about_of c.args.shown.now.key).cut.strips 6 z.0 z.1) (λ i. (was i, (sym c.exchange.ensures.3 i).0)) c.read_all.ensures.view

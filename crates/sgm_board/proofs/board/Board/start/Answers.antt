@@ -48,9 +48,9 @@ invariant_of-board c =
     let strips : c.len-strips.result ≡ cut.strips = (let all = ready.strips.all in let len = c.len-strips.ensures in let ok = c.args.parcels.ok in omega arith) in
     let count : word_count cut.strips ≡ word_count c.cut-cut.result.strips = ap (λ (k : CutParts). word_count k.strips) (sym same) in
     let words : length c.as_slice.result.now ≡ word_count cut.strips =
-        ap (λ (xs : List ℕ). length xs) (c.as_slice.ensures.value ∙ c.in_ok-words.ensures) ∙ (length-replicate {A = ℕ} (6 + c.len-strips.result) 0 ∙ ap (λ (n : ℕ). 6 + n) strips) in
+    ap (λ (xs : List ℕ). length xs) (c.as_slice.ensures.value ∙ c.in_ok-words.ensures) ∙ (length-replicate {A = ℕ} (6 + c.len-strips.result) 0 ∙ ap (λ (n : ℕ). 6 + n) strips) in
     let slots : length c.in_ok-slots.slots.items ≡ word_count cut.strips =
-        ap (λ (xs : List Slot). length xs) c.in_ok-slots.ensures.slots ∙ (laid about ps fs ready c.in_ok-slots.ensures.parcels c.in_ok-slots.ensures.fronts).count in
+    ap (λ (xs : List Slot). length xs) c.in_ok-slots.ensures.slots ∙ (laid about ps fs ready c.in_ok-slots.ensures.parcels c.in_ok-slots.ensures.fronts).count in
     record {
       planned = ap (λ (k : Plan). k.sample.value.cut) made.5 ∙ (ap (λ (p : ParcelParts). p.cut) c.of.ensures ∙ sym c.cut-cut.ensures);
       in_range = subst IsCut (sym same) ready.strips.cut_kept;

@@ -67,8 +67,8 @@ returns-clause-none c =
       found,
       λ e. none.1 (e ∙ (λ i. 2 * position_of dir (sym c.strip-strip.ensures.value i) (sym c.strips-strips.ensures i))),
       ap (λ m. parts_of_view m.0) none.2
-      ∙ (parts-try (view.after_look v (dir_word dir) found) strip dir c.requires.across
-      ∙ (ap (λ p. after_try p strip dir) (parts-look v (dir_word dir) found)
-      ∙ ap (λ (s : ℕ). after_try (after_look (parts_of_view v) (dir_word dir) found) s dir) c.strip-strip.ensures.value)),
+          ∙ (parts-try (view.after_look v (dir_word dir) found) strip dir c.requires.across
+          ∙ (ap (λ p. after_try p strip dir) (parts-look v (dir_word dir) found)
+          ∙ ap (λ (s : ℕ). after_try (after_look (parts_of_view v) (dir_word dir) found) s dir) c.strip-strip.ensures.value)),
     ))
     c.take.ensures.none

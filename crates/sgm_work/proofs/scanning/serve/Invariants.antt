@@ -1,0 +1,17 @@
+use Rattle.std.proofs.Common.{◌≡◌, ◌≤◌, None}
+use Rattle.sgm_strip.specs.Scenes.{row_length}
+use Rattle.sgm_board.specs.Boards.{parts_of, scene_of, IsPassOf, IsHeld}
+use Rattle.sgm_work.specs.Tries.{HasTriedFirst}
+use Rattle.sgm_work.proofs.scanning.serve.Given as goal
+
+-- the directions of the fronts before this one were tried
+abbrev pub invariant-loop-front : goal.invariant-loop-front
+invariant-loop-front g l = record {
+  own : IsPassOf l.board l.pass;
+  bare : (parts_of l.pass).front ≡ None;
+  held : IsHeld l.board (parts_of l.pass) l.parcel;
+  same : l.parcel.strip ≡ l.fn.parcel.strip;
+  spare : l.spare ≡ l.fn.spare;
+  few : l.handed ≤ l.front;
+  tried : HasTriedFirst l.fn.parcel.strip l.front l.handed (parts_of l.fn.pass) (parts_of l.pass);
+}
