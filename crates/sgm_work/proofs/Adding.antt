@@ -1,11 +1,11 @@
 -- What a try adds.
-use Rattle.std.proofs.Common.{◌≡◌, ◌≢◌, ℕ, ◌+◌, ◌-◌, ◌<◌, ◌≤◌, ◌⊎◌, Bool, true, false, cond, ◌==◌, List, [], ◌∷◌, ◌++◌, length, get_or, set, Some, refl, sym, ap, subst, ◌∙◌, inl, inr, ⊎_elim, arith, eq-eqb, ne_eqb, get_or-set_other}
+use Rattle.std.proofs.Common.{◌≡◌, ◌≢◌, ℕ, ◌+◌, ◌-◌, ◌⊎◌, Bool, true, false, cond, ◌==◌, List, [], ◌∷◌, ◌++◌, length, Some, refl, sym, ap, subst, ◌∙◌, inl, inr, ⊎_elim, arith, eq-eqb, ne_eqb, get_or-set_other}
 use Rattle.std.specs.Prelude.{slice_get}
 use Rattle.std.proofs.lemmas.Bool.{cases_eq}
 use Rattle.std.proofs.lemmas.List.{length_push, get_or_push}
 use Rattle.std.proofs.lemmas.Option.{slice_get-get_or}
 use Rattle.sgm_energy.specs.declared.dir.Dir.{Dir}
-use Rattle.sgm_energy.specs.Dirs.{front_of, is_level, number_of}
+use Rattle.sgm_energy.specs.Dirs.{front_of, number_of}
 use Rattle.sgm_energy.proofs.DirLemmas.{number_lt, same_number}
 use Rattle.sgm_strip.specs.Parcels.{ParcelParts, is_done, with_done, parcel_of}
 use Rattle.sgm_strip.specs.Fronts.{FrontParts, visit_of}
@@ -14,7 +14,6 @@ use Rattle.sgm_board.specs.Words.{dir_word, strip_word}
 use Rattle.sgm_board.specs.Passes.{PassParts, after_look, after_put, after_return, after_take, after_try}
 use Rattle.sgm_board.specs.Boards.{IsHeld, IsLastAt}
 use Rattle.sgm_board.specs.declared.board.Board.{Board}
-use Rattle.sgm_work.specs.Worked.{IsSamePass}
 use Rattle.sgm_work.specs.Tries.{HasTried, HasTriedFirst}
 use Rattle.sgm_work.proofs.Ending.{at_one, one_place}
 
@@ -91,11 +90,12 @@ held_put board p q old new dir held strip shown is on = record {
 pub last_at : (front : FrontParts) (visits : List Visit) (strip worker : ℕ) → front.visits ≡ visits ++ visit_of strip worker ∷ [] → IsLastAt front strip
 last_at front visits strip worker is =
     let visit = visit_of strip worker in
-    let long = length_push visits visit in
-    (visit,
-    ap (λ (v : List Visit). slice_get v (length v - 1)) is ∙ slice_get-get_or (visits ++ visit ∷ []) (length (visits ++ visit ∷ []) - 1) visit (omega (arith, long))
-    ∙ ap (λ (v : Visit). Some v) (get_or_push visits visit visit (length (visits ++ visit ∷ []) - 1) (omega (arith, long))),
-    refl)
+    let long = length_push visits visit in (
+      visit,
+      ap (λ (v : List Visit). slice_get v (length v - 1)) is ∙ slice_get-get_or (visits ++ visit ∷ []) (length (visits ++ visit ∷ []) - 1) visit (omega (arith, long))
+          ∙ ap (λ (v : Visit). Some v) (get_or_push visits visit visit (length (visits ++ visit ∷ []) - 1) (omega (arith, long))),
+      refl,
+    )
 
 -- ---- the tries at one strip
 

@@ -1,7 +1,7 @@
 -- Fronts that have all visits, one after the other.
-use Rattle.std.proofs.Common.{◌≡◌, ◌≢◌, ℕ, zero, suc, ◌+◌, ◌-◌, ◌<◌, ◌≤◌, ◌⊎◌, List, [], ◌∷◌, length, get_or, set, Bool, true, false, nat_lt, Some, None, Option, refl, sym, ap, subst, ◌∙◌, inl, inr, arith}
+use Rattle.std.proofs.Common.{◌≡◌, ◌≢◌, ℕ, zero, suc, ◌<◌, List, [], ◌∷◌, length, get_or, set, true, nat_lt, Some, None, refl, sym, ap, subst, ◌∙◌, inl, inr, arith}
 use Rattle.std.specs.Prelude.{All, slice_get}
-use Rattle.std.proofs.lemmas.Bool.{cases_eq, lt-ltb}
+use Rattle.std.proofs.lemmas.Bool.{lt-ltb}
 use Rattle.std.proofs.lemmas.List.{length-set}
 use Rattle.std.proofs.lemmas.Option.{slice_get-get_or, slice_get_within, get_or_from_slice_get}
 use Rattle.sgm_energy.specs.declared.dir.Dir.{Dir}
@@ -10,10 +10,10 @@ use Rattle.sgm_energy.specs.Dirs.{front_of, dir_of_front, number_of, position_of
 use Rattle.sgm_energy.proofs.DirLemmas.{position_inside, same_number}
 use Rattle.sgm_strip.specs.Cuts.{CutParts}
 use Rattle.sgm_strip.specs.Scenes.{SceneParts}
-use Rattle.sgm_strip.specs.Parcels.{ParcelParts, IsComplete, is_done}
+use Rattle.sgm_strip.specs.Parcels.{ParcelParts, is_done}
 use Rattle.sgm_strip.specs.Fronts.{FrontParts}
 use Rattle.sgm_strip.specs.Strips.{AreStrips}
-use Rattle.sgm_board.specs.Settled.{AreSettled, IsAt, IsFrontOf}
+use Rattle.sgm_board.specs.Settled.{AreSettled, IsFrontOf}
 use Rattle.sgm_work.specs.Finished.{AreFinished, HasVisitedAll}
 use Rattle.sgm_work.specs.Left.{IsDoneFirst, KeepsOthers}
 use Rattle.sgm_work.proofs.Lists.{get_set}
@@ -29,7 +29,7 @@ dir_at (suc (suc (suc (suc zero)))) h = (UpRight, refl)
 dir_at (suc (suc (suc (suc (suc zero))))) h = (UpLeft, refl)
 dir_at (suc (suc (suc (suc (suc (suc k)))))) h = absurd (omega arith)
 
-dir_back : (dir : Dir) (k : ℕ) → front_of dir ≡ Some k → dir_of_front k ≡ Some dir
+pub dir_back : (dir : Dir) (k : ℕ) → front_of dir ≡ Some k → dir_of_front k ≡ Some dir
 dir_back Right k e = absurd (cc)
 dir_back Left k e = absurd (cc)
 dir_back Down k e = ap dir_of_front (let q : k ≡ 0 = cc in q)
@@ -80,9 +80,10 @@ module _ (scene : SceneParts) (cut : CutParts) (parcels : List ParcelParts) (fro
         strips = strips';
         level = λ j d hj. let was = settled.level j d (omega (arith, settled.strips.all, strips'.all)) in
             let b = slice_get-get_or parcels j d (omega (arith, settled.strips.all, strips'.all)) in
-            let a = slice_get-get_or after j d hj in
-            (keeps j (get_or parcels j d) (get_or after j d) Right (level_apart Right old.dir dir k refl is.same_dir (dir_at k h).1) b a ∙ was.0,
-            keeps j (get_or parcels j d) (get_or after j d) Left (level_apart Left old.dir dir k refl is.same_dir (dir_at k h).1) b a ∙ was.1);
+            let a = slice_get-get_or after j d hj in (
+              keeps j (get_or parcels j d) (get_or after j d) Right (level_apart Right old.dir dir k refl is.same_dir (dir_at k h).1) b a ∙ was.0,
+              keeps j (get_or parcels j d) (get_or after j d) Left (level_apart Left old.dir dir k refl is.same_dir (dir_at k h).1) b a ∙ was.1,
+            );
         six = length-set fronts k new ∙ settled.six;
         each = λ d front at. elim (get_set fronts k new at.0 front at.2) [
           | inl same ↦ (let same' : d ≡ dir = at_one d dir at.0 k at.1 (dir_at k h).1 same.0 in

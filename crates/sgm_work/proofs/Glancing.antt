@@ -1,9 +1,9 @@
 -- Looks at the words of directions, and scans one after the other.
-use Rattle.std.proofs.Common.{◌≡◌, ◌≢◌, ℕ, ◌+◌, ◌*◌, ◌/◌, ◌<◌, ◌≤◌, false, Some, refl, sym, ap, subst, ◌∙◌, inl, inr, arith}
+use Rattle.std.proofs.Common.{◌≡◌, ℕ, ◌+◌, ◌*◌, ◌/◌, ◌<◌, ◌≤◌, Some, refl, sym, ap, subst, ◌∙◌, inl, inr, arith}
 use Rattle.std.proofs.lemmas.Bool.{cases_eq}
 use Rattle.sgm_energy.specs.declared.dir.Dir.{Dir}
 use Rattle.sgm_energy.specs.declared.dir.Dir.TheVariants.{Right, Left, Down, DownRight, DownLeft, Up, UpRight, UpLeft}
-use Rattle.sgm_energy.specs.Dirs.{front_of, is_level}
+use Rattle.sgm_energy.specs.Dirs.{front_of}
 use Rattle.sgm_board.specs.Words.{dir_word, strip_word}
 use Rattle.sgm_board.specs.Passes.{PassParts, after_look}
 use Rattle.sgm_work.specs.Worked.{IsSamePass, LooksMore, SeesAllPassed, TriesWhatItClaims}

@@ -4,3 +4,6 @@ pub mod Ending
 pub mod Adding
 pub mod Visiting
 pub mod Glancing
+pub mod Threads
+pub mod Crews
+pub mod Making

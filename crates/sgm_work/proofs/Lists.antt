@@ -1,9 +1,9 @@
 -- One place of a list that is written.
-use Rattle.std.proofs.Common.{◌≡◌, ◌≢◌, ℕ, ◌<◌, ◌⊎◌, List, [], ◌∷◌, suc, length, get_or, set, Some, sym, refl, ap, ◌∙◌, inl, inr, arith, get_or-set_same, get_or-set_other}
+use Rattle.std.proofs.Common.{◌≡◌, ◌≢◌, ℕ, ◌<◌, ◌⊎◌, List, [], ◌∷◌, ◌++◌, suc, take, drop, take_all, length, get_or, set, Some, sym, ap, ◌∙◌, inl, inr, arith, get_or-set_same, get_or-set_other}
 use Rattle.std.specs.List.{AllZip}
 use Rattle.std.specs.Prelude.{slice_get}
 use Rattle.std.proofs.lemmas.Bool.{cases_eq}
-use Rattle.std.proofs.lemmas.List.{length-set}
+use Rattle.std.proofs.lemmas.List.{length-set, take-append-le}
 use Rattle.std.proofs.lemmas.Option.{slice_get-get_or, slice_get_within, get_or_from_slice_get}
 
 pub any_default : {X : Type 0} (xs : List X) (k : ℕ) (d e : X) → k < length xs → get_or xs k d ≡ get_or xs k e
@@ -25,3 +25,7 @@ zip_places R [] [] long each = tt
 zip_places R [] (y ∷ ys) long each = absurd (omega (arith, long))
 zip_places R (x ∷ xs) [] long each = absurd (omega (arith, long))
 zip_places R (x ∷ xs) (y ∷ ys) long each = (each 0 x y (omega arith), zip_places R xs ys (omega (arith, long)) (λ k d e h. each (suc k) d e (omega arith)))
+
+-- a slice of a vector's items, written back
+pub written_back : {X : Type 0} (n : ℕ) (new items : List X) → length new ≡ n → take n (new ++ drop (length new) items) ≡ new
+written_back n new items e = take-append-le n new (drop (length new) items) (omega (arith, e)) ∙ take_all n new (omega (arith, e))

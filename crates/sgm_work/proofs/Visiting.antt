@@ -1,5 +1,5 @@
 -- What a visit of a strip adds, and visits one after the other.
-use Rattle.std.proofs.Common.{◌≡◌, ◌≢◌, ℕ, ◌+◌, ◌<◌, ◌≤◌, Bool, true, false, cond, nat_lt, Some, refl, sym, ap, subst, ◌∙◌, inl, inr, arith}
+use Rattle.std.proofs.Common.{◌≡◌, ℕ, ◌+◌, ◌<◌, ◌≤◌, Bool, false, cond, Some, refl, sym, ap, subst, ◌∙◌, inl, inr, arith}
 use Rattle.std.proofs.lemmas.Bool.{cases_eq, le-ltb, true≢false}
 use Rattle.sgm_energy.specs.declared.dir.Dir.{Dir}
 use Rattle.sgm_energy.specs.declared.dir.Dir.TheVariants.{Right, Left, Down, DownRight, DownLeft, Up, UpRight, UpLeft}
@@ -61,8 +61,13 @@ visited_hit p u q strips strip handed found done read tried = record {
   balanced = λ s dir level. elim (cases_eq s strip) [
     | inl same ↦ (let front = front_across dir level in
         subst (λ n. q.tries n dir + p.claims n ≡ p.tries n dir + q.claims n) (sym same)
-        (omega (arith, tried.tried dir front.0 front.1 front.2, ap (λ (x : PassParts). x.tries strip dir) read.read, claims strip,
-        where_same strip strip (p.claims strip + 1) (p.claims strip) refl)))
+        (omega (
+          arith,
+          tried.tried dir front.0 front.1 front.2,
+          ap (λ (x : PassParts). x.tries strip dir) read.read,
+          claims strip,
+          where_same strip strip (p.claims strip + 1) (p.claims strip) refl,
+        )))
     | inr other ↦ omega (arith, tried.others s dir other, ap (λ (x : PassParts). x.tries s dir) read.read, claims s, where_else s strip (p.claims strip + 1) (p.claims s) other)
   ];
   looked = omega (arith, tried.looks strip, looks strip, looks_here p strip found);

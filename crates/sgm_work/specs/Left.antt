@@ -13,4 +13,4 @@ IsDoneFirst dir strips k parcels =
 abbrev pub KeepsOthers : Dir → List ParcelParts → List ParcelParts → Type 0
 KeepsOthers dir old new =
     (strip : ℕ) (before after : ParcelParts) (other : Dir) → number_of other ≢ number_of dir → slice_get old strip ≡ Some before → slice_get new strip ≡ Some after
-        → is_done after.done other ≡ is_done before.done other
+    → is_done after.done other ≡ is_done before.done other

@@ -2,3 +2,4 @@ pub mod Finished
 pub mod Left
 pub mod Worked
 pub mod Tries
+pub mod Crews

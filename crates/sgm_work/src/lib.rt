@@ -4,10 +4,15 @@
 
 mod finishing;
 mod gate;
+mod matching;
 mod scanning;
 mod working;
 
 pub use finishing::{CALLER, finish};
 pub use gate::{Gate, OpenGate};
+pub use matching::{Matched, match_all};
 pub use scanning::scan;
 pub use working::work;
+
+#[cfg(test)]
+mod tests;

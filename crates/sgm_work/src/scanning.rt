@@ -79,13 +79,7 @@ fn serve<G: Gate>(
 }
 
 /// Tries to claim a strip, and each direction at it if it is claimed.
-fn visit<G: Gate>(
-    board: &Board,
-    pass: &mut Pass,
-    spare: &mut Row,
-    strip: u32,
-    gate: &G,
-) -> u32
+fn visit<G: Gate>(board: &Board, pass: &mut Pass, spare: &mut Row, strip: u32, gate: &G) -> u32
     requires own { IsPassOf board.now pass.old }
     requires idle { IsIdle (parts_of pass.old) }
     requires spare { spare.old ≡ row_length (scene_of board.now) }

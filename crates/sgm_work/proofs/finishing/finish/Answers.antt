@@ -1,15 +1,13 @@
 use Rattle.std.proofs.Common.{◌≡◌, ℕ, ◌<◌, ◌≤◌, ◌+◌, ◌∙◌, length, get_or, Some, sym, ap, subst, inl, inr, arith, get_or-set_same, get_or-set_other}
 use Rattle.std.specs.Prelude.{slice_get, slice_index_or}
 use Rattle.std.proofs.lemmas.Bool.{cases_eq}
-use Rattle.std.proofs.lemmas.Option.{slice_get-get_or, get_or_from_slice_get}
+use Rattle.std.proofs.lemmas.Option.{slice_get-get_or}
 use Rattle.sgm_strip.specs.Cuts.{CutParts}
-use Rattle.sgm_strip.specs.Scenes.{SceneParts, row_length}
+use Rattle.sgm_strip.specs.Scenes.{row_length}
 use Rattle.sgm_strip.specs.Fronts.{FrontParts}
-use Rattle.sgm_strip.specs.Strips.{AreStrips}
-use Rattle.sgm_board.specs.Settled.{AreSettled}
-use Rattle.sgm_work.specs.Finished.{AreFinished, GoesOnBy, HasVisitedAll}
+use Rattle.sgm_work.specs.Finished.{GoesOnBy, HasVisitedAll}
 use Rattle.sgm_work.proofs.Lists.{any_default, get_set, zip_places}
-use Rattle.sgm_work.proofs.Ending.{dir_at, done_first, finished, front_is, front_strips, settled_more}
+use Rattle.sgm_work.proofs.Ending.{done_first, finished, front_is, front_strips, settled_more}
 use Rattle.sgm_work.proofs.finishing.finish.Goals as goal
 
 pub finish_front-requires-clause-strips : goal.finish_front-requires-clause-strips
@@ -65,7 +63,7 @@ pub returns-clause-finished : goal.returns-clause-finished
 returns-clause-finished c scene cut was =
     let inv = c.loop-front.invariant in
     finished scene cut c.loop-front.parcels c.loop-front.fronts (inv.settled scene cut was)
-        (λ k d h. inv.visited scene cut was k (get_or c.loop-front.fronts k d) (omega (arith, h, c.loop-front-test.false, c.loop-front.auto.fronts)) (slice_get-get_or c.loop-front.fronts k d h))
+    (λ k d h. inv.visited scene cut was k (get_or c.loop-front.fronts k d) (omega (arith, h, c.loop-front-test.false, c.loop-front.auto.fronts)) (slice_get-get_or c.loop-front.fronts k d h))
 
 pub returns-clause-complete : goal.returns-clause-complete
 returns-clause-complete c scene cut was = let all = returns-clause-finished c scene cut was in record { cut = cut; strips = all.strips; complete = all.complete }
@@ -73,5 +71,5 @@ returns-clause-complete c scene cut was = let all = returns-clause-finished c sc
 pub returns-clause-goes_on : goal.returns-clause-goes_on
 returns-clause-goes_on c =
     zip_places (GoesOnBy 16) c.args.fronts.now c.loop-front.fronts (sym c.loop-front.auto.fronts)
-        (λ k d e h. subst (λ (x : FrontParts). GoesOnBy 16 (get_or c.args.fronts.now k d) x) (any_default c.loop-front.fronts k d e (omega (arith, h, c.loop-front.auto.fronts)))
-            (c.loop-front.invariant.goes_on k d (omega (arith, h, c.loop-front-test.false, c.loop-front.auto.fronts))))
+    (λ k d e h. subst (λ (x : FrontParts). GoesOnBy 16 (get_or c.args.fronts.now k d) x) (any_default c.loop-front.fronts k d e (omega (arith, h, c.loop-front.auto.fronts)))
+    (c.loop-front.invariant.goes_on k d (omega (arith, h, c.loop-front-test.false, c.loop-front.auto.fronts))))

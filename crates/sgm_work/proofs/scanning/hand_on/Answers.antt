@@ -4,7 +4,7 @@ use Rattle.sgm_energy.specs.Dirs.{position_of}
 use Rattle.sgm_strip.specs.Fronts.{FrontParts}
 use Rattle.sgm_strip.specs.Parcels.{ParcelParts, is_done, parcel_of, with_done}
 use Rattle.sgm_board.specs.Words.{dir_word}
-use Rattle.sgm_board.specs.Passes.{PassParts, after_look, after_put, after_take, after_try}
+use Rattle.sgm_board.specs.Passes.{PassParts, after_look, after_put}
 use Rattle.sgm_board.specs.Boards.{parts_of, strips_of}
 use Rattle.sgm_work.proofs.Adding.{held_put, last_at, tried_none, tried_some}
 use Rattle.sgm_work.proofs.scanning.hand_on.Goals as goal
@@ -24,10 +24,11 @@ returns-in_default-clause-tried c = let none = c.in_default.ensures.none in trie
 pub put-requires-clause-front : goal.put-requires-clause-front
 put-requires-clause-front c =
     let is = c.pass.ensures.front in
-    let on = c.in-Some.ensures.front.0 in
-    ((ap (λ (f : FrontParts). f.scene) is ∙ on.0, ap (λ (f : FrontParts). f.cut) is ∙ on.1),
-    last_at c.pass.new.front c.in-Some.front.visits c.pass.new.parcel.strip c.number-worker.result
-    (ap (λ (f : FrontParts). f.visits) is ∙ ap (λ n. Rattle.std.proofs.Common.◌++◌ c.in-Some.front.visits (Rattle.std.proofs.Common.◌∷◌ (Rattle.sgm_strip.specs.Fronts.visit_of n c.number-worker.result) Rattle.std.proofs.Common.[])) (sym (ap (λ (p : ParcelParts). p.strip) c.pass.ensures.parcel))))
+    let on = c.in-Some.ensures.front.0 in (
+      (ap (λ (f : FrontParts). f.scene) is ∙ on.0, ap (λ (f : FrontParts). f.cut) is ∙ on.1),
+      last_at c.pass.new.front c.in-Some.front.visits c.pass.new.parcel.strip c.number-worker.result
+          (ap (λ (f : FrontParts). f.visits) is ∙ ap (λ n. Rattle.std.proofs.Common.◌++◌ c.in-Some.front.visits (Rattle.std.proofs.Common.◌∷◌ (Rattle.sgm_strip.specs.Fronts.visit_of n c.number-worker.result) Rattle.std.proofs.Common.[])) (sym (ap (λ (p : ParcelParts). p.strip) c.pass.ensures.parcel))),
+    )
 
 pub returns-clause-parcel : goal.returns-clause-parcel
 returns-clause-parcel c =
@@ -36,13 +37,13 @@ returns-clause-parcel c =
     let put = c.put.ensures.put in
     let took = c.in-Some.ensures.some in
     held_put c.args.board.now (parts_of c.args.pass.now) (parts_of c.put.new.pass) c.args.parcel.now c.pass.new.parcel c.pass.new.front.dir c.requires.parcel
-        (ap (λ (p : PassParts). p.strip) put ∙ ap (λ (p : PassParts). p.strip) took)
-        (ap (λ (p : PassParts). p.done) put ∙ ap (λ (p : PassParts). (after_put p c.pass.new.front.dir).done) took)
-        (subst (λ d. c.pass.new.parcel ≡ parcel_of c.args.parcel.now.scene c.args.parcel.now.cut c.args.parcel.now.strip (with_done c.args.parcel.now.done d) c.args.parcel.now.costs c.pass.new.parcel.sums) (sym same) c.pass.ensures.parcel)
-        (subst (λ d. is_done c.pass.new.parcel.done d ≡ Rattle.std.proofs.Common.true) (sym same) c.pass.ensures.done)
+    (ap (λ (p : PassParts). p.strip) put ∙ ap (λ (p : PassParts). p.strip) took)
+    (ap (λ (p : PassParts). p.done) put ∙ ap (λ (p : PassParts). (after_put p c.pass.new.front.dir).done) took)
+    (subst (λ d. c.pass.new.parcel ≡ parcel_of c.args.parcel.now.scene c.args.parcel.now.cut c.args.parcel.now.strip (with_done c.args.parcel.now.done d) c.args.parcel.now.costs c.pass.new.parcel.sums) (sym same) c.pass.ensures.parcel)
+    (subst (λ d. is_done c.pass.new.parcel.done d ≡ Rattle.std.proofs.Common.true) (sym same) c.pass.ensures.done)
 
 pub returns-clause-tried : goal.returns-clause-tried
 returns-clause-tried c =
     let same : c.pass.new.front.dir ≡ c.args.dir = ap (λ (f : FrontParts). f.dir) c.pass.ensures.front ∙ c.in-Some.ensures.front.1 in
     tried_some (parts_of c.args.pass.now) c.args.parcel.now.strip c.args.dir _ (2 * position_of c.pass.new.front.dir c.pass.new.parcel.strip (strips_of c.args.board.now) + 1) (parts_of c.try_take.new.pass) (parts_of c.put.new.pass) c.in-Some.ensures.some
-        (c.put.ensures.put ∙ ap (λ (d : Dir). after_put (after_look (parts_of c.try_take.new.pass) (dir_word d) (2 * position_of c.pass.new.front.dir c.pass.new.parcel.strip (strips_of c.args.board.now) + 1)) d) same)
+    (c.put.ensures.put ∙ ap (λ (d : Dir). after_put (after_look (parts_of c.try_take.new.pass) (dir_word d) (2 * position_of c.pass.new.front.dir c.pass.new.parcel.strip (strips_of c.args.board.now) + 1)) d) same)

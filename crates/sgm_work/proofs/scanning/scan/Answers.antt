@@ -1,4 +1,4 @@
-use Rattle.std.proofs.Common.{◌≡◌, ◌∙◌, refl, subst, arith}
+use Rattle.std.proofs.Common.{◌∙◌, refl, arith}
 use Rattle.sgm_board.specs.Boards.{parts_of}
 use Rattle.sgm_work.proofs.Visiting.{looks_more, same_pass, same_still, tries_more, tries_none}
 use Rattle.sgm_work.proofs.scanning.scan.Goals as goal

@@ -24,4 +24,4 @@ returns-clause-tried g c =
     let inv = c.loop-front.invariant in
     let all : c.loop-front.front ≡ 6 = omega arith in
     first_returned c.args.parcel.strip c.loop-front.parcel.strip 6 c.loop-front.handed 1 _ _ _
-        (subst (λ n. HasTriedFirst c.args.parcel.strip n c.loop-front.handed (parts_of c.args.pass.now) (parts_of c.loop-front.pass)) all inv.tried) c.give_back.ensures.back
+    (subst (λ n. HasTriedFirst c.args.parcel.strip n c.loop-front.handed (parts_of c.args.pass.now) (parts_of c.loop-front.pass)) all inv.tried) c.give_back.ensures.back

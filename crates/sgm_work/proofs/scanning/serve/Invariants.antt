@@ -1,6 +1,5 @@
 use Rattle.std.proofs.Common.{◌≡◌, ◌≤◌, None}
-use Rattle.sgm_strip.specs.Scenes.{row_length}
-use Rattle.sgm_board.specs.Boards.{parts_of, scene_of, IsPassOf, IsHeld}
+use Rattle.sgm_board.specs.Boards.{parts_of, IsPassOf, IsHeld}
 use Rattle.sgm_work.specs.Tries.{HasTriedFirst}
 use Rattle.sgm_work.proofs.scanning.serve.Given as goal
 

@@ -1,4 +1,4 @@
-use Rattle.std.proofs.Common.{◌≡◌, ap, ◌∙◌, arith, refl}
+use Rattle.std.proofs.Common.{ap, ◌∙◌, arith}
 use Rattle.sgm_board.specs.Passes.{PassParts}
 use Rattle.sgm_board.specs.Boards.{parts_of, strips_of}
 use Rattle.sgm_work.proofs.Glancing.{glanced_more, glanced_none, over_all, over_more}

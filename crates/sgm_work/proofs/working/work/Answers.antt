@@ -1,4 +1,4 @@
-use Rattle.std.proofs.Common.{◌≡◌, ◌∙◌, ◌+◌, refl, subst, inl, inr, arith}
+use Rattle.std.proofs.Common.{◌≡◌, ◌∙◌, refl, subst, inl, inr, arith}
 use Rattle.sgm_board.specs.Boards.{parts_of, strips_of}
 use Rattle.sgm_work.specs.Worked.{LooksMore, most_scans}
 use Rattle.sgm_work.proofs.Visiting.{same_pass, tries_none}
