@@ -1,12 +1,11 @@
 //! What a match writes.
 
 use super::ended::{assert_ended, assert_held, end_on, shelf_of};
-use super::fixtures::{
-    DISPARITIES, HEIGHTS, REPORT, SUMMARY, example, file, files_with, words_of,
-};
+use super::fixtures::{DISPARITIES, HEIGHTS, REPORT, SUMMARY, example, file, files_with, words_of};
 use crate::run;
 use sgm_example::{CALIBRATION, CAMERA, END, GRID, LEFT, SETTINGS};
 use sgm_io::{MemorySink, SureShelf};
+use sgm_work::OpenGate;
 use std::test::Fail;
 
 #[test]
@@ -18,7 +17,7 @@ fn the_worked_example_is_written_whole(rt: HostRuntime) -> Result<(), Fail> {
         "match l.pgm r.pgm c.json o strips=3 workers=2",
     ] {
         let mut shelf = shelf_of(alloc, example(alloc)?)?;
-        let ended = end_on(alloc, line, &mut shelf)?;
+        let ended = end_on(&rt, alloc, line, &mut shelf)?;
         assert_ended(&rt, &ended, 0, SUMMARY, b"", line);
         assert_held(&rt, alloc, &mut shelf, whole, line)?;
     }
@@ -30,7 +29,7 @@ fn the_calibration_asks_for_the_files(rt: HostRuntime) -> Result<(), Fail> {
     let alloc = rt.alloc();
     let line = "match l.pgm r.pgm c.json o";
     let mut shelf = shelf_of(alloc, files_with(alloc, &[SETTINGS, END])?)?;
-    let ended = end_on(alloc, line, &mut shelf)?;
+    let ended = end_on(&rt, alloc, line, &mut shelf)?;
     assert_ended(&rt, &ended, 0, SUMMARY, b"", "no grid");
     assert_held(
         &rt,
@@ -46,7 +45,7 @@ fn the_calibration_asks_for_the_files(rt: HostRuntime) -> Result<(), Fail> {
         files.push(file(alloc, name, LEFT)?)?;
     }
     let mut shelf = shelf_of(alloc, files)?;
-    let ended = end_on(alloc, line, &mut shelf)?;
+    let ended = end_on(&rt, alloc, line, &mut shelf)?;
     assert_ended(&rt, &ended, 0, SUMMARY, b"", "no regions");
     let outputs = [Some(DISPARITIES), Some(HEIGHTS), Some(LEFT)];
     assert_held(&rt, alloc, &mut shelf, outputs, "no regions")
@@ -63,7 +62,7 @@ fn plain_settings_serve_a_pair_of_two_pixels(rt: HostRuntime) -> Result<(), Fail
         let mut files = Vec::new(alloc);
         files.push(file(alloc, "two.pgm", b"P5\n2 1\n255\n\x00\xff")?)?;
         let mut shelf = shelf_of(alloc, files)?;
-        let ended = end_on(alloc, line, &mut shelf)?;
+        let ended = end_on(&rt, alloc, line, &mut shelf)?;
         assert_ended(&rt, &ended, 0, b"valid 2 of 2\n", b"", line);
         assert_held(&rt, alloc, &mut shelf, [disparities, None, None], line)?;
     }
@@ -72,7 +71,7 @@ fn plain_settings_serve_a_pair_of_two_pixels(rt: HostRuntime) -> Result<(), Fail
     files.push(file(alloc, "two.pgm", b"P5\n2 1\n255\n\x00\xff")?)?;
     let nothing = Some(b"".as_slice());
     let mut sure = SureShelf::make(alloc, files)?;
-    let ended = end_on(alloc, "match two.pgm two.pgm - o", &mut sure)?;
+    let ended = end_on(&rt, alloc, "match two.pgm two.pgm - o", &mut sure)?;
     assert_ended(&rt, &ended, 0, b"valid 2 of 2\n", b"", "sure");
     assert_held(
         &rt,
@@ -90,7 +89,9 @@ fn sinks_fill_up(rt: HostRuntime) -> Result<(), Fail> {
     let mut shelf = shelf_of(alloc, files_with(alloc, &CALIBRATION)?)?;
     let mut out = MemorySink::make(alloc, 4096, Some(6))?;
     let mut deaf = MemorySink::make(alloc, 0, None)?;
-    let outcome = run(alloc, &line, &mut shelf, &mut out, &mut deaf);
+    let outcome = run(
+        &rt, alloc, &line, &mut shelf, &mut out, &mut deaf, &OpenGate,
+    );
     assert_eq!(rt; outcome.status(), 5);
     assert_eq!(rt; out.taken(), b"valid ".as_slice());
     assert_eq!(rt; deaf.taken(), b"".as_slice());
