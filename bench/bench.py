@@ -4,8 +4,9 @@
     bench/bench.py [--only 640x480] [--strips 1 7 64] [--workers 1 4] [--builds] [--parts] [--runs 3]
 
 Makes pairs of three sizes, runs the program on each with 64 and, for the two larger sizes, 128
-disparities, and prints a Markdown table: the least seconds of some runs, cells a second (width *
-height * disparities / seconds), the greatest memory that a run held and the least processor seconds. The program's seconds are
+disparities, and prints a Markdown table: the least seconds of some runs, how many times as fast that is
+as the fastest row of one worker above it, cells a second (width * height * disparities / seconds), the
+greatest memory that a run held and the least processor seconds. The program's seconds are
 those of the whole run, with reading and writing files. Where `import cv2` works (Debian:
 python3-opencv, for /usr/bin/python3), StereoSGBM with all eight directions (MODE_HH) and one thread
 matches the same pairs in the same run; its seconds are those of the matching alone. The program is
@@ -210,7 +211,7 @@ def splits(words):
 
 
 def heads(words, has_opencv):
-    made = ["Size", "Disparities", "Strips, workers", "Seconds", "Million cells/s", "Memory, MB", "Processor, seconds"]
+    made = ["Size", "Disparities", "Strips, workers", "Seconds", "Speed-up", "Million cells/s", "Memory, MB", "Processor, seconds"]
     if has_opencv:
         made += ["OpenCV, seconds", "OpenCV, MB", "OpenCV, processor", "Seconds / OpenCV's", "Processor / OpenCV's"]
     return ["Build", *made] if words.builds else made
@@ -222,11 +223,15 @@ def measure(words, cases, programs, python, folder):
         calibration, out = write_calibration(folder, count), os.path.join(folder, "out")
         opencv = beside(python, pair, count, words.runs)
         for build_name, program in programs:
+            alone = None
             for strips, workers in splits(words):
                 command = [program, "match", *pair, calibration, out, f"strips={strips}", f"workers={workers}"]
                 runs = [measured(command) for _ in range(words.runs)]
                 seconds, memory, busy = min(run[0] for run in runs), max(run[1] for run in runs), min(run[3] for run in runs)
-                cells = [f"{width} x {height}", str(count), f"{strips}, {workers}", f"{seconds:.2f}"]
+                if workers == 1:
+                    alone = min(seconds, alone or seconds)
+                speed_up = f"{alone / seconds:.2f}" if alone else "-"
+                cells = [f"{width} x {height}", str(count), f"{strips}, {workers}", f"{seconds:.2f}", speed_up]
                 cells += [f"{width * height * count / seconds / 1e6:.1f}", f"{memory:.0f}", f"{busy:.2f}"]
                 if opencv:
                     cells += [f"{opencv[0]:.2f}", f"{opencv[1]:.0f}", f"{opencv[2]:.2f}"]
@@ -249,13 +254,12 @@ def within(low, high):
 def words_of():
     epilog = "Example: bench/bench.py --only 1280x720 --strips 1 16 64 --workers 1 2 4 --builds --parts"
     parser = argparse.ArgumentParser(description=__doc__.split("\n\n")[0], epilog=epilog)
-    most = min(16, len(os.sched_getaffinity(0)))
     sizes = sorted({f"{width}x{height}" for width, height, _ in CASES}, key=len)
     parser.add_argument("--only", choices=sizes, help="one size instead of all three")
     help_strips = "1 to 64; without it 1 for one worker and four for each where there are more"
     parser.add_argument("--strips", type=within(1, 64), nargs="+", metavar="N", help=help_strips)
-    help_workers = "1 to 16; without it 1, and as many as there are processors"
-    parser.add_argument("--workers", type=within(1, 16), nargs="+", metavar="N", default=sorted({1, most}), help=help_workers)
+    help_workers = "1 to 16; without it 1, 2 and 4"
+    parser.add_argument("--workers", type=within(1, 16), nargs="+", metavar="N", default=[1, 2, 4], help=help_workers)
     parser.add_argument("--builds", action="store_true", help=f"build and measure the gate's program ({GATE}) and the launcher's")
     parser.add_argument("--parts", action="store_true", help="print where the time goes too, by functions (needs Linux's perf)")
     parser.add_argument("--runs", type=within(1, 1000), metavar="N", default=3, help="take the least of so many runs (3)")

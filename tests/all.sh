@@ -32,6 +32,7 @@ heights_picture     -           tools/test_heights_picture.py
 opencv_calibration  -           tools/test_opencv_calibration.py
 beside_opencv       opencv      tools/test_opencv_calibration.py BesideOpenCV
 ends                program     tests/ends.sh
+workers             program     tests/workers.sh
 random_cases        program     tests/random_cases.py --cases 300
 asc_gdal            program,gdal    tests/asc_gdal.sh
 pgm_tools           program,netpbm  tests/pgm_tools.sh

@@ -13,7 +13,9 @@ use sgm_base::Size;
 use sgm_calib::Calib;
 use sgm_io::{Sink, write_whole};
 use sgm_job::survey;
+use sgm_work::Gate;
 use std::alloc::Global;
+use std::thread::Threads;
 
 /// The width of the generated pair, in pixels.
 pub const DEMO_WIDTH: u32 = 256;
@@ -22,7 +24,14 @@ pub const DEMO_WIDTH: u32 = 256;
 pub const DEMO_HEIGHT: u32 = 192;
 
 // The summary of a demo: the pair that is generated from the number, with the plain settings.
-fn demo_summary(alloc: Global, number: u32, strips: u32, workers: u32) -> Result<String, TextsError>
+fn demo_summary<R: Threads + Sync, G: Gate + Sync>(
+    rt: &R,
+    alloc: Global,
+    number: u32,
+    strips: u32,
+    workers: u32,
+    gate: &G,
+) -> Result<String, TextsError>
     requires strips { IsStrips strips }
     requires workers { IsWorkers workers }
     ensures { MatchResult result
@@ -33,18 +42,29 @@ fn demo_summary(alloc: Global, number: u32, strips: u32, workers: u32) -> Result
         height: DEMO_HEIGHT,
     };
     let (left, right) = pair(alloc, size, number)?;
-    let surveyed = survey(alloc, &left, &right, &Calib::plain(), strips, workers)?;
+    let surveyed = survey(
+        rt,
+        alloc,
+        &left,
+        &right,
+        &Calib::plain(),
+        strips,
+        workers,
+        gate,
+    )?;
     let summary = demo_text(alloc, &surveyed.disp)?;
     Ok(summary)
 }
 
 /// Surveys the pair that is generated from the number, and writes the summary.
-pub fn run_demo<O: Sink>(
+pub fn run_demo<R: Threads + Sync, O: Sink, G: Gate + Sync>(
+    rt: &R,
     alloc: Global,
     number: u32,
     strips: u32,
     workers: u32,
     out: &mut O,
+    gate: &G,
 ) -> Outcome
     requires strips { IsStrips strips }
     requires workers { IsWorkers workers }
@@ -53,7 +73,7 @@ pub fn run_demo<O: Sink>(
     ensures untouched { IsTrue O.tells → OutUntouched result (O.written out.old) (O.written out.new) }
     ensures counts { (reads writes : Counts) → OutCountsShow result (faults reads writes (O.faults out.old)) (faults reads writes (O.faults out.new)) }
 {
-    match demo_summary(alloc, number, strips, workers) {
+    match demo_summary(rt, alloc, number, strips, workers, gate) {
         Ok(summary) => match write_whole(out, summary.as_bytes()) {
             Ok(()) => Outcome::Done,
             Err(_) => Outcome::WriteFault(Output::Summary),

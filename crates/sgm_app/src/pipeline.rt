@@ -16,14 +16,18 @@ use crate::stops::TextsError;
 use crate::texts::MadeTexts;
 use sgm_base::Side;
 use sgm_job::survey;
+use sgm_work::Gate;
 use std::alloc::Global;
+use std::thread::Threads;
 
 /// The texts that the inputs call for: they are judged, surveyed, and all texts are made.
-pub fn texts(
+pub fn texts<R: Threads + Sync, G: Gate + Sync>(
+    rt: &R,
     alloc: Global,
     inputs: &Inputs,
     strips: u32,
     workers: u32,
+    gate: &G,
 ) -> Result<MadeTexts, TextsError>
     requires strips { IsStrips strips }
     requires workers { IsWorkers workers }
@@ -35,7 +39,7 @@ pub fn texts(
     let left = judge_image(alloc, Side::Left, &inputs.left)?;
     let right = judge_image(alloc, Side::Right, &inputs.right)?;
     let calib = judge_calib(alloc, &inputs.calib)?;
-    let surveyed = survey(alloc, &left, &right, &calib, strips, workers)?;
+    let surveyed = survey(rt, alloc, &left, &right, &calib, strips, workers, gate)?;
     let made = MadeTexts::of(alloc, &calib, &surveyed)?;
     Ok(made)
 }

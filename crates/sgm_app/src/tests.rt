@@ -6,3 +6,4 @@ mod pairs;
 mod recording;
 mod refusals;
 mod trips;
+mod workers;

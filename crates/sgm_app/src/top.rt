@@ -21,16 +21,20 @@ use crate::pipeline::texts;
 use crate::{Options, Outcome, read_words, write_fault};
 use sgm_io::{Shelf, Sink};
 use sgm_words::OperandWords;
+use sgm_work::Gate;
 use std::alloc::Global;
+use std::thread::Threads;
 
 // Gathers the inputs; makes their texts, which judges and surveys them; names the texts; and delivers them.
-fn run_match<S: Shelf, O: Sink>(
+fn run_match<R: Threads + Sync, S: Shelf, O: Sink, G: Gate + Sync>(
+    rt: &R,
     alloc: Global,
     operands: &OperandWords<'_>,
     strips: u32,
     workers: u32,
     shelf: &mut S,
     out: &mut O,
+    gate: &G,
 ) -> Outcome
     requires strips { IsStrips strips }
     requires workers { IsWorkers workers }
@@ -52,7 +56,7 @@ fn run_match<S: Shelf, O: Sink>(
         Ok(inputs) => inputs,
         Err(stop) => return stop.outcome(),
     };
-    let texts = match texts(alloc, &inputs, strips, workers) {
+    let texts = match texts(rt, alloc, &inputs, strips, workers, gate) {
         Ok(texts) => texts,
         Err(error) => return error.outcome(),
     };
@@ -62,11 +66,13 @@ fn run_match<S: Shelf, O: Sink>(
     }
 }
 
-fn carry_out<S: Shelf, O: Sink>(
+fn carry_out<R: Threads + Sync, S: Shelf, O: Sink, G: Gate + Sync>(
+    rt: &R,
     alloc: Global,
     words: &[String],
     shelf: &mut S,
     out: &mut O,
+    gate: &G,
 ) -> Outcome
     ensures cause { IsTrue S.tells → (v : Verdict) → CallsFor (bytes_of words.now) (S.held shelf.old) v → ShownBy v result }
     ensures files { IsTrue S.tells → (v : Verdict) → CallsFor (bytes_of words.now) (S.held shelf.old) v
@@ -85,12 +91,14 @@ fn carry_out<S: Shelf, O: Sink>(
 {
     match read_words(words) {
         Ok(Options::Match { strips, workers }) => run_match(
+            rt,
             alloc,
             &OperandWords::of(words),
             strips,
             workers,
             shelf,
             out,
+            gate,
         ),
         Ok(
             Options::Demo {
@@ -98,20 +106,24 @@ fn carry_out<S: Shelf, O: Sink>(
                 strips,
                 workers,
             },
-        ) => run_demo(alloc, number, strips, workers, out),
+        ) => run_demo(rt, alloc, number, strips, workers, out, gate),
         Err(fault) => Outcome::Usage(fault),
     }
 }
 
 /// The tool: from the words after the program's name to the files, the summary and the line of the
-/// outcome. Clauses on files stand where the shelf tells its bytes, those on what `out` and `err` have
-/// received where these do.
-pub fn run<S: Shelf, O: Sink, E: Sink>(
+/// outcome. So many workers as the words say match the images, each in a thread of its own where one can
+/// be made, and come to the gate with each strip that they claim; whatever their steps and their order,
+/// each clause stands. Clauses on files stand where the shelf tells its bytes, those on what `out` and
+/// `err` have received where these do.
+pub fn run<R: Threads + Sync, S: Shelf, O: Sink, E: Sink, G: Gate + Sync>(
+    rt: &R,
     alloc: Global,
     words: &[String],
     shelf: &mut S,
     out: &mut O,
     err: &mut E,
+    gate: &G,
 ) -> Outcome
     // What the words call for over the held files shows why the run ended so.
     ensures cause { IsTrue S.tells → (v : Verdict) → CallsFor (bytes_of words.now) (S.held shelf.old) v
@@ -154,7 +166,7 @@ pub fn run<S: Shelf, O: Sink, E: Sink>(
         → TakesLine (line_of result) (E.faults err.old) (E.faults err.new) (E.written err.old) (E.written err.new) }
     ensures err_faults { E.faults err.old ≤ E.faults err.new }
 {
-    let outcome = carry_out(alloc, words, shelf, out);
+    let outcome = carry_out(rt, alloc, words, shelf, out, gate);
     write_fault(&outcome, err);
     outcome
 }

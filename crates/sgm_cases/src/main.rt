@@ -14,14 +14,15 @@ mod run;
 mod words;
 
 use parts::cut;
-use std::alloc::{AllocError, Global};
+use std::alloc::AllocError;
 use std::io;
 
-fn answer(alloc: Global, kind: &str, rest: &str) -> Result<String, AllocError> {
+fn answer(rt: &HostRuntime, kind: &str, rest: &str) -> Result<String, AllocError> {
+    let alloc = rt.alloc();
     match kind {
         "calib" => calib::answer(alloc, rest),
         "line" => line::answer(alloc, rest),
-        "run" => run::answer(alloc, rest),
+        "run" => run::answer(rt, alloc, rest),
         "words" => words::answer(alloc, rest),
         _ => String::from_str(alloc, "no such kind"),
     }
@@ -30,7 +31,7 @@ fn answer(alloc: Global, kind: &str, rest: &str) -> Result<String, AllocError> {
 /// Prints the case where its answer isn't the one that is owed.
 fn compare(rt: &HostRuntime, case: &str, owed: &str) -> io::Result<()> {
     let (kind, rest) = cut(case);
-    let text = answer(rt.alloc(), kind, rest)?;
+    let text = answer(rt, kind, rest)?;
     if text.as_str() != owed {
         println!(rt; "{case}: {text}")?;
     }

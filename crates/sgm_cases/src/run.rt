@@ -10,8 +10,10 @@ use crate::parts::{cut, words_of};
 use crate::{escapes, example};
 use sgm_app::run;
 use sgm_io::{FetchError, MemoryShelf, MemorySink, Shelf, SureShelf, Trip};
+use sgm_work::OpenGate;
 use std::alloc::{AllocError, Global};
 use std::fmt::Write;
+use std::thread::Threads;
 
 /// The room of a stream, and the most bytes of a file that is looked at.
 const ROOM: usize = 4096;
@@ -138,14 +140,15 @@ fn push_held<S: Shelf>(
 }
 
 /// How a run of these words ends over the shelf, with these streams.
-fn end_of<S: Shelf>(
+fn end_of<R: Threads + Sync, S: Shelf>(
+    rt: &R,
     alloc: Global,
     words: &[String],
     shelf: &mut S,
     mut out: MemorySink,
     mut err: MemorySink,
 ) -> Result<String, AllocError> {
-    let outcome = run(alloc, words, shelf, &mut out, &mut err);
+    let outcome = run(rt, alloc, words, shelf, &mut out, &mut err, &OpenGate);
     let status = outcome.status();
     let mut text = format!(in alloc; "{status}")?;
     for name in ["o.pgm", "o.asc", "o.csv"] {
@@ -158,7 +161,7 @@ fn end_of<S: Shelf>(
     Ok(text)
 }
 
-fn end_of_case(alloc: Global, case: Case) -> Result<String, AllocError> {
+fn end_of_case<R: Threads + Sync>(rt: &R, alloc: Global, case: Case) -> Result<String, AllocError> {
     let Case {
         words,
         files,
@@ -171,17 +174,17 @@ fn end_of_case(alloc: Global, case: Case) -> Result<String, AllocError> {
     let err = MemorySink::make(alloc, err_room, None)?;
     if is_sure {
         let mut shelf = SureShelf::make(alloc, files)?;
-        end_of(alloc, &words, &mut shelf, out, err)
+        end_of(rt, alloc, &words, &mut shelf, out, err)
     } else {
         let mut shelf = MemoryShelf::make(alloc, files, trips)?;
-        end_of(alloc, &words, &mut shelf, out, err)
+        end_of(rt, alloc, &words, &mut shelf, out, err)
     }
 }
 
 /// The answer to the case of that text.
-pub fn answer(alloc: Global, case: &str) -> Result<String, AllocError> {
+pub fn answer<R: Threads + Sync>(rt: &R, alloc: Global, case: &str) -> Result<String, AllocError> {
     match read_case(alloc, case)? {
-        Some(case) => end_of_case(alloc, case),
+        Some(case) => end_of_case(rt, alloc, case),
         None => String::from_str(alloc, "no such case"),
     }
 }

@@ -3,6 +3,7 @@
 
 use sgm_app::run;
 use sgm_io::{DiskShelf, StdSink};
+use sgm_work::OpenGate;
 use std::process::ExitCode;
 use std::{env, io};
 
@@ -22,6 +23,14 @@ fn main(rt: HostRuntime) -> ExitCode {
     let mut shelf = DiskShelf::make(&rt, rt.alloc());
     let mut out = StdSink::make(rt.stdout());
     let mut err = StdSink::make(rt.stderr());
-    let outcome = run(rt.alloc(), &words, &mut shelf, &mut out, &mut err);
+    let outcome = run(
+        &rt,
+        rt.alloc(),
+        &words,
+        &mut shelf,
+        &mut out,
+        &mut err,
+        &OpenGate,
+    );
     ExitCode::from(outcome.status())
 }

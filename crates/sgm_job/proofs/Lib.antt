@@ -1,4 +1,5 @@
+pub mod Making
 pub mod Passing
 pub mod Pointing
-pub mod Through
 pub mod Surveying
+pub mod StripRows

@@ -11,7 +11,10 @@ use Rattle.sgm_rectify.specs.Faults.{Suits, warp_fault}
 use Rattle.sgm_rectify.specs.declared.warp.Warp.{Warp}
 use Rattle.sgm_rectify.specs.Warps.{IsWarp}
 use Rattle.sgm_rectify.specs.Rectified.{rectified_values, sides_of}
+use Rattle.sgm_census.specs.Codes.{Codes}
+use Rattle.sgm_census.specs.Windows.{WindowSides}
 use Rattle.sgm_calib.specs.Calibration.{Calibration, IsCalibration}
+use Rattle.sgm_job.specs.Matching.{IsMade}
 use Rattle.sgm_job.specs.declared.job.SurveyFault.{SurveyFault}
 use Rattle.sgm_job.specs.declared.job.SurveyFault.TheVariants as fault
 use Rattle.sgm_base.specs.declared.side.Side.TheVariants.{Left, Right}
@@ -106,6 +109,13 @@ plane_width image warp plane e = ap (λ (p : Values). p.width) e
 pub plane_height : (image : Picture) (warp : Warp) (plane : Values) → plane ≡ rectified_values image warp → plane.height ≡ image.height
 unfolding rectified_values
 plane_height image warp plane e = ap (λ (p : Values). p.height) e
+
+-- and so have its codes
+pub coded_width : (image : Picture) (warp : Warp) (window : WindowSides) (plane : Values) (codes : Codes) → IsMade image warp window plane codes → codes.width ≡ image.width
+coded_width image warp window plane codes made = ap (λ (c : Codes). c.width) made.coded ∙ plane_width image warp plane made.rectified
+
+pub coded_height : (image : Picture) (warp : Warp) (window : WindowSides) (plane : Values) (codes : Codes) → IsMade image warp window plane codes → codes.height ≡ image.height
+coded_height image warp window plane codes made = ap (λ (c : Codes). c.height) made.coded ∙ plane_height image warp plane made.rectified
 
 pub same_width : (left right : Picture) (a b : Sides) (calib : Calibration) → a ≡ sides_of left → b ≡ sides_of right → Passes a b calib → left.width ≡ right.width
 same_width left right a b calib ea eb pass = ap (λ (s : Sides). s.width) (sym ea ∙ pass.same ∙ eb)

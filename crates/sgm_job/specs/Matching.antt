@@ -1,7 +1,41 @@
--- The parcels of a scene while fronts are handed through them.
-use Rattle.std.specs.Prelude.{◌≡◌, Bool, List, All}
-use Rattle.sgm_strip.specs.Parcels.{ParcelParts}
+-- What stands between the images and the disparities.
+use Rattle.std.specs.Prelude.{◌≡◌, ℕ, false, List, length, slice_get, Some, All}
+use Rattle.sgm_base.specs.Picture.{Picture}
+use Rattle.sgm_base.specs.Values.{Values}
+use Rattle.sgm_census.specs.Codes.{Codes, codes_of}
+use Rattle.sgm_census.specs.Windows.{WindowSides}
+use Rattle.sgm_rectify.specs.declared.warp.Warp.{Warp}
+use Rattle.sgm_rectify.specs.Rectified.{rectified_values}
+use Rattle.sgm_energy.specs.declared.dir.Dir.{Dir}
+use Rattle.sgm_energy.specs.Dirs.{front_of}
+use Rattle.sgm_strip.specs.Cuts.{CutParts}
+use Rattle.sgm_strip.specs.Scenes.{SceneParts}
+use Rattle.sgm_strip.specs.Parcels.{ParcelParts, level_done}
+use Rattle.sgm_strip.specs.Fronts.{FrontParts}
+use Rattle.sgm_strip.specs.Strips.{AreComplete, IsStripOf}
+use Rattle.sgm_board.specs.Ready.{IsNewFront}
 
--- these directions are done in each parcel
-abbrev pub AllDone : List Bool → List ParcelParts → Type 0
-AllDone done parcels = All (λ parcel. parcel.done ≡ done) parcels
+-- the plane is the rectified image, and the codes are those of its pixels
+pub record IsMade (image : Picture) (warp : Warp) (window : WindowSides) (plane : Values) (codes : Codes) : Type 0 where
+  pub rectified : plane ≡ rectified_values image warp
+  pub coded : codes ≡ codes_of plane window
+
+-- the parcel of a strip, with the two level directions done and no other
+pub record IsNewParcel (scene : SceneParts) (cut : CutParts) (strip : ℕ) (parcel : ParcelParts) : Type 0 where
+  pub is : IsStripOf scene cut strip parcel
+  pub level : parcel.done ≡ level_done
+
+-- the fronts are the six, in order, and have visited no strip
+pub record AreNewFronts (scene : SceneParts) (cut : CutParts) (fronts : List FrontParts) : Type 0 where
+  pub six : length fronts ≡ 6
+  pub new : (dir : Dir) (place : ℕ) (front : FrontParts) → front_of dir ≡ Some place → slice_get fronts place ≡ Some front
+      → IsNewFront scene cut dir front
+
+-- the parcels are all strips of a scene, each complete, and the planes have its sides
+pub record CanSelect (left right : Values) (parcels : List ParcelParts) : Type 0 where
+  pub scene : SceneParts
+  pub complete : AreComplete scene parcels
+  pub left_width : left.width ≡ scene.left.width
+  pub left_height : left.height ≡ scene.left.height
+  pub right_width : right.width ≡ scene.left.width
+  pub right_height : right.height ≡ scene.left.height

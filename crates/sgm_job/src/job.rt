@@ -2,18 +2,27 @@ ghost use Rattle.std.specs.Prelude.{◌≡◌, ◌≤◌, IfOk, Some, None};
 ghost use Rattle.sgm_rectify.specs.Warps.{IsWarp};
 ghost use Rattle.sgm_base.specs.Values.{AtMost};
 ghost use Rattle.sgm_base.specs.declared.limits.TheConstants.{MAX_DISPARITY, MAX_STRIPS, MAX_WORKERS};
+ghost use Rattle.sgm_census.specs.Matching.{matching_problem};
+ghost use Rattle.sgm_energy.specs.Pens.{p1_of, p2_of};
+ghost use Rattle.sgm_select.specs.Selection.{disparities_of};
 ghost use Rattle.sgm_job.specs.Survey.{pair_fault, side_fault, surveyed};
 ghost use Rattle.sgm_job.specs.Answers.{Answers};
 
 use crate::heights::heights;
-use crate::matching::disparity_map;
+use crate::matching::complete_parcels;
+use crate::planes::{Coded, prepare_both};
+use crate::selecting::select_all;
 use crate::tallies::tallies;
-use sgm_base::{DispMap, Image, MAX_VOLUME, Side, Size};
+use sgm_base::{DispMap, Image, MAX_VOLUME, Side, Size, Span};
 use sgm_calib::Calib;
+use sgm_energy::Pen;
 use sgm_grid::Grid;
-use sgm_rectify::{Warp, WarpFault, rectify};
+use sgm_rectify::{Warp, WarpFault};
 use sgm_report::RegionTally;
+use sgm_strip::Scene;
+use sgm_work::Gate;
 use std::alloc::{AllocError, Global};
+use std::thread::Threads;
 
 /// Why a pair of images is refused.
 #[derive(Clone, Copy, Debug, PartialEq, Eq)]
@@ -93,40 +102,90 @@ fn pair_fault(left: Size, right: Size, calib: &Calib) -> Option<SurveyFault>
     }
 }
 
+/// The disparity of each pixel of the left plane.
+fn disparity_map<R: Threads + Sync, G: Gate + Sync>(
+    rt: &R,
+    alloc: Global,
+    left: Coded,
+    right: Coded,
+    span: Span,
+    pen: Pen,
+    strips: u32,
+    workers: u32,
+    gate: &G,
+) -> Result<DispMap, AllocError>
+    requires same_width { left.codes.width ≡ right.codes.width }
+    requires same_height { left.codes.height ≡ right.codes.height }
+    requires same_window { left.codes.window ≡ right.codes.window }
+    requires left_width { left.plane.width ≡ left.codes.width }
+    requires left_height { left.plane.height ≡ left.codes.height }
+    requires right_width { right.plane.width ≡ left.codes.width }
+    requires right_height { right.plane.height ≡ left.codes.height }
+    requires strips { (1 ≤ strips) × (strips ≤ MAX_STRIPS) }
+    requires workers { (1 ≤ workers) × (workers ≤ MAX_WORKERS) }
+    ensures exact { IfOk result (λ m. m ≡ disparities_of
+        (matching_problem left.codes right.codes span (p1_of pen) (p2_of pen)) left.plane right.plane span.first) }
+    ensures bound { IfOk result (λ m. AtMost MAX_DISPARITY m.entries) }
+{
+    // Known from here on: the range of the span.
+    let _ = &span.count;
+    let scene = Scene::make(left.codes, right.codes, span, pen);
+    let parcels = complete_parcels(rt, alloc, &scene, strips, workers, gate)?;
+    select_all(
+        rt,
+        alloc,
+        &left.plane,
+        &right.plane,
+        &parcels,
+        workers as usize,
+    )
+}
+
 /// Surveys a pair of images: rectifies them, matches them, and gives for each pixel of the left one the index
 /// of its disparity in sixteenths, or None where the match isn't the same from the right or a pixel is void;
 /// the grid of the greatest heights where the calibration has one; and the tally of each region where it has
 /// regions. Faults are seen to before memory is taken, in the order of [`SurveyFault`]. The image is cut into
-/// `strips`, or as many as it has rows; neither they nor the workers change the answer.
-pub fn survey(
+/// `strips`, or as many as it has rows, and the work is shared among so many `workers`, each in a thread of its
+/// own where one can be made; neither they nor the strips change the answer. The workers come to the gate as
+/// [`sgm_work::scan`] says.
+pub fn survey<R: Threads + Sync, G: Gate + Sync>(
+    rt: &R,
     alloc: Global,
     left: &Image,
     right: &Image,
     calib: &Calib,
     strips: u32,
     workers: u32,
+    gate: &G,
 ) -> Result<Surveyed, SurveyError>
     requires strips { (1 ≤ strips) × (strips ≤ MAX_STRIPS) }
     requires workers { (1 ≤ workers) × (workers ≤ MAX_WORKERS) }
     ensures exact { Answers (surveyed left.now right.now calib.now) result }
     ensures bound { IfOk result (λ survey. AtMost MAX_DISPARITY survey.disp.entries) }
 {
-    // One thread does the work.
-    let _ = workers;
     if let Some(fault) = pair_fault(left.size(), right.size(), calib) {
         return Err(SurveyError::Fault(fault));
     }
     let span = calib.span();
-    let left = rectify(alloc, left, calib.left())?;
-    let right = rectify(alloc, right, calib.right())?;
-    let disp = disparity_map(
+    let (left, right) = prepare_both(
+        rt,
         alloc,
-        &left,
-        &right,
-        span,
+        left,
+        calib.left(),
+        right,
+        calib.right(),
         calib.window(),
+    )?;
+    let disp = disparity_map(
+        rt,
+        alloc,
+        left,
+        right,
+        span,
         calib.pen(),
         strips,
+        workers,
+        gate,
     )?;
     let grid = heights(alloc, calib.camera(), calib.grid(), span, &disp)?;
     let tallies = tallies(alloc, grid.as_ref(), calib.regions())?;

@@ -5,6 +5,9 @@
 mod heights;
 mod job;
 mod matching;
+mod planes;
+mod selecting;
+mod sharing;
 mod tallies;
 
 pub use job::{SurveyError, SurveyFault, Surveyed, survey};

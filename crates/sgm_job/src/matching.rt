@@ -1,140 +1,107 @@
-//! From two planes to the disparities of the left one, strip by strip.
+//! From the codes of two planes to complete parcels.
 
-ghost use Rattle.std.specs.Prelude.{◌≡◌, ◌≤◌, [], false, IfOk, OnOk, All, List, Bool};
-ghost use Rattle.sgm_base.specs.declared.limits.TheConstants.{MAX_DISPARITY, MAX_STRIPS};
-ghost use Rattle.sgm_base.specs.Values.{AtMost};
-ghost use Rattle.sgm_census.specs.Codes.{codes_of};
-ghost use Rattle.sgm_census.specs.Matching.{plane_problem};
-ghost use Rattle.sgm_energy.specs.Dirs.{is_level};
+ghost use Rattle.std.specs.Prelude.{◌≡◌, ◌≤◌, ◌<◌, ℕ, IfOk, IfSome, All, Option, length, slice_index_or};
+ghost use Rattle.sgm_base.specs.declared.limits.TheConstants.{MAX_STRIPS, MAX_WORKERS};
 ghost use Rattle.sgm_energy.specs.Pens.{p1_of, p2_of};
-ghost use Rattle.sgm_strip.specs.Parcels.{is_done, level_done, with_done};
-ghost use Rattle.sgm_strip.specs.Scenes.{row_length, scene_of};
+ghost use Rattle.sgm_strip.specs.Parcels.{ParcelParts, level_done};
+ghost use Rattle.sgm_strip.specs.Scenes.{scene_of};
 ghost use Rattle.sgm_strip.specs.Strips.{AreComplete, AreStrips};
-ghost use Rattle.sgm_select.specs.Selection.{disparities_of};
-ghost use Rattle.sgm_job.specs.Matching.{AllDone};
+ghost use Rattle.sgm_job.specs.Matching.{AreNewFronts, IsNewParcel};
 
-use sgm_base::{DispMap, Plane, Span};
-use sgm_census::{Window, codes};
-use sgm_energy::{Dir, Pen};
-use sgm_select::select;
-use sgm_strip::{Cut, Front, Parcel, Row, Scene, pass};
+use crate::sharing::{all_of, empty_places};
+use sgm_energy::Dir;
+use sgm_strip::{Cut, Front, Parcel, Scene};
+use sgm_work::{Gate, match_all};
 use std::alloc::{AllocError, Global};
+use std::thread::{Threads, for_each_mut};
 
-/// The caller's own thread, as a worker.
-const CALLER: u32 = 0;
+/// The number of fronts: one for each direction that is not level.
+const FRONTS: usize = 6;
 
-/// The scene of two planes.
-fn scene(
-    alloc: Global,
-    left: &Plane,
-    right: &Plane,
-    span: Span,
-    window: Window,
-    pen: Pen,
-) -> Result<Scene, AllocError>
-    requires same_width { left.now.width ≡ right.now.width }
-    requires same_height { left.now.height ≡ right.now.height }
-    ensures { IfOk result (λ s. s ≡ scene_of (codes_of left.now window) (codes_of right.now window) span (p1_of pen) (p2_of pen)) }
+/// The parcel of a strip; None where there is no memory.
+fn parcel_at(alloc: Global, scene: &Scene, cut: Cut, strip: usize) -> Option<Parcel>
+    requires height { cut.height ≡ scene.now.left.height }
+    requires strip { strip < cut.strips }
+    ensures { IfSome result (λ parcel. IsNewParcel scene.now cut strip parcel) }
 {
-    let left = codes(alloc, left, window)?;
-    let right = codes(alloc, right, window)?;
-    Ok(Scene::make(left, right, span, pen))
+    Parcel::make(alloc, scene, cut, strip as u32).ok()
 }
 
-/// The parcels of all strips, with both level directions done.
-fn parcels(alloc: Global, scene: &Scene, cut: Cut) -> Result<Vec<Parcel>, AllocError>
-    requires { cut.height ≡ scene.now.left.height }
+/// Makes the parcel of each strip. The thread that makes it is the first that touches its memory.
+fn make_parcels<R: Threads + Sync>(
+    rt: &R,
+    alloc: Global,
+    scene: &Scene,
+    cut: Cut,
+    threads: usize,
+    places: &mut [Option<Parcel>],
+)
+    requires threads { 0 < threads }
+    requires height { cut.height ≡ scene.now.left.height }
+    requires count { length places.old ≡ cut.strips }
+    ensures count { length places.new ≡ cut.strips }
+    ensures made { (strip : ℕ) (d : Option ParcelParts) → strip < cut.strips
+        → IfSome (slice_index_or places.new strip d) (λ parcel. IsNewParcel scene.now cut strip parcel) }
+{
+    for_each_mut(
+        rt,
+        places,
+        threads,
+        &|strip, place| { *place = parcel_at(alloc, scene, cut, strip) },
+    );
+}
+
+/// The parcels of all strips, with both level directions done, made by at most so many threads.
+fn parcels<R: Threads + Sync>(
+    rt: &R,
+    alloc: Global,
+    scene: &Scene,
+    cut: Cut,
+    threads: usize,
+) -> Result<Vec<Parcel>, AllocError>
+    requires threads { 0 < threads }
+    requires height { cut.height ≡ scene.now.left.height }
     ensures strips { IfOk result (λ v. AreStrips scene.now cut v.items) }
-    ensures done { IfOk result (λ v. AllDone level_done v.items) }
+    ensures level { IfOk result (λ v. All (λ parcel. parcel.done ≡ level_done) v.items) }
 {
-    let mut parcels = Vec::with_capacity(alloc, cut.strips as usize)?;
-    for strip in 0..cut.strips {
-        let parcel = Parcel::make(alloc, scene, cut, strip)?;
-        parcels.push(parcel)?;
-    }
-    Ok(parcels)
+    let mut places = empty_places(alloc, cut.strips as usize)?;
+    make_parcels(rt, alloc, scene, cut, threads, places.as_mut_slice());
+    all_of(alloc, places)
 }
 
-/// Hands a front that has visited no strip through all of them, in its order.
-fn hand_through(parcels: &mut [Parcel], front: &mut Front, spare: &mut Row)
-    requires strips { AreStrips front.old.scene front.old.cut parcels.old }
-    requires fresh { front.old.visits ≡ [] }
-    requires spare { spare.old ≡ row_length front.old.scene }
-    requires left { All (λ parcel. is_done parcel.done front.old.dir ≡ false) parcels.old }
-    ensures strips { AreStrips front.old.scene front.old.cut parcels.new }
-    ensures done { (before : List Bool) → AllDone before parcels.old → AllDone (with_done before front.old.dir) parcels.new }
-    ensures spare { spare.new ≡ spare.old }
+/// The six fronts, in order, which have visited no strip.
+fn fronts(alloc: Global, scene: &Scene, cut: Cut) -> Result<Vec<Front>, AllocError>
+    requires { cut.height ≡ scene.now.left.height }
+    ensures { IfOk result (λ v. AreNewFronts scene.now cut v.items) }
 {
-    let dir = front.dir();
-    let strips = parcels.len() as u32;
-    for position in 0..strips {
-        let strip = dir.position(position, strips) as usize;
-        pass(&mut parcels[strip], front, spare, CALLER);
+    let mut fronts = Vec::with_capacity(alloc, FRONTS)?;
+    for place in 0..FRONTS {
+        let Some(dir) = Dir::from_front(place) else {
+            unreachable!()
+        };
+        let front = Front::make(alloc, scene, cut, dir)?;
+        fronts.push(front)?;
     }
+    Ok(fronts)
 }
 
-/// Adds the path values of a direction to the sums of all strips.
-fn add_direction(
+/// The parcels of all strips of a scene, each with the sums of all eight directions. So many workers
+/// hand the fronts through them. The image is cut into so many strips, or as many as it has rows.
+pub(crate) fn complete_parcels<R: Threads + Sync, G: Gate + Sync>(
+    rt: &R,
     alloc: Global,
     scene: &Scene,
-    cut: Cut,
-    dir: Dir,
-    parcels: &mut [Parcel],
-    spare: &mut Row,
-) -> Result<(), AllocError>
-    requires across { is_level dir ≡ false }
-    requires strips { AreStrips scene.now cut parcels.old }
-    requires spare { spare.old ≡ row_length scene.now }
-    requires left { All (λ parcel. is_done parcel.done dir ≡ false) parcels.old }
-    ensures strips { AreStrips scene.now cut parcels.new }
-    ensures done { OnOk result ((before : List Bool) → AllDone before parcels.old → AllDone (with_done before dir) parcels.new) }
-    ensures spare { spare.new ≡ spare.old }
-{
-    let mut front = Front::make(alloc, scene, cut, dir)?;
-    hand_through(parcels, &mut front, spare);
-    Ok(())
-}
-
-/// Adds the path values of the six directions that are not level to the sums of all strips.
-fn complete(
-    alloc: Global,
-    scene: &Scene,
-    cut: Cut,
-    parcels: &mut [Parcel],
-) -> Result<(), AllocError>
-    requires strips { AreStrips scene.now cut parcels.old }
-    requires done { AllDone level_done parcels.old }
-    ensures { OnOk result (AreComplete scene.now parcels.new) }
-{
-    let mut spare = Row::make(alloc, scene.size(), scene.span())?;
-    add_direction(alloc, scene, cut, Dir::Down, parcels, &mut spare)?;
-    add_direction(alloc, scene, cut, Dir::DownRight, parcels, &mut spare)?;
-    add_direction(alloc, scene, cut, Dir::DownLeft, parcels, &mut spare)?;
-    add_direction(alloc, scene, cut, Dir::Up, parcels, &mut spare)?;
-    add_direction(alloc, scene, cut, Dir::UpRight, parcels, &mut spare)?;
-    add_direction(alloc, scene, cut, Dir::UpLeft, parcels, &mut spare)
-}
-
-/// The disparity of each pixel of the left plane. The image is cut into so many strips, or as many as it
-/// has rows, which changes nothing of the answer.
-pub(crate) fn disparity_map(
-    alloc: Global,
-    left: &Plane,
-    right: &Plane,
-    span: Span,
-    window: Window,
-    pen: Pen,
     strips: u32,
-) -> Result<DispMap, AllocError>
-    requires same_width { left.now.width ≡ right.now.width }
-    requires same_height { left.now.height ≡ right.now.height }
+    workers: u32,
+    gate: &G,
+) -> Result<Vec<Parcel>, AllocError>
     requires strips { (1 ≤ strips) × (strips ≤ MAX_STRIPS) }
-    ensures exact { IfOk result (λ m. m ≡ disparities_of (plane_problem left.now right.now window span (p1_of pen) (p2_of pen)) left.now right.now span.first) }
-    ensures bound { IfOk result (λ m. AtMost MAX_DISPARITY m.entries) }
+    requires workers { (1 ≤ workers) × (workers ≤ MAX_WORKERS) }
+    ensures { IfOk result (λ v. AreComplete scene.now v.items) }
 {
-    let scene = scene(alloc, left, right, span, window, pen)?;
-    let cut = Cut::even(left.size().height, strips);
-    let mut parcels = parcels(alloc, &scene, cut)?;
-    complete(alloc, &scene, cut, parcels.as_mut_slice())?;
-    select(alloc, &scene, left, right, &parcels)
+    let cut = Cut::even(scene.size().height, strips);
+    let parcels = parcels(rt, alloc, scene, cut, workers as usize)?;
+    let fronts = fronts(alloc, scene, cut)?;
+    let matched = match_all(rt, alloc, parcels, fronts, workers, gate)?;
+    Ok(matched.parcels)
 }

@@ -1,8 +1,8 @@
-//! The worked example at several numbers of strips, and the pairs that are refused. The tables of grids and
+//! The worked example at several numbers of strips and workers, and the pairs that are refused. The tables of grids and
 //! warps are stored cases of sgm_cases.
 
 ghost use Rattle.std.specs.Prelude.{◌≤◌};
-ghost use Rattle.sgm_base.specs.declared.limits.TheConstants.{MAX_STRIPS};
+ghost use Rattle.sgm_base.specs.declared.limits.TheConstants.{MAX_STRIPS, MAX_WORKERS};
 
 use crate::fixtures::{LEFT, RIGHT, calib, even_image, image, image_of_rows, map_of, span};
 use crate::{SurveyError, SurveyFault, Surveyed, survey};
@@ -11,20 +11,29 @@ use sgm_calib::Calib;
 use sgm_example::{CAMERA, GRID, REGIONS, SETTINGS};
 use sgm_rectify::WarpFault;
 use sgm_report::RegionTally;
+use sgm_work::OpenGate;
 use std::alloc::Global;
 use std::test::Fail;
+use std::thread::Threads;
 
 /// The denominator is 4 at the corner 0 and 0 at the corner 1 of an image of five columns.
 const TILTED: &str =
     ",\"warp\":{\"left\":{\"kind\":\"projective\",\"matrix\":[1,0,0,0,1,0,-1,0,4]},\"right\":{\"kind\":\"identity\"}}";
 
 /// The survey of the worked example's images over so many strips.
-fn example(alloc: Global, calib: &Calib, strips: u32) -> Result<Surveyed, Fail>
-    requires { (1 ≤ strips) × (strips ≤ MAX_STRIPS) }
+fn example<R: Threads + Sync>(
+    rt: &R,
+    alloc: Global,
+    calib: &Calib,
+    strips: u32,
+    workers: u32,
+) -> Result<Surveyed, Fail>
+    requires strips { (1 ≤ strips) × (strips ≤ MAX_STRIPS) }
+    requires workers { (1 ≤ workers) × (workers ≤ MAX_WORKERS) }
 {
     let left = image_of_rows(alloc, &LEFT)?;
     let right = image_of_rows(alloc, &RIGHT)?;
-    let found = survey(alloc, &left, &right, calib, strips, 1);
+    let found = survey(rt, alloc, &left, &right, calib, strips, workers, &OpenGate);
     Ok(found.ok().ok_or("survey")?)
 }
 
@@ -38,8 +47,14 @@ fn cells(alloc: Global, found: &Surveyed) -> Result<Vec<Option<i32>>, Fail> {
     Ok(cells)
 }
 
-fn fault(alloc: Global, left: &Image, right: &Image, calib: &Calib) -> Option<SurveyError> {
-    survey(alloc, left, right, calib, 1, 1).err()
+fn fault<R: Threads + Sync>(
+    rt: &R,
+    alloc: Global,
+    left: &Image,
+    right: &Image,
+    calib: &Calib,
+) -> Option<SurveyError> {
+    survey(rt, alloc, left, right, calib, 1, 1, &OpenGate).err()
 }
 
 // The index 1 lies at a depth of 100000, at x = 1000 * column and y = -1000 * row, and the index 0 has no point.
@@ -67,16 +82,20 @@ fn the_worked_example(rt: HostRuntime) -> Result<(), Fail> {
         lowest: None,
         highest: None,
     };
-    for strips in [1, 2, 3, 64] {
-        let found = example(alloc, &calib, strips)?;
-        assert_eq!(rt; found.disp.entries(), map.as_slice(), "{strips}");
+    for (strips, workers) in [(1, 1), (2, 2), (3, 2), (64, 1), (64, 16), (1, 16)] {
+        let found = example(&rt, alloc, &calib, strips, workers)?;
+        assert_eq!(rt; found.disp.entries(), map.as_slice(), "{strips} {workers}");
         assert_eq!(rt;
             cells(alloc, &found)?.as_slice(),
             grid.as_slice(),
-            "{strips}"
+            "{strips} {workers}"
         );
         let tallies = found.tallies.as_ref().ok_or("no tallies")?;
-        assert_eq!(rt; tallies.as_slice(), [all, east].as_slice(), "{strips}");
+        assert_eq!(rt;
+            tallies.as_slice(),
+            [all, east].as_slice(),
+            "{strips} {workers}"
+        );
     }
     Ok(())
 }
@@ -86,7 +105,7 @@ fn two_pixels(rt: HostRuntime) -> Result<(), Fail> {
     let alloc = rt.alloc();
     let left = image(alloc, (2, 1), &[0, 255])?;
     let right = image(alloc, (2, 1), &[0, 255])?;
-    let found = survey(alloc, &left, &right, &Calib::plain(), 1, 1);
+    let found = survey(&rt, alloc, &left, &right, &Calib::plain(), 1, 1, &OpenGate);
     let found = found.ok().ok_or("survey")?;
     assert!(rt; found.disp.entries() == [Some(0), Some(0)].as_slice());
     Ok(())
@@ -98,7 +117,7 @@ fn volume_too_large(rt: HostRuntime) -> Result<(), Fail> {
     let alloc = rt.alloc();
     let left = even_image(alloc, (4096, 4096))?;
     let right = even_image(alloc, (4096, 4096))?;
-    let found = survey(alloc, &left, &right, &Calib::plain(), 1, 1);
+    let found = survey(&rt, alloc, &left, &right, &Calib::plain(), 1, 1, &OpenGate);
     let fault = SurveyFault::VolumeTooLarge {
         cells: 1_073_741_824,
     };
@@ -130,15 +149,15 @@ fn warps_come_last(rt: HostRuntime) -> Result<(), Fail> {
         fault: WarpFault::Denominator { corner: 1 },
     };
     assert_eq!(rt;
-        fault(alloc, &large, &square, &calib),
+        fault(&rt, alloc, &large, &square, &calib),
         Some(SurveyError::Fault(sizes))
     );
     assert_eq!(rt;
-        fault(alloc, &large, &large, &calib),
+        fault(&rt, alloc, &large, &large, &calib),
         Some(SurveyError::Fault(volume))
     );
     assert_eq!(rt;
-        fault(alloc, &square, &square, &calib),
+        fault(&rt, alloc, &square, &square, &calib),
         Some(SurveyError::Fault(warp))
     );
     Ok(())

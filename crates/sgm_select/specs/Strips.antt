@@ -1,7 +1,8 @@
--- Disparities that are written row by row.
-use Rattle.std.specs.Prelude.{◌≡◌, ℕ, ◌+◌, ◌*◌, ◌<◌, ℤ, List, Option, None, slice_index_or}
+-- Disparities that are found row by row and strip by strip.
+use Rattle.std.specs.Prelude.{◌≡◌, ℕ, ◌+◌, ◌-◌, ◌*◌, ◌<◌, ℤ, List, length, take, drop, Option, None, Some, slice_get, slice_index_or}
 use Rattle.sgm_base.specs.Values.{Values}
 use Rattle.sgm_energy.specs.Rays.{Problem, pixel_at}
+use Rattle.sgm_strip.specs.Cuts.{CutParts, IsCut, first_row}
 use Rattle.sgm_select.specs.Selection.{disparity}
 
 -- a plane of the same sides as the problem
@@ -9,7 +10,23 @@ pub record SuitsPlane (g : Problem) (plane : Values) : Type 0 where
   pub same_width : g.width ≡ plane.width
   pub same_height : g.height ≡ plane.height
 
--- the first n rows of the entries are the disparities of their pixels
-abbrev pub HoldsFirst : Problem → Values → Values → ℤ → ℕ → List (Option ℕ) → Type 0
-HoldsFirst g left right first n entries =
-    (x y : ℕ) → x < g.width → y < n → slice_index_or entries (y * g.width + x) None ≡ disparity g left right first (pixel_at x y)
+-- the first n rows of the entries are the disparities of the pixels of the rows from top on
+abbrev pub HoldsFrom : Problem → Values → Values → ℤ → ℕ → ℕ → List (Option ℕ) → Type 0
+HoldsFrom g left right first top n entries =
+    (x r : ℕ) → x < g.width → r < n → slice_index_or entries (r * g.width + x) None ≡ disparity g left right first (pixel_at x (top + r))
+
+-- the entries of the rows of a map from `from` on, before `to`
+abbrev pub rows_between : Values → ℕ → ℕ → List (Option ℕ)
+rows_between map from to = take ((to - from) * map.width) (drop (from * map.width) map.entries)
+
+-- those of the rows of a strip
+abbrev pub rows_of_strip : Values → CutParts → ℕ → List (Option ℕ)
+rows_of_strip map cut strip = rows_between map (first_row cut strip) (first_row cut (strip + 1))
+
+-- the lists are the rows of the map's strips, all of them and in order
+pub record AreRowsOf (map : Values) (cut : CutParts) (strips : List (List (Option ℕ))) : Type 0 where
+  pub cut_kept : IsCut cut
+  pub same_height : cut.height ≡ map.height
+  pub full : length map.entries ≡ map.width * map.height
+  pub all : length strips ≡ cut.strips
+  pub each : (strip : ℕ) (rows : List (Option ℕ)) → slice_get strips strip ≡ Some rows → rows ≡ rows_of_strip map cut strip

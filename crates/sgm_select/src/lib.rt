@@ -9,7 +9,7 @@ mod maps;
 
 pub use check::check_row;
 pub use indices::{base_row, match_row};
-pub use maps::select;
+pub use maps::{join_strips, select, select_strip};
 
 #[cfg(test)]
 mod tests;

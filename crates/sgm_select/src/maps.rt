@@ -1,20 +1,20 @@
-//! From the sums of all strips to the disparities of the left image.
+//! From the sums of all strips to the disparities of the left image, strip by strip.
 
-ghost use Rattle.std.specs.Prelude.{◌≡◌, ℕ, ◌+◌, ◌*◌, ◌<◌, IfOk, length, slice_index_or, None, EachIndex};
+ghost use Rattle.std.specs.Prelude.{◌≡◌, ℕ, ◌+◌, ◌*◌, ◌<◌, ◌≤◌, IfOk, length, map, slice_index_or, None, EachIndex};
 ghost use Rattle.sgm_base.specs.declared.limits.TheConstants.{MAX_DISPARITY};
 ghost use Rattle.sgm_base.specs.Values.{Values, row_of, AtMost};
 ghost use Rattle.sgm_energy.specs.Energies.{path_sum};
 ghost use Rattle.sgm_energy.specs.Rays.{Problem, pixel_at};
 ghost use Rattle.sgm_energy.specs.Rows.{HoldsRow};
-ghost use Rattle.sgm_strip.specs.Cuts.{first_row};
+ghost use Rattle.sgm_strip.specs.Cuts.{CutParts, first_row, rows_of};
 ghost use Rattle.sgm_strip.specs.Parcels.{IsComplete};
 ghost use Rattle.sgm_strip.specs.Scenes.{problem_of};
-ghost use Rattle.sgm_strip.specs.Strips.{AreComplete};
+ghost use Rattle.sgm_strip.specs.Strips.{AreComplete, AreStrips};
 ghost use Rattle.sgm_select.specs.Selection.{disparity, disparities_of};
-ghost use Rattle.sgm_select.specs.Strips.{HoldsFirst, SuitsPlane};
+ghost use Rattle.sgm_select.specs.Strips.{AreRowsOf, HoldsFrom, SuitsPlane, rows_of_strip};
 
 use crate::{base_row, check_row, match_row};
-use sgm_base::{DispMap, Plane, Span};
+use sgm_base::{DispMap, Plane, Size, Span};
 use sgm_strip::{Parcel, Scene};
 use std::alloc::{AllocError, Global};
 
@@ -43,13 +43,14 @@ fn select_row(
     check_row(bases, matches, left, right, span, into);
 }
 
-/// Writes the disparities of the row `y` to their place among the entries of all rows.
+/// Writes the disparities of the row `y` to their place among the rows of a strip.
 fn select_at(
     sums: &[u16],
     left: &Plane,
     right: &Plane,
     span: Span,
     y: u32,
+    place: u32,
     bases: &mut [u16],
     matches: &mut [Option<u16>],
     into: &mut [Option<u16>],
@@ -60,19 +61,19 @@ fn select_at(
     requires bases_length { length bases.old ≡ left.now.width }
     requires matches_length { length matches.old ≡ left.now.width }
     requires sums_length { length sums.now ≡ left.now.width * span.count }
-    requires whole { length into.old ≡ left.now.width * left.now.height }
-    ensures { (g : Problem) → g.count ≡ span.count → SuitsPlane g left.now → HoldsRow g y (path_sum g) sums.now
-        → HoldsFirst g left.now right.now span.first y into.old → HoldsFirst g left.now right.now span.first (y + 1) into.new }
+    requires inside { (place + 1) * left.now.width ≤ length into.old }
+    ensures { (g : Problem) (top : ℕ) → g.count ≡ span.count → SuitsPlane g left.now → y ≡ top + place → HoldsRow g y (path_sum g) sums.now
+        → HoldsFrom g left.now right.now span.first top place into.old → HoldsFrom g left.now right.now span.first top (place + 1) into.new }
 {
     let width = left.size().width as usize;
-    let (_, rest) = into.split_at_mut(y as usize * width);
+    let (_, rest) = into.split_at_mut(place as usize * width);
     let (here, _) = rest.split_at_mut(width);
     let (left, right) = (left.row(y), right.row(y));
     select_row(sums, left, right, span, bases, matches, here);
 }
 
-/// Writes the disparities of a strip's rows, after those of the rows above it.
-fn select_strip(
+/// Writes the disparities of a strip's rows.
+fn select_rows(
     parcel: &Parcel,
     left: &Plane,
     right: &Plane,
@@ -87,44 +88,111 @@ fn select_strip(
     requires right_height { right.now.height ≡ parcel.now.scene.left.height }
     requires bases_length { length bases.old ≡ left.now.width }
     requires matches_length { length matches.old ≡ left.now.width }
-    requires whole { length into.old ≡ left.now.width * left.now.height }
-    ensures { let g = problem_of parcel.now.scene in let first = parcel.now.scene.span.first in
-        HoldsFirst g left.now right.now first (first_row parcel.now.cut parcel.now.strip) into.old
-        → HoldsFirst g left.now right.now first (first_row parcel.now.cut (parcel.now.strip + 1)) into.new }
+    requires whole { length into.old ≡ rows_of parcel.now.cut parcel.now.strip * left.now.width }
+    ensures { HoldsFrom (problem_of parcel.now.scene) left.now right.now parcel.now.scene.span.first
+        (first_row parcel.now.cut parcel.now.strip) (rows_of parcel.now.cut parcel.now.strip) into.new }
 {
     let cut = parcel.cut();
     let strip = parcel.strip();
     let (first, rows) = (cut.first(strip), cut.rows(strip));
     let span = parcel.span();
-    for y in first..first + rows {
+    for place in 0..rows {
+        let y = first + place;
         let sums = parcel.sums_row(y);
-        select_at(sums, left, right, span, y, bases, matches, into);
+        select_at(sums, left, right, span, y, place, bases, matches, into);
     }
 }
 
-/// Writes the disparities of all strips.
+/// The disparities of the pixels of one strip, row by row: what [`select`] gives for its rows. The parcel
+/// is complete, and the planes have its scene's size. Strips can be selected in any order and side by side.
+pub fn select_strip(
+    alloc: Global,
+    left: &Plane,
+    right: &Plane,
+    parcel: &Parcel,
+) -> Result<Vec<Option<u16>>, AllocError>
+    requires left_width { left.now.width ≡ parcel.now.scene.left.width }
+    requires left_height { left.now.height ≡ parcel.now.scene.left.height }
+    requires right_width { right.now.width ≡ parcel.now.scene.left.width }
+    requires right_height { right.now.height ≡ parcel.now.scene.left.height }
+    requires complete { IsComplete parcel.now.done }
+    ensures exact { IfOk result (λ rows. rows.items ≡ rows_of_strip
+        (disparities_of (problem_of parcel.now.scene) left.now right.now parcel.now.scene.span.first)
+        parcel.now.cut parcel.now.strip) }
+{
+    let width = left.size().width as usize;
+    let rows = parcel.cut().rows(parcel.strip()) as usize;
+    let mut bases = vec![in alloc; 0u16; width]?;
+    let mut matches = vec![in alloc; None; width]?;
+    let mut entries = vec![in alloc; None; rows * width]?;
+    select_rows(
+        parcel,
+        left,
+        right,
+        bases.as_mut_slice(),
+        matches.as_mut_slice(),
+        entries.as_mut_slice(),
+    );
+    Ok(entries)
+}
+
+/// The rows of all strips, one after the other.
+fn joined(
+    alloc: Global,
+    pixels: usize,
+    strips: &[Vec<Option<u16>>],
+) -> Result<Vec<Option<u16>>, AllocError>
+    ensures { (whole : Values) (cut : CutParts) → AreRowsOf whole cut (map (λ v. v.items) strips.now)
+        → IfOk result (λ entries. entries.items ≡ whole.entries) }
+{
+    let mut entries = Vec::with_capacity(alloc, pixels)?;
+    for rows in strips {
+        entries.extend_from_slice(rows)?;
+    }
+    Ok(entries)
+}
+
+/// The map of this size whose strips have these rows, as [`select_strip`] gives them: those of all strips
+/// of a cut, in order.
+pub fn join_strips(
+    alloc: Global,
+    size: Size,
+    strips: &[Vec<Option<u16>>],
+) -> Result<DispMap, AllocError>
+    requires rows { (whole : Values) × (cut : CutParts) × AreRowsOf whole cut (map (λ v. v.items) strips.now)
+        × (size.width ≡ whole.width) × (size.height ≡ whole.height) }
+    ensures exact { (whole : Values) (cut : CutParts) → AreRowsOf whole cut (map (λ v. v.items) strips.now)
+        → size.width ≡ whole.width → size.height ≡ whole.height → IfOk result (λ m. m ≡ whole) }
+{
+    let entries = joined(alloc, size.pixels(), strips)?;
+    let Some(map) = DispMap::make(size, entries) else {
+        unreachable!()
+    };
+    Ok(map)
+}
+
+/// The disparities of each strip.
 fn select_strips(
+    alloc: Global,
     scene: &Scene,
     left: &Plane,
     right: &Plane,
     parcels: &[Parcel],
-    bases: &mut [u16],
-    matches: &mut [Option<u16>],
-    into: &mut [Option<u16>],
-)
+) -> Result<Vec<Vec<Option<u16>>>, AllocError>
     requires left_width { left.now.width ≡ scene.now.left.width }
     requires left_height { left.now.height ≡ scene.now.left.height }
     requires right_width { right.now.width ≡ scene.now.left.width }
     requires right_height { right.now.height ≡ scene.now.left.height }
     requires parcels { AreComplete scene.now parcels.now }
-    requires bases_length { length bases.old ≡ left.now.width }
-    requires matches_length { length matches.old ≡ left.now.width }
-    requires whole { length into.old ≡ left.now.width * left.now.height }
-    ensures { HoldsFirst (problem_of scene.now) left.now right.now scene.now.span.first scene.now.left.height into.new }
+    ensures { (cut : CutParts) → AreStrips scene.now cut parcels.now → IfOk result (λ v. AreRowsOf
+        (disparities_of (problem_of scene.now) left.now right.now scene.now.span.first) cut (map (λ rows. rows.items) v.items)) }
 {
+    let mut strips = Vec::with_capacity(alloc, parcels.len())?;
     for parcel in parcels {
-        select_strip(parcel, left, right, bases, matches, into);
+        let rows = select_strip(alloc, left, right, parcel)?;
+        strips.push(rows)?;
     }
+    Ok(strips)
 }
 
 /// The disparity of each pixel of the left image: the index at which its sum is least, in sixteenths,
@@ -145,24 +213,6 @@ pub fn select(
     ensures exact { IfOk result (λ m. m ≡ disparities_of (problem_of scene.now) left.now right.now scene.now.span.first) }
     ensures bound { IfOk result (λ m. AtMost MAX_DISPARITY m.entries) }
 {
-    let size = left.size();
-    let width = size.width as usize;
-    // Known from here on: what the scene keeps.
-    let _ = scene.size();
-    let mut bases = vec![in alloc; 0u16; width]?;
-    let mut matches = vec![in alloc; None; width]?;
-    let mut entries = vec![in alloc; None; size.pixels()]?;
-    select_strips(
-        scene,
-        left,
-        right,
-        parcels,
-        bases.as_mut_slice(),
-        matches.as_mut_slice(),
-        entries.as_mut_slice(),
-    );
-    let Some(map) = DispMap::make(size, entries) else {
-        unreachable!()
-    };
-    Ok(map)
+    let strips = select_strips(alloc, scene, left, right, parcels)?;
+    join_strips(alloc, scene.size(), &strips)
 }

@@ -5,15 +5,17 @@ use super::recording::{RecordingShelf, RecordingSink};
 use super::trips::{Call, trips_of};
 use crate::run;
 use sgm_io::{MemoryShelf, MemorySink};
+use sgm_work::OpenGate;
 use std::alloc::Global;
 use std::cell::RefCell;
 use std::process::Abort;
 use std::test::Fail;
+use std::thread::Threads;
 
 /// That a run of this line over the worked example makes these calls, where this call of a name fails and `out`
 /// fails at this length.
-fn assert_calls(
-    rt: &impl Abort,
+fn assert_calls<R: Abort + Threads + Sync>(
+    rt: &R,
     alloc: Global,
     line: &str,
     trips: &[(&str, Call)],
@@ -36,7 +38,7 @@ fn assert_calls(
         calls: &calls,
     };
     let words = words_of(alloc, line)?;
-    let _outcome = run(alloc, &words, &mut shelf, &mut out, &mut err);
+    let _outcome = run(rt, alloc, &words, &mut shelf, &mut out, &mut err, &OpenGate);
     drop(shelf);
     drop(out);
     drop(err);

@@ -3,9 +3,11 @@
 use super::fixtures::words_of;
 use crate::run;
 use sgm_io::{MemoryShelf, MemorySink, Shelf, Trip};
+use sgm_work::OpenGate;
 use std::alloc::{AllocError, Global};
 use std::process::Abort;
 use std::test::Fail;
+use std::thread::Threads;
 
 /// How a run ended: the outcome's status, and what each sink has received.
 #[derive(Drop)]
@@ -16,10 +18,16 @@ pub struct Ended {
 }
 
 /// How the run of a line ends over a shelf.
-pub fn end_on<S: Shelf>(alloc: Global, line: &str, shelf: &mut S) -> Result<Ended, AllocError> {
+pub fn end_on<R: Threads + Sync, S: Shelf>(
+    rt: &R,
+    alloc: Global,
+    line: &str,
+    shelf: &mut S,
+) -> Result<Ended, AllocError> {
     let mut out = MemorySink::make(alloc, 4096, None)?;
     let mut err = MemorySink::make(alloc, 4096, None)?;
-    let outcome = run(alloc, &words_of(alloc, line)?, shelf, &mut out, &mut err);
+    let words = words_of(alloc, line)?;
+    let outcome = run(rt, alloc, &words, shelf, &mut out, &mut err, &OpenGate);
     Ok(Ended {
         status: outcome.status(),
         out,

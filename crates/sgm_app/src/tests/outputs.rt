@@ -14,7 +14,7 @@ fn the_worked_example_is_written_whole(rt: HostRuntime) -> Result<(), Fail> {
         "match l.pgm r.pgm c.json o strips=3 workers=2",
     ] {
         let mut shelf = shelf_of(alloc, example(alloc)?)?;
-        let ended = end_on(alloc, line, &mut shelf)?;
+        let ended = end_on(&rt, alloc, line, &mut shelf)?;
         assert_ended(&rt, &ended, 0, SUMMARY, b"", line);
         assert_held(&rt, alloc, &mut shelf, whole, line)?;
     }
@@ -26,7 +26,7 @@ fn the_calibration_asks_for_the_files(rt: HostRuntime) -> Result<(), Fail> {
     let alloc = rt.alloc();
     let line = "match l.pgm r.pgm c.json o";
     let mut shelf = shelf_of(alloc, files_with(alloc, &[SETTINGS, END])?)?;
-    let ended = end_on(alloc, line, &mut shelf)?;
+    let ended = end_on(&rt, alloc, line, &mut shelf)?;
     assert_ended(&rt, &ended, 0, SUMMARY, b"", "no grid");
     assert_held(
         &rt,
@@ -42,7 +42,7 @@ fn the_calibration_asks_for_the_files(rt: HostRuntime) -> Result<(), Fail> {
         files.push(file(alloc, name, LEFT)?)?;
     }
     let mut shelf = shelf_of(alloc, files)?;
-    let ended = end_on(alloc, line, &mut shelf)?;
+    let ended = end_on(&rt, alloc, line, &mut shelf)?;
     assert_ended(&rt, &ended, 0, SUMMARY, b"", "no regions");
     let outputs = [Some(DISPARITIES), Some(HEIGHTS), Some(LEFT)];
     assert_held(&rt, alloc, &mut shelf, outputs, "no regions")
@@ -59,7 +59,7 @@ fn plain_settings_serve_a_pair_of_two_pixels(rt: HostRuntime) -> Result<(), Fail
         let mut files = Vec::new(alloc);
         files.push(file(alloc, "two.pgm", b"P5\n2 1\n255\n\x00\xff")?)?;
         let mut shelf = shelf_of(alloc, files)?;
-        let ended = end_on(alloc, line, &mut shelf)?;
+        let ended = end_on(&rt, alloc, line, &mut shelf)?;
         assert_ended(&rt, &ended, 0, b"valid 2 of 2\n", b"", line);
         assert_held(&rt, alloc, &mut shelf, [disparities, None, None], line)?;
     }

@@ -8,13 +8,14 @@ use sgm_example::{CAMERA, END, GRID, REGIONS};
 use std::alloc::{AllocError, Global};
 use std::process::Abort;
 use std::test::Fail;
+use std::thread::Threads;
 
 #[test]
 fn a_demo_has_two_lines_and_no_file(rt: HostRuntime) -> Result<(), Fail> {
     let alloc = rt.alloc();
     for line in ["demo 0", "demo 0 workers=3 strips=5"] {
         let mut shelf = shelf_of(alloc, files_with(alloc, &[])?)?;
-        let ended = end_on(alloc, line, &mut shelf)?;
+        let ended = end_on(&rt, alloc, line, &mut shelf)?;
         let lines = b"valid 45516 of 49152\nsum 11360464\n";
         assert_ended(&rt, &ended, 0, lines, b"", line);
         assert_held(&rt, alloc, &mut shelf, [None; 3], line)?;
@@ -37,7 +38,11 @@ const SETTINGS: &str =
     "{\"version\":1,\"disparities\":{\"first\":0,\"count\":64},\n \"census\":{\"width\":9,\"height\":7},\"penalties\":{\"p1\":10,\"p2\":120}";
 
 /// The three files of a run over the generated pair of 640 x 480 and the number 7.
-fn outputs_of(rt: &impl Abort, alloc: Global, line: &str) -> Result<[Vec<u8>; 3], Fail> {
+fn outputs_of<R: Abort + Threads + Sync>(
+    rt: &R,
+    alloc: Global,
+    line: &str,
+) -> Result<[Vec<u8>; 3], Fail> {
     let size = Size::make(640, 480).ok_or("a size")?;
     let (left, right) = pair(alloc, size, 7)?;
     let mut files = files_with(alloc, &[SETTINGS, CAMERA, GRID, REGIONS, END])?;
@@ -50,7 +55,7 @@ fn outputs_of(rt: &impl Abort, alloc: Global, line: &str) -> Result<[Vec<u8>; 3]
         pgm_text(alloc, &right)?,
     ))?;
     let mut shelf = shelf_of(alloc, files)?;
-    let ended = end_on(alloc, line, &mut shelf)?;
+    let ended = end_on(rt, alloc, line, &mut shelf)?;
     assert_eq!(rt; ended.status, 0, "{line}");
     assert_eq!(rt; ended.err.taken(), b"".as_slice(), "{line}");
     assert!(rt; ended.out.taken().ends_with(b" of 307200\n"), "{line}");

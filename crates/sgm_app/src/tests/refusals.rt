@@ -6,10 +6,11 @@ use sgm_example::{END, GRID, SETTINGS};
 use std::alloc::{AllocError, Global};
 use std::process::Abort;
 use std::test::Fail;
+use std::thread::Threads;
 
 // That the run of a line over these files ends with this status and this line, and writes nothing.
-fn assert_refused(
-    rt: &impl Abort,
+fn assert_refused<R: Abort + Threads + Sync>(
+    rt: &R,
     alloc: Global,
     files: Vec<(String, Vec<u8>)>,
     line: &str,
@@ -17,7 +18,7 @@ fn assert_refused(
     err: &str,
 ) -> Result<(), Fail> {
     let mut shelf = shelf_of(alloc, files)?;
-    let ended = end_on(alloc, line, &mut shelf)?;
+    let ended = end_on(rt, alloc, line, &mut shelf)?;
     assert_ended(rt, &ended, status, b"", err.as_bytes(), line);
     assert_held(rt, alloc, &mut shelf, [None; 3], line)
 }

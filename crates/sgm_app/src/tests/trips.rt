@@ -31,7 +31,7 @@ fn heights_that_stop_have_their_first_lines(rt: HostRuntime) -> Result<(), Fail>
     let alloc = rt.alloc();
     let trips = trips_of(alloc, &[("o.asc", Call::AppendAt(47))])?;
     let mut shelf = MemoryShelf::make(alloc, example(alloc)?, trips)?;
-    let ended = end_on(alloc, "match l.pgm r.pgm c.json o", &mut shelf)?;
+    let ended = end_on(&rt, alloc, "match l.pgm r.pgm c.json o", &mut shelf)?;
     let err = b"sgm: cannot write heights\n";
     assert_ended(&rt, &ended, 5, b"", err, "heights");
     let lines = b"ncols 4\nnrows 3\nxllcorner 2000\nyllcorner -2000\n".as_slice();

@@ -6,46 +6,70 @@ use Rattle.sgm_rectify.specs.Rectified.{rectified_values}
 use Rattle.sgm_grid.specs.Cells.{Cells}
 use Rattle.sgm_report.specs.Areas.{Area, IsArea}
 use Rattle.sgm_job.specs.Survey.{tallies_of}
-use Rattle.sgm_job.proofs.Surveying.{map_is}
-use Rattle.sgm_job.proofs.Passing.{passes, sides_are, fault_answered, survey_answered, survey_is, grid_same, left_suits, right_suits, plane_width, plane_height, same_width, same_height, regions_inside, at_references}
+use Rattle.sgm_job.proofs.Surveying.{map_is, map_of_codes}
+use Rattle.sgm_job.proofs.Passing.{passes, sides_are, fault_answered, survey_answered, survey_is, grid_same, left_suits, right_suits, coded_width, coded_height, plane_width, plane_height, same_width, same_height, regions_inside, at_references}
 use Rattle.sgm_job.proofs.job.survey.Goals as goal
 
 pub returns-in-Some-clause-exact : goal.returns-in-Some-clause-exact
-returns-in-Some-clause-exact c =
+returns-in-Some-clause-exact g c =
     let left = sides_are c.size.result c.args.left.now c.size.ensures.width c.size.ensures.height in
     let right = sides_are c.size-2.result c.args.right.now c.size-2.ensures.width c.size-2.ensures.height in
     fault_answered c.args.left.now c.args.right.now c.args.calib.now c.size.result c.size-2.result c.in-Some.fault left right c.in-Some.ensures
 
-pub rectify-requires : goal.rectify-requires
-rectify-requires c =
+pub prepare_both-requires-clause-left : goal.prepare_both-requires-clause-left
+prepare_both-requires-clause-left g c =
     let left = sides_are c.size.result c.args.left.now c.size.ensures.width c.size.ensures.height in
     left_suits c.args.left.now c.args.calib.now c.size.result c.size-2.result c.left.result.now left c.left.ensures.value c.left.ensures.kept
     (passes c.size.result c.size-2.result c.args.calib.now (sym c.in_default.ensures))
 
-pub rectify-requires-2 : goal.rectify-requires-2
-rectify-requires-2 c =
+pub prepare_both-requires-clause-right : goal.prepare_both-requires-clause-right
+prepare_both-requires-clause-right g c =
     let right = sides_are c.size-2.result c.args.right.now c.size-2.ensures.width c.size-2.ensures.height in
     right_suits c.args.right.now c.args.calib.now c.size.result c.size-2.result c.right.result.now right c.right.ensures.value c.right.ensures.kept
     (passes c.size.result c.size-2.result c.args.calib.now (sym c.in_default.ensures))
 
 pub disparity_map-requires-clause-same_width : goal.disparity_map-requires-clause-same_width
-disparity_map-requires-clause-same_width c =
+disparity_map-requires-clause-same_width g c lifetimes within =
     let left = sides_are c.size.result c.args.left.now c.size.ensures.width c.size.ensures.height in
     let right = sides_are c.size-2.result c.args.right.now c.size-2.ensures.width c.size-2.ensures.height in
-    plane_width c.args.left.now c.left.result.now c.in_ok-left.left c.in_ok-left.ensures
-    ∙ same_width c.args.left.now c.args.right.now c.size.result c.size-2.result c.args.calib.now left right (passes c.size.result c.size-2.result c.args.calib.now (sym c.in_default.ensures))
-    ∙ sym (plane_width c.args.right.now c.right.result.now c.in_ok-right.right c.in_ok-right.ensures)
+    let made = c.in_ok-left.ensures in
+    let pass = passes c.size.result c.size-2.result c.args.calib.now (sym c.in_default.ensures) in
+    coded_width c.args.left.now c.left.result.now c.window.result c.in_ok-left.left.plane c.in_ok-left.left.codes made.left
+    ∙ same_width c.args.left.now c.args.right.now c.size.result c.size-2.result c.args.calib.now left right pass
+    ∙ sym (coded_width c.args.right.now c.right.result.now c.window.result c.in_ok-left.right.plane c.in_ok-left.right.codes made.right)
+
+pub disparity_map-requires-clause-right_width : goal.disparity_map-requires-clause-right_width
+disparity_map-requires-clause-right_width g c lifetimes within =
+    let left = sides_are c.size.result c.args.left.now c.size.ensures.width c.size.ensures.height in
+    let right = sides_are c.size-2.result c.args.right.now c.size-2.ensures.width c.size-2.ensures.height in
+    let made = c.in_ok-left.ensures in
+    let pass = passes c.size.result c.size-2.result c.args.calib.now (sym c.in_default.ensures) in
+    plane_width c.args.right.now c.right.result.now c.in_ok-left.right.plane made.right.rectified
+    ∙ sym (coded_width c.args.left.now c.left.result.now c.window.result c.in_ok-left.left.plane c.in_ok-left.left.codes made.left
+    ∙ same_width c.args.left.now c.args.right.now c.size.result c.size-2.result c.args.calib.now left right pass)
 
 pub disparity_map-requires-clause-same_height : goal.disparity_map-requires-clause-same_height
-disparity_map-requires-clause-same_height c =
+disparity_map-requires-clause-same_height g c lifetimes within =
     let left = sides_are c.size.result c.args.left.now c.size.ensures.width c.size.ensures.height in
     let right = sides_are c.size-2.result c.args.right.now c.size-2.ensures.width c.size-2.ensures.height in
-    plane_height c.args.left.now c.left.result.now c.in_ok-left.left c.in_ok-left.ensures
-    ∙ same_height c.args.left.now c.args.right.now c.size.result c.size-2.result c.args.calib.now left right (passes c.size.result c.size-2.result c.args.calib.now (sym c.in_default.ensures))
-    ∙ sym (plane_height c.args.right.now c.right.result.now c.in_ok-right.right c.in_ok-right.ensures)
+    let made = c.in_ok-left.ensures in
+    let pass = passes c.size.result c.size-2.result c.args.calib.now (sym c.in_default.ensures) in
+    coded_height c.args.left.now c.left.result.now c.window.result c.in_ok-left.left.plane c.in_ok-left.left.codes made.left
+    ∙ same_height c.args.left.now c.args.right.now c.size.result c.size-2.result c.args.calib.now left right pass
+    ∙ sym (coded_height c.args.right.now c.right.result.now c.window.result c.in_ok-left.right.plane c.in_ok-left.right.codes made.right)
+
+pub disparity_map-requires-clause-right_height : goal.disparity_map-requires-clause-right_height
+disparity_map-requires-clause-right_height g c lifetimes within =
+    let left = sides_are c.size.result c.args.left.now c.size.ensures.width c.size.ensures.height in
+    let right = sides_are c.size-2.result c.args.right.now c.size-2.ensures.width c.size-2.ensures.height in
+    let made = c.in_ok-left.ensures in
+    let pass = passes c.size.result c.size-2.result c.args.calib.now (sym c.in_default.ensures) in
+    plane_height c.args.right.now c.right.result.now c.in_ok-left.right.plane made.right.rectified
+    ∙ sym (coded_height c.args.left.now c.left.result.now c.window.result c.in_ok-left.left.plane c.in_ok-left.left.codes made.left
+    ∙ same_height c.args.left.now c.args.right.now c.size.result c.size-2.result c.args.calib.now left right pass)
 
 pub tallies-requires : goal.tallies-requires
-tallies-requires c =
+tallies-requires g c =
     let inside =
     regions_inside c.args.calib.now c.camera.result c.grid.result c.span-span.result.first c.in_ok-disp.disp c.in_ok-grid.grid c.camera.ensures.kept c.grid.ensures.value c.in_ok-grid.ensures in
     at_references c.as_ref.result c.regions.result
@@ -53,15 +77,19 @@ tallies-requires c =
     (subst (λ (a : Option (List Area)). IfSome c.in_ok-grid.grid (λ g. IfSome a (λ xs. All (IsArea g.spec) xs))) (sym c.regions.ensures.value) inside))
 
 pub returns-clause-exact : goal.returns-clause-exact
-returns-clause-exact c =
+returns-clause-exact g c =
     let left = sides_are c.size.result c.args.left.now c.size.ensures.width c.size.ensures.height in
     let right = sides_are c.size-2.result c.args.right.now c.size-2.ensures.width c.size-2.ensures.height in
     let first = ap (λ (s : Disparities). s.first) c.span-span.ensures in
+    let made = c.in_ok-left.ensures in
+    let a = c.in_ok-left.left.plane in
+    let b = c.in_ok-left.right.plane in
     survey_answered c.args.left.now c.args.right.now c.args.calib.now c.size.result c.size-2.result _ left right c.in_default.ensures
     (survey_is c.args.left.now c.args.right.now c.args.calib.now c.in_ok-disp.disp c.in_ok-grid.grid _
     (c.in_ok-disp.ensures.exact
-    ∙ map_is c.args.left.now c.args.right.now c.args.calib.now c.in_ok-left.left c.in_ok-right.right c.span-span.result c.window.result (p1_of c.pen.result) (p2_of c.pen.result)
-    (c.in_ok-left.ensures ∙ ap (rectified_values c.args.left.now) c.left.ensures.value) (c.in_ok-right.ensures ∙ ap (rectified_values c.args.right.now) c.right.ensures.value)
+    ∙ map_of_codes a b c.in_ok-left.left.codes c.in_ok-left.right.codes c.window.result c.span-span.result (p1_of c.pen.result) (p2_of c.pen.result) made.left.coded made.right.coded
+    ∙ map_is c.args.left.now c.args.right.now c.args.calib.now a b c.span-span.result c.window.result (p1_of c.pen.result) (p2_of c.pen.result)
+    (made.left.rectified ∙ ap (rectified_values c.args.left.now) c.left.ensures.value) (made.right.rectified ∙ ap (rectified_values c.args.right.now) c.right.ensures.value)
     c.span-span.ensures c.window.ensures c.pen.ensures.p1 c.pen.ensures.p2)
     (c.in_ok-grid.ensures ∙ grid_same c.camera.result c.args.calib.now.camera c.grid.result c.args.calib.now.grid c.span-span.result.first c.args.calib.now.span.first c.in_ok-disp.disp c.camera.ensures.value c.grid.ensures.value first)
     (c.in_ok-tallies.ensures

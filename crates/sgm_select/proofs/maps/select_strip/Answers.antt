@@ -1,18 +1,34 @@
-use Rattle.std.proofs.Common.{◌+◌, sym, ap, subst}
-use Rattle.sgm_base.specs.Disparities.{Disparities}
-use Rattle.sgm_energy.specs.Rays.{Problem}
+use Rattle.std.proofs.Common.{◌≡◌, ◌+◌, ◌*◌, ◌<◌, ◌≤◌, ◌∙◌, ap, arith, length}
+use Rattle.std.proofs.lemmas.List.{with_items_is}
+use Rattle.sgm_base.specs.Sides.{Sides}
+use Rattle.sgm_strip.proofs.CutLemmas.{first_more, first_within}
+use Rattle.sgm_strip.specs.Cuts.{first_row, rows_of}
 use Rattle.sgm_strip.specs.Scenes.{problem_of}
-use Rattle.sgm_select.specs.Strips.{HoldsFirst}
-use Rattle.sgm_select.proofs.Strips.{complete_row}
+use Rattle.sgm_select.specs.Selection.{disparities_of}
+use Rattle.sgm_select.specs.Strips.{rows_between}
+use Rattle.sgm_select.proofs.Strips.{rows_exact}
 use Rattle.sgm_select.proofs.maps.select_strip.Goals as goal
 
-pub loop-y-preserved : goal.loop-y-preserved
-loop-y-preserved c before =
+pub returns : goal.returns
+returns c =
     let parcel = c.args.parcel.now in
-    let g : Problem = problem_of parcel.scene in
-    let y = c.loop-y.y in
-    subst (λ (s : Disparities). HoldsFirst g c.args.left.now c.args.right.now s.first (y + 1) c.select_at.new.into) c.span-span.ensures
-    (c.select_at.ensures g (sym (ap (λ (s : Disparities). s.count) c.span-span.ensures))
-    (record { same_width = sym c.requires.left_width; same_height = sym c.requires.left_height })
-    (complete_row g parcel.done y c.sums_row-sums.result.now c.requires.complete c.sums_row-sums.ensures)
-    (subst (λ (s : Disparities). HoldsFirst g c.args.left.now c.args.right.now s.first y c.loop-y.into) (sym c.span-span.ensures) (c.loop-y.invariant before)))
+    let kept = c.strip.ensures.kept in
+    let g = problem_of parcel.scene in
+    let top = first_row parcel.cut parcel.strip in
+    let n = rows_of parcel.cut parcel.strip in
+    let end = first_row parcel.cut (parcel.strip + 1) in
+    let new = c.select_rows.new.into in
+    let more : top < end = first_more parcel.cut parcel.strip kept.cut_kept in
+    let low : end ≤ parcel.cut.height = first_within parcel.cut (parcel.strip + 1) kept.cut_kept (omega (arith, kept.inside)) in
+    let to : top + n ≡ end = omega (arith, more) in
+    let wide : c.size.result.width ≡ g.width = c.size.ensures.width ∙ c.requires.left_width in
+    let some : 0 < g.width = omega (arith, wide, c.size.ensures.kept.width_in_range, c.requires.left_width) in
+    let rows_is : c.rows-rows.result ≡ n = c.rows-rows.ensures.rows ∙ ap (λ k. rows_of k c.strip.result) c.cut.ensures ∙ ap (rows_of parcel.cut) c.strip.ensures.value in
+    let same : c.width.inside.width ≡ c.size.result.width = ap (λ (s : Sides). s.width) c.width.view_is in
+    let len : length new ≡ c.rows-rows.result * c.width.inside.width = omega (arith, c.in_ok-entries.ensures.len) in
+    let full : length new ≡ n * g.width = len ∙ ap (λ k. c.rows-rows.result * k) same ∙ ap (λ k. k * c.size.result.width) rows_is ∙ ap (λ k. n * k) wide in
+    record {
+      exact = with_items_is c.in_ok-entries.entries new (omega arith)
+          ∙ rows_exact g c.args.left.now c.args.right.now parcel.scene.span.first top n new some (omega (arith, to, low, kept.same_height)) full c.select_rows.ensures
+          ∙ ap (λ k. rows_between (disparities_of g c.args.left.now c.args.right.now parcel.scene.span.first) top k) to;
+    }

@@ -1,12 +1,11 @@
-use Rattle.std.proofs.Common.{◌≡◌, ◌∙◌, sym, ap, arith}
-use Rattle.sgm_strip.specs.Cuts.{first_row}
-use Rattle.sgm_strip.specs.Scenes.{SceneParts}
-use Rattle.sgm_strip.proofs.CutLemmas.{first_end, first_top}
-use Rattle.sgm_select.proofs.Strips.{strip_there, strip_written}
+use Rattle.std.proofs.Common.{◌≡◌, ◌∙◌, ◌∷◌, [], ◌++◌, List, Option, ℕ, Some, length, map, sym, ap, subst, arith}
+use Rattle.std.specs.Prelude.{slice_get}
+use Rattle.std.proofs.lemmas.List.{length-map, length_push}
+use Rattle.sgm_strip.specs.Scenes.{SceneParts, problem_of}
+use Rattle.sgm_select.specs.Selection.{disparities_of}
+use Rattle.sgm_select.specs.Strips.{rows_of_strip}
+use Rattle.sgm_select.proofs.Strips.{each_more, full_map, strip_of_scene, strip_there}
 use Rattle.sgm_select.proofs.maps.select_strips.Goals as goal
-
-pub loop-parcel-init : goal.loop-parcel-init
-loop-parcel-init c cut strips x y hx hy = absurd (omega (arith, first_top cut strips.cut_kept))
 
 pub select_strip-requires-clause-left_width : goal.select_strip-requires-clause-left_width
 select_strip-requires-clause-left_width c =
@@ -29,15 +28,33 @@ select_strip-requires-clause-right_height c =
     c.requires.right_height ∙ ap (λ (s : SceneParts). s.left.height) (sym is.same_scene)
 
 pub loop-parcel-preserved : goal.loop-parcel-preserved
-loop-parcel-preserved c cut strips =
+loop-parcel-preserved c =
+    let scene = c.args.scene.now in
+    let left = c.args.left.now in
+    let right = c.args.right.now in
     let k = c.loop-parcel.parcel-index in
     let item = c.parcel-item.result in
-    strip_written c.args.scene.now cut k item c.args.left.now c.args.right.now c.loop-parcel.into c.select_strip.new.into
-    (strip_there c.args.scene.now cut c.args.parcels.now k item strips c.loop-parcel-test.true c.parcel-item.is) c.select_strip.ensures (c.loop-parcel.invariant cut strips)
+    let old = c.loop-parcel.strips.items in
+    let row = c.in_ok-rows.rows in
+    let items : c.push.new.self.items ≡ old ++ row ∷ [] = c.in_ok-push.ensures.items in
+    record {
+      all = ap length items ∙ length_push old row ∙ omega (arith, c.loop-parcel.invariant.all);
+      each = λ cut strips.
+          subst (λ vs. (j : ℕ) (rows : List (Option ℕ)) → slice_get (map (λ v. v.items) vs) j ≡ Some rows → rows ≡ rows_of_strip (disparities_of (problem_of scene) left right scene.span.first) cut j) (sym items)
+          (each_more (λ v. v.items) (λ j rows. rows ≡ rows_of_strip (disparities_of (problem_of scene) left right scene.span.first) cut j) old row (c.loop-parcel.invariant.each cut strips)
+          (strip_of_scene scene cut (length old) item left right row.items
+          (subst (λ n. Rattle.sgm_strip.specs.Strips.IsStripOf scene cut n item) (sym c.loop-parcel.invariant.all) (strip_there scene cut c.args.parcels.now k item strips c.loop-parcel-test.true c.parcel-item.is))
+          c.in_ok-rows.ensures.exact));
+    }
 
 pub returns : goal.returns
-returns c x y hx hy =
-    let strips = c.requires.parcels.strips in
-    let cut = c.requires.parcels.cut in
-    let all : c.loop-parcel.parcel-index ≡ cut.strips = omega (arith, strips.all, c.loop-parcel.auto.parcel-index-end) in
-    c.loop-parcel.invariant cut strips x y hx (omega (arith, ap (first_row cut) all, first_end cut strips.cut_kept, strips.same_height))
+returns c cut strips =
+    let g = problem_of c.args.scene.now in
+    let end : c.loop-parcel.parcel-index ≡ length c.args.parcels.now = omega (arith, c.loop-parcel.auto.parcel-index-end) in
+    record {
+      cut_kept = strips.cut_kept;
+      same_height = strips.same_height;
+      full = full_map g c.args.left.now c.args.right.now c.args.scene.now.span.first;
+      all = length-map c.loop-parcel.strips.items (λ v. v.items) ∙ c.loop-parcel.invariant.all ∙ end ∙ strips.all;
+      each = c.loop-parcel.invariant.each cut strips;
+    }

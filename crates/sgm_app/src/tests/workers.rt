@@ -1,0 +1,108 @@
+//! That a run hands on its strips and its workers, which no clause can say: the gates see it.
+
+use super::ended::shelf_of;
+use super::fixtures::{SUMMARY, example, words_of};
+use crate::run;
+use sgm_io::MemorySink;
+use sgm_work::Gate;
+use std::alloc::Global;
+use std::process::Abort;
+use std::sync::atomic::{AtomicU64, Ordering};
+use std::test::Fail;
+use std::thread::{Threads, yield_now};
+
+/// Runs a line over the worked example, whose summary is the one that it has.
+fn run_example<R: Abort + Threads + Sync, G: Gate + Sync>(
+    rt: &R,
+    alloc: Global,
+    line: &str,
+    gate: &G,
+) -> Result<(), Fail> {
+    let mut shelf = shelf_of(alloc, example(alloc)?)?;
+    let mut out = MemorySink::make(alloc, 4096, None)?;
+    let mut err = MemorySink::make(alloc, 4096, None)?;
+    let words = words_of(alloc, line)?;
+    let outcome = run(rt, alloc, &words, &mut shelf, &mut out, &mut err, gate);
+    assert_eq!(rt; outcome.status(), 0);
+    assert_eq!(rt; out.taken(), SUMMARY);
+    Ok(())
+}
+
+/// Remembers its calls, the last at the end: a digit of 16 for each, four times the worker and the strip and 1.
+#[derive(Drop)]
+struct Recorder {
+    calls: AtomicU64,
+}
+
+impl Gate for Recorder {
+    fn at(&self, worker: u32, strip: u32) {
+        let digit = 4 * u64::from(worker) + u64::from(strip) + 1;
+        let before = self.calls.load(Ordering::SeqCst);
+        let after = before.wrapping_mul(16).wrapping_add(digit);
+        self.calls.store(after, Ordering::SeqCst);
+    }
+}
+
+#[test]
+fn one_worker_by_board(rt: HostRuntime) -> Result<(), Fail> {
+    let recorder = Recorder {
+        calls: AtomicU64::new(0),
+    };
+    let line = "match l.pgm r.pgm c.json o strips=3 workers=1";
+    run_example(&rt, rt.alloc(), line, &recorder)?;
+    assert_eq!(rt; recorder.calls.load(Ordering::SeqCst), 0x1_2312_3123);
+    Ok(())
+}
+
+/// Holds each of two workers at its first claim until the other has claimed, for at most 200,000,000 turns.
+#[derive(Drop)]
+struct Meeting {
+    first: AtomicU64,
+    second: AtomicU64,
+    ended: AtomicU64,
+}
+
+impl Meeting {
+    /// How often the worker came.
+    fn calls_of(&self, worker: u32) -> &AtomicU64 {
+        if worker == 0 {
+            &self.first
+        } else {
+            &self.second
+        }
+    }
+
+    fn hold(&self, other: u32) {
+        for _turn in 0..200_000_000 {
+            if self.calls_of(other).load(Ordering::SeqCst) > 0 {
+                return;
+            }
+            yield_now();
+        }
+        self.ended.store(1, Ordering::SeqCst);
+    }
+}
+
+impl Gate for Meeting {
+    fn at(&self, worker: u32, _strip: u32) {
+        if self.calls_of(worker).fetch_add(1, Ordering::SeqCst) == 0 {
+            self.hold(1 - worker.min(1));
+        }
+    }
+}
+
+#[test]
+fn two_workers_overlap(rt: HostRuntime) -> Result<(), Fail> {
+    let meeting = Meeting {
+        first: AtomicU64::new(0),
+        second: AtomicU64::new(0),
+        ended: AtomicU64::new(0),
+    };
+    let line = "match l.pgm r.pgm c.json o strips=2 workers=2";
+    run_example(&rt, rt.alloc(), line, &meeting)?;
+    for worker in 0..2 {
+        assert!(rt; meeting.calls_of(worker).load(Ordering::SeqCst) > 0);
+    }
+    assert_eq!(rt; meeting.ended.load(Ordering::SeqCst), 0);
+    Ok(())
+}

@@ -1,0 +1,52 @@
+//! From the images to what is matched: rectified planes, and their codes.
+
+ghost use Rattle.std.specs.Prelude.{◌≡◌, IfOk};
+ghost use Rattle.sgm_rectify.specs.Faults.{Suits};
+ghost use Rattle.sgm_rectify.specs.Rectified.{sides_of};
+ghost use Rattle.sgm_job.specs.Matching.{IsMade};
+
+use sgm_base::{Image, Plane};
+use sgm_census::{CodePlane, Window, codes};
+use sgm_rectify::{Warp, rectify};
+use std::alloc::{AllocError, Global};
+use std::thread::{Threads, join};
+
+/// A rectified image, and the codes of its pixels.
+#[derive(Drop)]
+pub(crate) struct Coded {
+    pub plane: Plane,
+    pub codes: CodePlane,
+}
+
+/// The image, rectified by the warp, with the codes of the window.
+fn prepare(alloc: Global, image: &Image, warp: &Warp, window: Window) -> Result<Coded, AllocError>
+    requires { Suits warp.now (sides_of image.now) }
+    ensures { IfOk result (λ made. IsMade image.now warp.now window made.plane made.codes) }
+{
+    let plane = rectify(alloc, image, warp)?;
+    let codes = codes(alloc, &plane, window)?;
+    Ok(Coded { plane, codes })
+}
+
+/// Both images, each by its warp, side by side where there is a thread for it.
+pub(crate) fn prepare_both<R: Threads>(
+    rt: &R,
+    alloc: Global,
+    left: &Image,
+    left_warp: &Warp,
+    right: &Image,
+    right_warp: &Warp,
+    window: Window,
+) -> Result<(Coded, Coded), AllocError>
+    requires left { Suits left_warp.now (sides_of left.now) }
+    requires right { Suits right_warp.now (sides_of right.now) }
+    ensures left { IfOk result (λ made. IsMade left.now left_warp.now window made.0.plane made.0.codes) }
+    ensures right { IfOk result (λ made. IsMade right.now right_warp.now window made.1.plane made.1.codes) }
+{
+    let (left, right) = join(
+        rt,
+        || prepare(alloc, left, left_warp, window),
+        || prepare(alloc, right, right_warp, window),
+    );
+    Ok((left?, right?))
+}
