@@ -14,11 +14,17 @@ mod run;
 mod words;
 
 use parts::cut;
-use std::alloc::AllocError;
+use std::alloc::{AllocError, Global};
 use std::io;
+use std::io::Print;
+use std::thread::Threads;
 
-fn answer(rt: &HostRuntime, kind: &str, rest: &str) -> Result<String, AllocError> {
-    let alloc = rt.alloc();
+fn answer<R: Threads + Sync>(
+    rt: &R,
+    alloc: Global,
+    kind: &str,
+    rest: &str,
+) -> Result<String, AllocError> {
     match kind {
         "calib" => calib::answer(alloc, rest),
         "line" => line::answer(alloc, rest),
@@ -29,9 +35,14 @@ fn answer(rt: &HostRuntime, kind: &str, rest: &str) -> Result<String, AllocError
 }
 
 /// Prints the case where its answer isn't the one that is owed.
-fn compare(rt: &HostRuntime, case: &str, owed: &str) -> io::Result<()> {
+fn compare<R: Print + Threads + Sync>(
+    rt: &R,
+    alloc: Global,
+    case: &str,
+    owed: &str,
+) -> io::Result<()> {
     let (kind, rest) = cut(case);
-    let text = answer(rt, kind, rest)?;
+    let text = answer(rt, alloc, kind, rest)?;
     if text.as_str() != owed {
         println!(rt; "{case}: {text}")?;
     }
@@ -44,11 +55,11 @@ fn main(rt: HostRuntime) -> io::Result<()> {
         let line = line?;
         match asked.take() {
             None => asked = Some(line),
-            Some(case) => compare(&rt, case.as_str(), line.as_str())?,
+            Some(case) => compare(&rt, rt.alloc(), case.as_str(), line.as_str())?,
         }
     }
     match asked {
         None => Ok(()),
-        Some(case) => compare(&rt, case.as_str(), ""),
+        Some(case) => compare(&rt, rt.alloc(), case.as_str(), ""),
     }
 }
