@@ -12,8 +12,13 @@ join_strips-requires c =
     let whole = disparities_of (problem_of c.args.scene.now) c.args.left.now c.args.right.now c.args.scene.now.span.first in
     let cut = c.requires.parcels.cut in
     record {
-      rows = (whole, cut, subst (λ vs. AreRowsOf whole cut (map (λ v. v.items) vs)) (sym c.deref.ensures.value) (c.in_ok-strips.ensures cut c.requires.parcels.strips),
-          c.size.ensures.width, c.size.ensures.height);
+      rows = (
+        whole,
+        cut,
+        subst (λ vs. AreRowsOf whole cut (map (λ v. v.items) vs)) (sym c.deref.ensures.value) (c.in_ok-strips.ensures cut c.requires.parcels.strips),
+        c.size.ensures.width,
+        c.size.ensures.height,
+      );
     }
 
 pub returns-clause-exact : goal.returns-clause-exact
