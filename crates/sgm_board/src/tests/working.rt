@@ -94,7 +94,7 @@ fn is_over(board: &Board, pass: &mut Pass) -> bool
     true
 }
 
-/// Goes over all strips, at most a million times, until all fronts have passed all strips.
+/// Tries strip after strip, of three at most a million times, until all fronts have passed all strips.
 pub(super) fn work(board: &Board, mut pass: Pass, mut spare: Row) -> Pass
     requires own { IsPassOf board.now pass }
     requires idle { IsIdle (parts_of pass) }
@@ -104,7 +104,7 @@ pub(super) fn work(board: &Board, mut pass: Pass, mut spare: Row) -> Pass
     ensures gathered { (parts_of result).gathered ≡ (parts_of pass).gathered }
 {
     let strips = board.strips();
-    for _ in 0..1_000_000 {
+    for _ in 0..333_333 {
         for strip in 0..strips {
             visit(board, &mut pass, strip, &mut spare);
         }
