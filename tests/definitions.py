@@ -528,7 +528,7 @@ def texts(draw):
         },
     )
     for width, height in [(1, 1), (3, 2), (10, 1)]:
-        found = [[draw.choice([None, 0, 16, 4080]) for _ in range(width)] for _ in range(height)]
+        found = [[draw.choice([None, 0, 16, 23, 52, 4080]) for _ in range(width)] for _ in range(height)]
         summary = reference.summary_text(found)
         page.holds(f"disparity_text {plane_of(found)}", text(reference.disparity_text(found)))
         page.holds(f"summary_text {plane_of(found)}", text(summary))
