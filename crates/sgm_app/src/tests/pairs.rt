@@ -16,7 +16,7 @@ fn a_demo_has_two_lines_and_no_file(rt: HostRuntime) -> Result<(), Fail> {
     for line in ["demo 0", "demo 0 workers=3 strips=5"] {
         let mut shelf = shelf_of(alloc, files_with(alloc, &[])?)?;
         let ended = end_on(&rt, alloc, line, &mut shelf)?;
-        let lines = b"valid 45516 of 49152\nsum 11360464\n";
+        let lines = b"valid 45516 of 49152\nsum 11360085\n";
         assert_ended(&rt, &ended, 0, lines, b"", line);
         assert_held(&rt, alloc, &mut shelf, [None; 3], line)?;
     }
