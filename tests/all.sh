@@ -25,6 +25,7 @@ launcher            -           tests/launcher.sh
 scripts             -           tests/scripts.py
 shellcheck          shellcheck  shellcheck -x sgm .ci/run $(cd "$top" && echo tests/*.sh)
 reference           -           tests/test_reference.py
+stored_runs         -           tests/stored_runs.py
 least_energies      -           tests/least_energies.py --check
 cubic_metres        -           tools/test_cubic_metres.py
 stretch             -           tools/test_stretch.py

@@ -84,13 +84,13 @@ def main():
     argparse.ArgumentParser(description=__doc__.split("\n\n")[0], epilog="Example: tests/unrectified_heap.py").parse_args()
     with tempfile.TemporaryDirectory(prefix="sgm-unrectified_heap.") as folder:
         try:
-            _, cells, empty, fill, cut, _, highest = survey(folder)
+            _, cells, empty, *_ = survey(folder)
             # Prints the comparison, and stops where the report isn't the sum of the cells.
-            compare_truth.compare(os.path.join(folder, "o"))
+            measured, highest = compare_truth.compare(os.path.join(folder, "o"))
         except (OSError, subprocess.CalledProcessError, compare_truth.NotASurvey) as error:
             sys.exit(f"unrectified_heap: {error}")
     volume = compare_truth.true_volume()
-    is_near = abs(int(fill) - int(cut) - volume) < volume / 50 and abs(int(highest) - heap.CONE_HEIGHT) < 100_000
+    is_near = abs(measured - volume) < volume / 50 and abs(highest - heap.CONE_HEIGHT) < 100_000
     is_filled = int(empty) < int(cells) // 20
     print("unrectified_heap: " + ("near the truth" if is_near and is_filled else "NOT near the truth"))
     return 0 if is_near and is_filled else 1
