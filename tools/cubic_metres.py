@@ -163,7 +163,7 @@ def main():
     epilog = "Example: tools/cubic_metres.py heap.csv --ground ground --calibration heap.json --digits 3"
     parser = argparse.ArgumentParser(description=__doc__.split("\n\n")[0], epilog=epilog)
     parser.add_argument("file", metavar="OUT.csv", help="the report that sgm has written")
-    parser.add_argument("--ground", metavar="NAME", help="the region of flat ground above which the others are measured")
+    parser.add_argument("--ground", metavar="NAME", help="the region of flat ground above which others are measured")
     parser.add_argument("--calibration", metavar="CALIB.json", help="that of the survey; --ground takes it")
     parser.add_argument("--out", metavar="FILE.csv", help="the new table (standard output if not given)")
     parser.add_argument("--digits", type=int, choices=range(19), metavar="N", help="decimals, 0 to 18 (all if not given)")

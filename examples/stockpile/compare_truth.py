@@ -130,7 +130,7 @@ def compare(out):
 
 
 def main():
-    epilog = "Example, after the match of examples/stockpile into /tmp/heap: examples/stockpile/compare_truth.py /tmp/heap"
+    epilog = "Example, after the match of the example into /tmp/heap: examples/stockpile/compare_truth.py /tmp/heap"
     parser = argparse.ArgumentParser(description=__doc__.split("\n\n")[0], epilog=epilog)
     parser.add_argument("out", metavar="OUT", help="the last word of the match")
     words = parser.parse_args()
