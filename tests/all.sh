@@ -35,6 +35,7 @@ ends                program     tests/ends.sh
 workers             program     tests/workers.sh
 random_cases        program     tests/random_cases.py --cases 300
 refused_allocations program,gcc tests/refused_allocations.sh
+interrupted         program     tests/interrupted.py
 asc_gdal            program,gdal    tests/asc_gdal.sh
 pgm_tools           program,netpbm  tests/pgm_tools.sh
 unrectified_heap    program     tests/unrectified_heap.py
