@@ -35,6 +35,8 @@ beside_opencv       opencv      tools/test_opencv_calibration.py BesideOpenCV
 ends                program     tests/ends.sh
 workers             program     tests/workers.sh
 random_cases        program     tests/random_cases.py --cases 300
+refused_allocations program,gcc tests/refused_allocations.sh
+interrupted         program     tests/interrupted.py
 asc_gdal            program,gdal    tests/asc_gdal.sh
 pgm_tools           program,netpbm  tests/pgm_tools.sh
 unrectified_heap    program     tests/unrectified_heap.py
@@ -76,6 +78,7 @@ need() {
         ;;
     gdal) commands="gdalinfo gdallocationinfo" packages=gdal-bin ;;
     netpbm) commands="pgmmake pamdepth pnmtopng pngtopnm" ;;
+    gcc) commands=gcc packages="gcc libc6-dev" ;;
     shellcheck) commands=shellcheck ;;
     esac
     for command in $commands; do

@@ -2,7 +2,7 @@
 
 use super::ended::{assert_ended, assert_held, end_on, held, shelf_of};
 use super::fixtures::files_with;
-use crate::pair;
+use sgm_app::pair;
 use sgm_base::{Image, Size};
 use sgm_example::{CAMERA, END, GRID, REGIONS};
 use std::alloc::{AllocError, Global};
