@@ -335,9 +335,16 @@ def points(draw):
     return page
 
 
+def natural_fields(path):
+    """The names of a struct's fields that are natural numbers in the definitions, by its source."""
+    with open(os.path.join(CRATES, path), encoding="utf-8") as file:
+        return re.findall(r"^ +pub (\w+): u\d+,", file.read(), re.M)
+
+
 def spec_of(grid):
-    sides = {name: natural(grid[name]) for name in ("cols", "rows")}
-    return record(**{name: whole(value) for name, value in completed("grid", grid).items()} | sides)
+    naturals = natural_fields("sgm_grid/src/grid_spec.rt")
+    shown = {name: natural if name in naturals else whole for name in completed("grid", grid)}
+    return record(**{name: shown[name](value) for name, value in completed("grid", grid).items()})
 
 
 def cells_of(grid, cells):

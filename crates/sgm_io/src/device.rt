@@ -6,9 +6,12 @@ use std::io::{Read, Write};
 
 const CHUNK: usize = 65536;
 
-// Reads a stream to its end, if it has at most `most` bytes, and no more than one byte past them.
-// Each turn takes a byte or ends.
-pub(crate) fn read_at_most<R: Read>(
+/// Replaces `into` by all bytes of a stream up to its end, which are at most `most`.
+///
+/// # Errors
+/// `TooLong` where it has more than `most`, `Failed` where the stream fails before that is known, and
+/// `NoMemory`.
+pub fn read_at_most<R: Read>(
     stream: &mut R,
     most: usize,
     into: &mut Vec<u8>,
@@ -26,6 +29,7 @@ pub(crate) fn read_at_most<R: Read>(
 {
     into.clear();
     let mut chunk = [0; CHUNK];
+    // Each turn takes a byte or ends.
     loop {
         let left = most - into.len();
         let limit = left.saturating_add(1).min(CHUNK);

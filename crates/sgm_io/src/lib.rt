@@ -13,11 +13,10 @@ mod shelf;
 mod sink;
 mod std_sink;
 mod sure_shelf;
-#[cfg(test)]
-mod tests;
 mod trip;
 mod unfinished;
 
+pub use device::read_at_most;
 pub use disk_shelf::DiskShelf;
 pub use memory_shelf::MemoryShelf;
 pub use memory_sink::MemorySink;

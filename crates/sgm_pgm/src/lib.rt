@@ -12,6 +12,3 @@ mod write;
 pub use fault::{PgmError, PgmFault};
 pub use reading::read;
 pub use write::write16;
-
-#[cfg(test)]
-mod tests;

@@ -16,6 +16,3 @@ pub use limits::{
 pub use nodes::Nodes;
 pub use rectified::{rectify, rectify_row};
 pub use warp::{Warp, WarpFault};
-
-#[cfg(test)]
-mod tests;

@@ -2,11 +2,11 @@ ghost use Rattle.std.specs.Prelude.{◌↔◌, ◌≤◌, IsTrue, All};
 ghost use Rattle.sgm_rectify.specs.Faults.{Suits};
 ghost use Rattle.sgm_rectify.specs.Warps.{IsCoordinate, IsNode, IsMesh, IsWarp};
 
-use crate::{
+use sgm_base::{Image, Size};
+use sgm_rectify::{
     MAX_ENTRY, MAX_NODE, MAX_NODE_COUNT, MAX_STEP, MIN_ENTRY, MIN_NODE, MIN_NODE_COUNT, MIN_STEP,
     Nodes, Warp, WarpFault, rectify, rectify_row,
 };
-use sgm_base::{Image, Size};
 use std::alloc::Global;
 use std::process::Abort;
 use std::test::Fail;

@@ -1,5 +1,5 @@
-use crate::{PgmError, PgmFault, read, write16};
 use sgm_base::Size;
+use sgm_pgm::{PgmError, PgmFault, read, write16};
 use std::alloc::{AllocError, Global};
 use std::test::Fail;
 

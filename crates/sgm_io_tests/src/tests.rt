@@ -1,10 +1,9 @@
 ghost use Rattle.std.specs.Prelude.{◌≡◌, OnOk};
 ghost use Rattle.sgm_io.specs.Unfinished.{without_name};
 
-use crate::device::read_at_most;
-use crate::{
+use sgm_io::{
     DiskShelf, FetchError, KeepError, MemoryShelf, MemorySink, Shelf, Sink, SinkError, StdSink,
-    SureShelf, Trip, append_whole, write_whole,
+    SureShelf, Trip, append_whole, read_at_most, write_whole,
 };
 use std::alloc::{AllocError, Global};
 use std::io::{ErrorKind, Read, Write};

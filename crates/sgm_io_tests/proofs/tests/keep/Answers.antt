@@ -1,6 +1,6 @@
 use Rattle.std.proofs.Common.{◌∙◌}
 use Rattle.sgm_io.proofs.UnfinishedLaws.{finished}
-use Rattle.sgm_io.proofs.tests.keep.Goals as goal
+use Rattle.sgm_io_tests.proofs.tests.keep.Goals as goal
 
 pub returns : goal.returns
 returns g c =
