@@ -22,13 +22,14 @@ export SGM
 table() {
     cat <<TABLE
 launcher            -           tests/launcher.sh
-scripts             -           tests/scripts.py
+scripts             pictures    tests/scripts.py
 shellcheck          shellcheck  shellcheck -x sgm .ci/run $(cd "$top" && echo tests/*.sh)
 reference           -           tests/test_reference.py
 least_energies      -           tests/least_energies.py --check
 cubic_metres        -           tools/test_cubic_metres.py
-stretch             -           tools/test_stretch.py
-heights_picture     -           tools/test_heights_picture.py
+sgm_files           pictures    tools/test_sgm_files.py
+stretch             pictures    tools/test_stretch.py
+heights_picture     pictures    tools/test_heights_picture.py
 opencv_calibration  -           tools/test_opencv_calibration.py
 beside_opencv       opencv      tools/test_opencv_calibration.py BesideOpenCV
 ends                program     tests/ends.sh
@@ -67,6 +68,10 @@ need() {
         ;;
     rt)
         command -v rt >/dev/null || printf "the toolchain's command rt isn't on the PATH\t\n"
+        return
+        ;;
+    pictures)
+        "$(python_with PIL)" -c "import numpy, PIL" 2>/dev/null || printf "numpy and Pillow for Python\tpython3-numpy python3-pil\n"
         return
         ;;
     opencv)
