@@ -22,7 +22,7 @@ export SGM
 table() {
     cat <<TABLE
 launcher            -           tests/launcher.sh
-scripts             pictures    tests/scripts.py
+scripts             opencv      tests/scripts.py
 shellcheck          shellcheck  shellcheck -x sgm .ci/run $(cd "$top" && echo tests/*.sh)
 reference           -           tests/test_reference.py
 least_energies      -           tests/least_energies.py --check
@@ -30,14 +30,13 @@ cubic_metres        -           tools/test_cubic_metres.py
 sgm_files           pictures    tools/test_sgm_files.py
 stretch             pictures    tools/test_stretch.py
 heights_picture     pictures    tools/test_heights_picture.py
-opencv_calibration  -           tools/test_opencv_calibration.py
-beside_opencv       opencv      tools/test_opencv_calibration.py BesideOpenCV
+opencv_calibration  opencv      tools/test_opencv_calibration.py
 ends                program     tests/ends.sh
 workers             program     tests/workers.sh
 random_cases        program     tests/random_cases.py --cases 300
 asc_gdal            program,gdal    tests/asc_gdal.sh
 pgm_tools           program,netpbm  tests/pgm_tools.sh
-unrectified_heap    program     tests/unrectified_heap.py
+unrectified_heap    program,opencv  tests/unrectified_heap.py
 compare             program     tests/compare.sh
 definitions         rt          tests/definitions.sh
 TABLE
@@ -75,7 +74,8 @@ need() {
         return
         ;;
     opencv)
-        "$(python_with cv2)" -c "import cv2, numpy" 2>/dev/null || printf "OpenCV for Python\tpython3-opencv python3-numpy\n"
+        "$(python_with cv2)" -c "import cv2, numpy, PIL" 2>/dev/null ||
+            printf "OpenCV for Python\tpython3-opencv python3-numpy python3-pil\n"
         return
         ;;
     gdal) commands="gdalinfo gdallocationinfo" packages=gdal-bin ;;

@@ -26,55 +26,65 @@ sys.path[:0] = [os.path.join(TOP, "tools"), HEAP]
 import compare_truth
 import make_stockpile as heap
 import opencv_calibration as tool
+from opencv_calibration import cv2, numpy
 
 # Camera matrix, distortion, and the turn out of level of the left and the right camera.
 LEFT = ([[150, 0, 163.0], [0, 151, 118.0], [0, 0, 1]], [-0.12, 0.02, 0.0006, -0.0004, 0.0], [0.01, -0.012, 0.02])
 RIGHT = ([[152, 0, 157.0], [0, 152.5, 121.5], [0, 0, 1]], [-0.1, 0.015, -0.0005, 0.0003, 0.0], [-0.008, 0.015, -0.01])
 FINE = 1_000_000
 LIMITS = "--unit m --near 4000000 --far 9000000 --mount 8000000 --grid -6400000 -6000000 125000 115 96"
+REGIONS = " --region pile 15 18 77 78 0 --region ground 95 24 17 48 0"
+
+
+def turned(camera):
+    """What turns the axes of the level pair into the camera's."""
+    return cv2.Rodrigues(numpy.array(camera[2]))[0]
 
 
 def calibration():
     """What cv2.stereoCalibrate would find: the right camera stands the baseline to the right of the left one."""
-    (k1, d1, first), (k2, d2, second) = LEFT, RIGHT
-    first, second = tool.rotation_about(first), tool.rotation_about(second)
+    (k1, d1, _), (k2, d2, _) = LEFT, RIGHT
     made = {"imageSize": [heap.WIDTH, heap.HEIGHT], "M1": k1, "D1": d1, "M2": k2, "D2": d2}
-    made["R"] = tool.product(second, tool.transposed(first))
-    made["T"] = [-part for part in tool.times(second, [heap.BASELINE / 1_000_000, 0, 0])]
+    made["R"] = (turned(RIGHT) @ turned(LEFT).T).tolist()
+    made["T"] = (turned(RIGHT) @ [-heap.BASELINE / 1_000_000, 0, 0]).tolist()
     return made
+
+
+def rays(camera):
+    """Where each pixel looks in the level pair, in focal lengths to the right and down, row by row."""
+    k, d, _ = camera
+    y, x = numpy.mgrid[0 : heap.HEIGHT, 0 : heap.WIDTH].astype(float)
+    pixels = numpy.stack([x.ravel(), y.ravel()], axis=-1)[:, None]
+    ends = (cv2.TERM_CRITERIA_COUNT + cv2.TERM_CRITERIA_EPS, 100, 1e-9)
+    seen = cv2.undistortPointsIter(pixels, numpy.array(k), numpy.array(d), None, None, ends)[:, 0]
+    level = numpy.column_stack([seen, numpy.ones(len(seen))]) @ turned(camera)
+    return level[:, :2] / level[:, 2:]
 
 
 def photograph(camera, camera_x, sample):
     """The PGM of what a camera sees. Its rays are rounded to a millionth of the focal length."""
-    (k, d, turn), samples = camera, bytearray()
-    level = tool.transposed(tool.rotation_about(turn))
-    for y in range(heap.HEIGHT):
-        for x in range(heap.WIDTH):
-            seen = tool.undistorted(d, (x - k[0][2]) / k[0][0], (y - k[1][2]) / k[1][1])
-            right, down, away = tool.times(level, [*seen, 1.0])
-            ray = heap.Ray(camera_x, round(FINE * right / away), round(-FINE * down / away), FINE)
-            samples.append(sample(heap.surface(ray), x, y))
+    samples = bytearray()
+    for at, (right, down) in enumerate(rays(camera).tolist()):
+        ray = heap.Ray(camera_x, round(FINE * right), round(-FINE * down), FINE)
+        samples.append(sample(heap.surface(ray), at % heap.WIDTH, at // heap.WIDTH))
     return f"P5\n{heap.WIDTH} {heap.HEIGHT}\n255\n".encode() + samples
+
+
+def photographs():
+    """The left and the right picture, each with noise of its own, the right one darker."""
+    left = photograph(LEFT, 0, lambda grey, x, y: grey + heap.noise(x, y, 31) % 5)
+    right = photograph(RIGHT, heap.BASELINE, lambda grey, x, y: grey * 4 // 5 + 6 + heap.noise(x, y, 32) % 5)
+    return left, right
 
 
 def survey(folder):
     """The report's line of the pile, after the tool and the program have run in the folder."""
-    files = {
-        "l.pgm": photograph(LEFT, 0, lambda grey, x, y: grey + heap.noise(x, y, 31) % 5),
-        "r.pgm": photograph(RIGHT, heap.BASELINE, lambda grey, x, y: grey * 4 // 5 + 6 + heap.noise(x, y, 32) % 5),
-        "cameras.json": json.dumps(calibration()).encode(),
-    }
-    for name, data in files.items():
+    left, right = photographs()
+    for name, data in (("l.pgm", left), ("r.pgm", right), ("cameras.json", json.dumps(calibration()).encode())):
         with open(os.path.join(folder, name), "wb") as file:
             file.write(data)
-    command = [tool.__file__, "cameras.json", *LIMITS.split(), "--out", "made.json"]
+    command = [tool.__file__, "cameras.json", *(LIMITS + REGIONS).split(), "--out", "c.json"]
     subprocess.run(command, cwd=folder, check=True)
-    with open(os.path.join(folder, "made.json")) as file:
-        made = json.load(file)
-    with open(os.path.join(HEAP, "calibration.json")) as file:
-        made["regions"] = json.load(file)["regions"]
-    with open(os.path.join(folder, "c.json"), "w") as file:
-        json.dump(made, file)
     subprocess.run([SGM, "match", "l.pgm", "r.pgm", "c.json", "o"], cwd=folder, check=True)
     with open(os.path.join(folder, "o.csv")) as file:
         return file.read().splitlines()[1].split(",")

@@ -172,7 +172,8 @@ def write_png(name, pixels, palette=None):
 
 
 GRID_NAMES = (b"ncols", b"nrows", b"xllcorner", b"yllcorner", b"cellsize", b"nodata_value")
-GRID_HEAD = re.compile(rb"\s*" + rb"\s+".join(rb"(?i:" + it + rb")\s+(-?[0-9]{1,18})" for it in GRID_NAMES) + rb"(?=\s)")
+GRID_LINES = [rb"\s*(?i:" + name + rb")\s+(-?[0-9]{1,18})(?=\s)" for name in GRID_NAMES]
+GRID_HEAD = re.compile(b"".join(GRID_LINES))
 
 
 @dataclasses.dataclass
@@ -210,7 +211,7 @@ def whole_numbers(text, name):
     """The whole numbers of a text that begins with white bytes, as int64; anything else is refused."""
     signs = text.count(b"-")
     is_plain = not text.translate(None, b"0123456789- \t\n\v\f\r")
-    if not is_plain or signs != sum(text.count(white + b"-") for white in (b" ", b"\t", b"\n", b"\v", b"\f", b"\r")):
+    if not is_plain or signs != sum(text.count(bytes([white]) + b"-") for white in b" \t\n\v\f\r"):
         raise Wrong(f"{name}: not a height grid of sgm")
     if not text.strip():
         return numpy.zeros(0, numpy.int64)

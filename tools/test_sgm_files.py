@@ -98,7 +98,8 @@ class Grids(Files):
             self.assertEqual(int(grid.heights[0, 0]), number)
 
     def test_refused(self):
-        for cells in (b"5.0", b"5-6", b"--5", b"-", b"5 -", b"1e3", b"0x5", b"+5", b"5,6", b"%d" % 2**63, b"-%d" % 2**64):
+        longest = [b"%d" % 2**63, b"-%d" % 2**64]
+        for cells in [b"5.0", b"5-6", b"--5", b"-", b"5 -", b"1e3", b"0x5", b"+5", b"5,6", *longest]:
             line = self.refused(sgm_files.read_grid, HEAD % (1, 1) + cells + b"\n")
             self.assertEqual(line, "not a height grid of sgm", cells)
         self.assertEqual(self.refused(sgm_files.read_grid, HEAD % (1, 1) + b" \n"), "0 heights, 1 needed")
@@ -139,7 +140,8 @@ class Numbers(unittest.TestCase):
 class Ends(unittest.TestCase):
     def ends(self, body):
         """The status and standard error of a tool whose main has that body."""
-        script = f"import sgm_files\nsgm_files.sys.argv[0] = 'folder/tool.py'\ndef main():\n    {body}\nsgm_files.run(main)\n"
+        script = "import sgm_files\nsgm_files.sys.argv[0] = 'folder/tool.py'\n"
+        script += f"def main():\n    {body}\nsgm_files.run(main)\n"
         done = subprocess.run([sys.executable, "-c", script], cwd=HERE, capture_output=True, text=True)
         return done.returncode, done.stderr
 
