@@ -30,7 +30,11 @@ cubic_metres        -           tools/test_cubic_metres.py
 sgm_files           pictures    tools/test_sgm_files.py
 stretch             pictures    tools/test_stretch.py
 heights_picture     pictures    tools/test_heights_picture.py
+photo_to_pgm        pictures    tools/test_photo_to_pgm.py
 opencv_calibration  opencv      tools/test_opencv_calibration.py
+calibrate_pair      opencv      tools/test_calibrate_pair.py
+survey_page_files   pictures    tools/test_survey_page.py
+survey_page         browser     tests/survey_page.py
 ends                program     tests/ends.sh
 workers             program     tests/workers.sh
 random_cases        program     tests/random_cases.py --cases 300
@@ -77,6 +81,13 @@ need() {
         "$(python_with cv2)" -c "import cv2, numpy, PIL" 2>/dev/null ||
             printf "OpenCV for Python\tpython3-opencv python3-numpy python3-pil\n"
         return
+        ;;
+    browser)
+        commands="chromium chromedriver" packages="chromium chromium-driver python3-selenium python3-numpy python3-pil"
+        if ! "$(python_with selenium)" -c "import selenium, numpy, PIL" 2>/dev/null; then
+            printf 'selenium for Python\t%s\n' "$packages"
+            return
+        fi
         ;;
     gdal) commands="gdalinfo gdallocationinfo" packages=gdal-bin ;;
     netpbm) commands="pgmmake pamdepth pnmtopng pngtopnm" ;;

@@ -16,6 +16,7 @@ import sys
 
 DEBIAN_PYTHON = "/usr/bin/python3"
 DEBIAN_PACKAGES = {"numpy": "python3-numpy", "PIL": "python3-pil", "cv2": "python3-opencv"}
+DEBIAN_PACKAGES["selenium"] = "python3-selenium chromium chromium-driver"
 
 
 class Wrong(Exception):
