@@ -41,6 +41,7 @@ random_cases        program     tests/random_cases.py --cases 300
 asc_gdal            program,gdal    tests/asc_gdal.sh
 pgm_tools           program,netpbm  tests/pgm_tools.sh
 unrectified_heap    program,opencv  tests/unrectified_heap.py
+guide               program,opencv,gdal tests/guide.py
 compare             program     tests/compare.sh
 definitions         rt          tests/definitions.sh
 TABLE
@@ -89,7 +90,7 @@ need() {
             return
         fi
         ;;
-    gdal) commands="gdalinfo gdallocationinfo" packages=gdal-bin ;;
+    gdal) commands="gdalinfo gdallocationinfo gdal_calc.py" packages="gdal-bin python3-gdal" ;;
     netpbm) commands="pgmmake pamdepth pnmtopng pngtopnm" ;;
     shellcheck) commands=shellcheck ;;
     esac
@@ -148,7 +149,9 @@ run() {
     for it in ${2//,/ }; do
         reason=$(need "$it")
         [ -n "$reason" ] || continue
-        missing=${reason%$'\t'*} packages=${reason#*$'\t'}
+        missing+=${missing:+, }${reason%$'\t'*}
+        reason=${reason#*$'\t'}
+        packages+=${packages:+${reason:+ }}$reason
     done
     if [ -n "$missing" ]; then
         skipped=$((skipped + 1))

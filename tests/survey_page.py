@@ -29,7 +29,7 @@ from sgm_files import Wrong, numpy
 
 webdriver = sgm_files.package("selenium.webdriver")
 EMPTY = -(2**31)
-SIZE = (1320, 1500)
+SIZE = (1280, 1180)
 
 
 def browser():
