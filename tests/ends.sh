@@ -1,14 +1,16 @@
 #!/usr/bin/env bash
 # Tries the program's ends from the shell: each case has a folder of its own with a small pair, a
 # calibration and one thing that is wrong, and asks for the status, the line on standard error, what
-# is on standard output, and exactly the files that stand afterwards, each output whole. The program is
-# the one that the variable SGM names (./sgm of this repository without it).
+# is on standard output, and exactly the files that stand afterwards, each output whole. The system's
+# own ends are among them: full disks (where small ones may be mounted), pipes that nobody reads, a file
+# whose length changes while it is read, and less and less memory. The program is the one that the
+# variable SGM names (./sgm of this repository without it).
 #
 #     tests/ends.sh
 set -u
 # shellcheck source-path=SCRIPTDIR source=common.sh
 . "$(dirname "$0")/common.sh"
-passed=0 failed=0
+passed=0 failed=0 told=
 outputs=(o.pgm o.asc o.csv)
 
 # members NAME..: these members of the worked example's calibration, as JSON without its braces.
@@ -25,20 +27,38 @@ END
 plain=$(members version disparities census penalties) || exit 1
 camera=$(members camera) grid=$(members grid) regions=$(members regions)
 
-# A new folder with the pair and its calibration; the words are those of a good run.
+# A case may have mounted a disk, and have left a process.
+disks=() helper=
+clean_up() {
+    cd /
+    [ -z "$helper" ] || kill "$helper" 2>/dev/null
+    for disk in "${disks[@]}"; do umount "$disk"; done
+    chmod -R u+rwX "$work"
+    rm -rf "$work"
+}
+trap clean_up EXIT
+
+# A new folder with the pair and its calibration; the words are those of a good run. Where the variable pages
+# names a number, the folder is a disk of so many pages.
 begin() {
     case=$1
     local folder=$work/${case//[^a-z0-9]/-}
     words=(match l.pgm r.pgm c.json o)
-    mkdir "$folder" && cd "$folder" || exit 1
+    mkdir "$folder" || exit 1
+    if [ -n "${pages-}" ]; then
+        mount -t tmpfs -o "size=$((pages * $(getconf PAGESIZE)))" none "$folder" || exit 1
+        disks+=("$folder")
+    fi
+    cd "$folder" || exit 1
     printf 'P5\n5 3\n255\n\132\12\62\24\50\132\12\62\24\50\132\12\62\24\50' >l.pgm
     printf 'P5\n5 3\n255\n\12\62\24\50\36\12\62\24\50\36\12\62\24\50\36' >r.pgm
     echo "{$plain,$camera,$grid,$regions}" >c.json
 }
 
 # ends STATUS LINE SUMMARY [OUTPUT..]: runs the words and compares. `-` as LINE or SUMMARY asks for
-# nothing there. What the variables out and err name takes the place of the two streams, and is a
-# closed stream where it is `closed`.
+# nothing there. What the variables out and err name takes the place of the two streams: a closed stream
+# where it is `closed`, a pipe that nobody reads where it is `unread`. What the variable begun names is an
+# output that holds so many bytes of its text, as `o.asc:0`.
 ends() {
     local status=$1 line=$2 summary=$3 made file
     shift 3
@@ -46,7 +66,13 @@ ends() {
     true >"$work/out"
     true >"$work/err"
     before=$(ls -A)
-    if [ "$out" = closed ]; then
+    if [ "$out" = unread ]; then
+        unread_pipe
+        env --default-signal=PIPE "$SGM" "${words[@]}" 1>&"$pipe" 2>"$err"
+    elif [ "$err" = unread ]; then
+        unread_pipe
+        env --default-signal=PIPE "$SGM" "${words[@]}" >"$out" 2>&"$pipe"
+    elif [ "$out" = closed ]; then
         "$SGM" "${words[@]}" >&- 2>"$err"
     elif [ "$err" = closed ]; then
         "$SGM" "${words[@]}" >"$out" 2>&-
@@ -59,10 +85,12 @@ ends() {
         wrong+=("standard error has '$(cat "$work/err")', not '$line'")
     if [ "$summary" = - ]; then printf ''; else printf '%s\n' "$summary"; fi | cmp -s - "$work/out" ||
         wrong+=("standard output has '$(cat "$work/out")', not '$summary'")
-    [ "$(ls -A)" = "$(printf '%s\n' "$before" "$@" | sort -u)" ] || wrong+=("the files are $(find . -mindepth 1 -printf '%P ')")
+    [ "$(ls -A)" = "$(printf '%s\n' "$before" "$@" ${begun:+"${begun%:*}"} | sort -u)" ] || wrong+=("the files are $(find . -mindepth 1 -printf '%P ')")
     for file in "$@"; do
         cmp -s "$file" "$whole/$file" || wrong+=("$file isn't whole")
     done
+    [ -z "${begun-}" ] || head -c "${begun#*:}" "$whole/${begun%:*}" | cmp -s - "${begun%:*}" ||
+        wrong+=("${begun%:*} doesn't hold its first ${begun#*:} bytes")
     if [ ${#wrong[@]} = 0 ]; then
         passed=$((passed + 1))
     else
@@ -70,6 +98,118 @@ ends() {
         printf "wrong: $case: %s\n" "${wrong[@]}"
     fi
     cd "$work" || exit 1
+}
+
+# Opens a pipe that nobody reads any more, at the number in pipe.
+unread_pipe() {
+    exec {pipe}> >(:)
+    wait "$!"
+}
+
+# stands: whether the outputs are those of a run that stopped at one of them: the ones before it whole, that one
+# absent or the beginning of its text, and no other.
+stands() {
+    local at=0 file
+    while [ $at -lt 3 ] && cmp -s "${outputs[at]}" "$whole/${outputs[at]}"; do at=$((at + 1)); done
+    [ $at = 3 ] && return
+    file=${outputs[at]}
+    [ ! -e "$file" ] || cmp -s -n "$(stat -c %s "$file")" "$file" "$whole/$file" || return
+    for file in "${outputs[@]:at + 1}"; do [ ! -e "$file" ] || return; done
+}
+
+# within LIMIT [WORD..]: the status of the program itself where it may have so many kilobytes of memory.
+within() {
+    (prlimit --as=$((1024 * $1)) "$program" "${@:2}" >"$work/out" 2>"$work/err" </dev/null; exit $?) 2>/dev/null
+}
+
+# Less and less memory, by steps of a twentieth and, where little is left, of 16 kilobytes. Each run is done, or out
+# of memory with its line; where the system can't even start the program without words, nothing is written.
+less_memory() {
+    local limit=2000000 status bare fault="" done=0 without=0 unbegun=0
+    begin "less and less memory"
+    words+=(strips=3 workers=2)
+    { printf 'P5\n120 120\n255\n' && head -c 14400 /dev/zero; } >l.pgm
+    cp l.pgm r.pgm
+    echo "{$plain,$camera,$grid,$regions}" | sed 's/"count": *2/"count": 64/' >c.json
+    whole=$work/roomy
+    mkdir "$whole"
+    "$program" "${words[@]}" >"$whole/out" && mv "${outputs[@]}" "$whole" || exit 1
+    while [ $limit -gt 0 ] && [ -z "$fault" ]; do
+        rm -f "${outputs[@]}"
+        within $limit
+        bare=$?
+        within $limit "${words[@]}"
+        status=$?
+        case $status in
+        0)
+            done=$((done + 1))
+            cmp -s "$work/out" "$whole/out" && [ ! -s "$work/err" ] && stands && [ -e o.csv ] || fault=whole
+            ;;
+        6)
+            without=$((without + 1))
+            [ "$(cat "$work/err")" = 'sgm: no memory' ] && [ ! -s "$work/out" ] && stands || fault=told
+            ;;
+        *)
+            unbegun=$((unbegun + 1))
+            [ "$bare" != 2 ] && [ ! -s "$work/out" ] && ! ls o.* >/dev/null 2>&1 || fault="status $status"
+            ;;
+        esac
+        if [ $limit -gt 16384 ]; then limit=$((limit * 19 / 20)); else limit=$((limit - 16)); fi
+    done
+    if [ -z "$fault" ] && [ $done -gt 0 ] && [ $without -gt 0 ]; then
+        passed=$((passed + 1))
+    else
+        failed=$((failed + 1))
+        echo "wrong: $case: at $limit KB: $fault; standard error has '$(cat "$work/err")'; $done done, $without without memory"
+    fi
+    whole=$work/whole
+    cd "$work" || exit 1
+    told+="; by memory $done done, $without out of it, $unbegun not begun by the system"
+}
+
+# changing_file HOW LEAST MOST: runs over a left picture whose length goes to and fro between these numbers of bytes,
+# as fast as it can, all of it zeros but the header. Each run is done, or refuses it as cut short or too long.
+changing_file() {
+    local status run line have done=0 cut=0 long=0 before=$failed
+    begin "a file that gets $1"
+    { printf 'P5\n2048 1024\n65535\n' && head -c 4194304 /dev/zero; } >l.pgm
+    cp l.pgm r.pgm
+    echo "{$plain}" | sed 's/"count": *2/"count": 1/' >c.json
+    "$SGM" "${words[@]}" >"$work/out" && mv o.pgm "$work/unchanged" || exit 1
+    python3 - "$2" "$3" <<'END' &
+import os, random, sys
+least, most = map(int, sys.argv[1:])
+draw = random.Random(1)
+with open("l.pgm", "r+b", buffering=0) as file:
+    while True:
+        os.ftruncate(file.fileno(), draw.choice([least, most, draw.randint(least, most)]))
+END
+    helper=$!
+    for ((run = 0; run < 40; run++)); do
+        rm -f o.pgm
+        "$SGM" "${words[@]}" >"$work/out" 2>"$work/err"
+        status=$?
+        line=$(cat "$work/err")
+        have=${line#sgm: left: raster has }
+        have=${have% of 4194304 bytes}
+        if [ "$status,$line,$(cat "$work/out")" = "0,,valid 2097152 of 2097152" ] && cmp -s o.pgm "$work/unchanged"; then
+            done=$((done + 1))
+        elif [ "$status,$line" = "3,sgm: left is too long" ] && [ ! -s "$work/out" ] && [ ! -e o.pgm ]; then
+            long=$((long + 1))
+        elif [[ $status = 3 && $line = "sgm: left: raster has "*" of 4194304 bytes" && $have =~ ^[0-9]+$ ]] &&
+            [ "$have" -lt 4194304 ] && [ ! -s "$work/out" ] && [ ! -e o.pgm ]; then
+            cut=$((cut + 1))
+        else
+            failed=$((failed + 1))
+            echo "wrong: $case: status $status, '$line', '$(cat "$work/out")'"
+        fi
+    done
+    kill "$helper"
+    wait "$helper" 2>/dev/null
+    helper=
+    [ $failed != "$before" ] || passed=$((passed + 1))
+    cd "$work" || exit 1
+    told+="; a file that gets $1: $done done, $cut cut short, $long too long"
 }
 
 # What is written where nothing is wrong, worked out on paper: index 0 has no depth; index 1 lies 50 mm high.
@@ -280,8 +420,52 @@ begin "a full standard error"
 rm l.pgm
 err=/dev/full ends 4 - -
 
-# The reference never runs out of memory.
-if [ "$(basename "$SGM")" != reference.py ]; then
+begin "standard output that nobody reads"
+out=unread ends 5 'sgm: cannot write summary' - "${outputs[@]}"
+begin "a demo whose output nobody reads"
+words=(demo 0)
+out=unread ends 5 'sgm: cannot write summary' -
+begin "standard error that nobody reads"
+rm l.pgm
+err=unread ends 4 - -
+
+# Full disks. The three inputs take a page each, and so does each output.
+mkdir "$work/disk"
+if mount -t tmpfs -o size=4096 none "$work/disk" 2>"$work/mount"; then
+    umount "$work/disk"
+    count=0
+    for output in disparity heights report; do
+        pages=$((3 + count)) begin "a full disk for $output"
+        begun=${outputs[count]}:0 ends 5 "sgm: cannot write $output" - "${outputs[@]:0:count}"
+        count=$((count + 1))
+    done
+    pages=6 begin "a disk with room"
+    ends 0 - 'valid 15 of 15' "${outputs[@]}"
+    # A picture of 100 x 100 pixels, each as the other: 3 pages for each input, and 5 for OUT.pgm. Each pixel
+    # has the index 0.
+    whole=$work/large
+    mkdir "$whole"
+    { printf 'P5\n100 100\n65535\n' && for ((i = 0; i < 10000; i++)); do printf '\0\20'; done; } >"$whole/o.pgm"
+    for room in 1 2 4 5; do
+        pages=$((7 + room)) begin "a disk with $room pages for disparity"
+        { printf 'P5\n100 100\n255\n' && head -c 10000 /dev/zero; } >l.pgm
+        cp l.pgm r.pgm
+        echo "{$plain}" >c.json
+        if [ $room = 5 ]; then
+            ends 0 - 'valid 10000 of 10000' o.pgm
+        else
+            begun=o.pgm:$((room * $(getconf PAGESIZE))) ends 5 'sgm: cannot write disparity' -
+        fi
+    done
+    whole=$work/whole
+else
+    echo "ends: no full disk was tried: $(cat "$work/mount")"
+fi
+
+# What follows asks for the program itself: the launcher is a script, and the reference never runs out of memory.
+program=$SGM
+[ "$program" = "$top/sgm" ] && program=$top/crates/sgm_cli/out/sgm_cli
+if head -c 4 "$program" | grep -q ELF && has prlimit; then
     begin "no memory"
     words=(match large.pgm large.pgm - o)
     { printf 'P5\n2048 2048\n255\n' && head -c 4194304 /dev/zero; } >large.pgm
@@ -289,7 +473,10 @@ if [ "$(basename "$SGM")" != reference.py ]; then
     ulimit -Sv 400000
     ends 6 'sgm: no memory' -
     ulimit -Sv "$limit"
+    less_memory
+    changing_file "shorter" 20 8388608
+    changing_file "longer" 67040000 134217728
 fi
 
-echo "ends: $passed passed, $failed failed"
+echo "ends: $passed passed, $failed failed$told"
 [ "$failed" = 0 ]
