@@ -33,9 +33,12 @@ impl Model for Calib {
 
     ghost Value = { Calibration };
 
-    ghost view = { λ c. settings c.span c.window (p1_of c.pen) (p2_of c.pen) c.left c.right c.camera c.grid (option_map (λ v. v.items) c.regions) };
+    ghost view = { λ c. settings c.span c.window (p1_of c.pen) (p2_of c.pen) c.left c.right c.camera c.grid
+        (option_map (λ v. v.items) c.regions) };
 
-    ghost invariant = { λ c. IsCalibration (settings c.span c.window (p1_of c.pen) (p2_of c.pen) c.left c.right c.camera c.grid (option_map (λ v. v.items) c.regions)) };
+    ghost invariant = { λ c. IsCalibration
+        (settings c.span c.window (p1_of c.pen) (p2_of c.pen) c.left c.right c.camera c.grid
+        (option_map (λ v. v.items) c.regions)) };
 }
 
 impl Calib {

@@ -156,7 +156,9 @@ fn is_given(row: &Row, kind: &str) -> bool
 
 /// Whether one of the rows gives an object of that kind the name.
 fn gives_name(rows: &[Row], object: &Row, kind: &str, name: &str) -> bool
-    ensures { result ≡ list_any (λ row. (row.object == object.now.number) && is_given (presence_meant row.presence) kind.now && bytes_eq row.name.now name.now) rows.now }
+    ensures { result ≡ list_any
+        (λ row. (row.object == object.now.number) && is_given (presence_meant row.presence) kind.now
+        && bytes_eq row.name.now name.now) rows.now }
 {
     rows.iter().any(|row| row.object == object.number && is_given(row, kind) && row.name == name)
 }
@@ -206,7 +208,8 @@ fn is_required(row: &Row, object: &Value) -> bool
 pub fn object_in<'a>(top: &'a Value, row: &Row) -> Result<Option<&'a Value>, CalibFault>
     ensures ok { OnOk result (itself_fault (view top.now) (meant row.now) ≡ None) }
     ensures there { IfOk result (λ o. option_map (λ v. view v.now) o ≡ get row.now.name.now (view top.now)) }
-    ensures required { IfOk result (λ o. IsTrue (is_required (presence_meant row.now.presence) (view top.now)) → IsSome o) }
+    ensures required { IfOk result (λ o.
+        IsTrue (is_required (presence_meant row.now.presence) (view top.now)) → IsSome o) }
     ensures fault { IfErr result (λ f. itself_fault (view top.now) (meant row.now) ≡ Some f) }
 {
     let _number = row.number;

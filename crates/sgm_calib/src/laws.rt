@@ -18,7 +18,8 @@ pub fn answers()
 
 /// The first fault of some checks is that of the check before which all pass.
 pub fn first_faults()
-    ensures { (checks : List (Option CalibFault)) (fault : CalibFault) → (first_of checks ≡ Some fault) ↔ IsFirst checks fault }
+    ensures { (checks : List (Option CalibFault)) (fault : CalibFault)
+        → (first_of checks ≡ Some fault) ↔ IsFirst checks fault }
 {}
 
 /// The checks go by the numbers of the keys in the order that the table names, and each key is printed as

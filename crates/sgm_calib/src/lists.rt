@@ -47,20 +47,25 @@ fn are_whole(items: &[Value]) -> bool
 
 /// Whether an element is in the range of a list's numbers.
 fn is_entry(object: &Value, row: &Row, place: Place, item: &Value) -> bool
-    ensures { result ≡ is_in_range (form_meant row.now.form) place (view object.now) (unwrap_or (whole (view item.now)) (pos 0)) }
+    ensures { result ≡ is_in_range (form_meant row.now.form) place (view object.now)
+        (unwrap_or (whole (view item.now)) (pos 0)) }
 {
     is_in_range(row, place, object, number(item))
 }
 
 fn are_entries(object: &Value, row: &Row, place: Place, items: &[Value]) -> bool
-    ensures { result ≡ list_all (λ item. is_in_range (form_meant row.now.form) place (view object.now) (unwrap_or (whole (view item)) (pos 0))) items.now }
+    ensures { result ≡ list_all
+        (λ item. is_in_range (form_meant row.now.form) place (view object.now) (unwrap_or (whole (view item)) (pos 0)))
+        items.now }
 {
     items.iter().all(|item| is_entry(object, row, place, item))
 }
 
 /// Whether there are `count` items, each in the range of the list's numbers.
 fn is_full(object: &Value, row: &Row, place: Place, count: usize, items: &[Value]) -> bool
-    ensures { result ≡ (length items.now == count && list_all (λ item. is_in_range (form_meant row.now.form) place (view object.now) (unwrap_or (whole (view item)) (pos 0))) items.now) }
+    ensures { result ≡ (length items.now == count && list_all
+        (λ item. is_in_range (form_meant row.now.form) place (view object.now) (unwrap_or (whole (view item)) (pos 0)))
+        items.now) }
 {
     items.len() == count && are_entries(object, row, place, items)
 }
@@ -76,9 +81,13 @@ pub fn numbers<'a>(
 ) -> Result<&'a [Value], CalibFault>
     requires { row.now.number + place.shift < 256 }
     ensures ok { OnOk result (numbers_fault place (view object.now) (meant row.now) count ≡ None) }
-    ensures value { IfOk result (λ items. map (λ item. unwrap_or (whole (view item)) (pos 0)) items.now ≡ numbers (value_of (meant row.now) (view object.now))) }
+    ensures value { IfOk result (λ items. map (λ item. unwrap_or (whole (view item)) (pos 0)) items.now
+        ≡ numbers (value_of (meant row.now) (view object.now))) }
     ensures count { IfOk result (λ items. length items.now ≡ count) }
-    ensures range { IfOk result (λ items. All (λ item. (least (form_meant row.now.form) (view object.now) ≤ℤ unwrap_or (whole (view item)) (pos 0)) × (unwrap_or (whole (view item)) (pos 0) ≤ℤ greatest (form_meant row.now.form) place (view object.now))) items.now) }
+    ensures range { IfOk result (λ items. All (λ item.
+        (least (form_meant row.now.form) (view object.now) ≤ℤ unwrap_or (whole (view item)) (pos 0))
+        × (unwrap_or (whole (view item)) (pos 0) ≤ℤ greatest (form_meant row.now.form) place (view object.now)))
+        items.now) }
     ensures fault { IfErr result (λ f. numbers_fault place (view object.now) (meant row.now) count ≡ Some f) }
 {
     let Some(value) = object.get(row.name) else {

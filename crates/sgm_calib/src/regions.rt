@@ -64,11 +64,16 @@ fn region_name<'a>(object: &'a Value, place: Place) -> Result<&'a str, CalibFaul
 #[tactic(auto, unfolding(crate::specs::RegionKeys::area_in))]
 fn region_numbers(object: &Value, place: Place) -> Result<RegionNumbers, CalibFault>
     requires { place.shift ≡ 0 }
-    ensures ok { OnOk result (keys_fault place (view object.now) (table.region_col ∷ table.region_row ∷ table.region_cols ∷ table.region_rows ∷ table.region_base ∷ []) ≡ None) }
-    ensures value { IfOk result (λ numbers. area_of (text_of table.region_name (view object.now)) numbers ≡ area_in (view object.now)) }
-    ensures inside { IfOk result (λ numbers. (1 ≤ numbers.cols) × (1 ≤ numbers.rows) × (numbers.col + numbers.cols ≤ place.cols) × (numbers.row + numbers.rows ≤ place.rows)) }
+    ensures ok { OnOk result (keys_fault place (view object.now)
+        (table.region_col ∷ table.region_row ∷ table.region_cols ∷ table.region_rows ∷ table.region_base ∷ []) ≡ None) }
+    ensures value { IfOk result (λ numbers. area_of (text_of table.region_name (view object.now))
+        numbers ≡ area_in (view object.now)) }
+    ensures inside { IfOk result (λ numbers. (1 ≤ numbers.cols) × (1 ≤ numbers.rows)
+        × (numbers.col + numbers.cols ≤ place.cols) × (numbers.row + numbers.rows ≤ place.rows)) }
     ensures based { IfOk result (λ numbers. IsBase numbers.base) }
-    ensures fault { IfErr result (λ f. keys_fault place (view object.now) (table.region_col ∷ table.region_row ∷ table.region_cols ∷ table.region_rows ∷ table.region_base ∷ []) ≡ Some f) }
+    ensures fault { IfErr result (λ f. keys_fault place (view object.now)
+        (table.region_col ∷ table.region_row ∷ table.region_cols ∷ table.region_rows ∷ table.region_base ∷ [])
+        ≡ Some f) }
 {
     let col = whole(object, &REGION_COL, place)?;
     let row = whole(object, &REGION_ROW, place)?;
@@ -91,7 +96,8 @@ fn region_parts<'a>(object: &'a Value, place: Place) -> Result<(&'a str, RegionN
     ensures ok { OnOk result (region_fault place (view object.now) ≡ None) }
     ensures value { IfOk result (λ parts. area_of parts.0.now parts.1 ≡ area_in (view object.now)) }
     ensures named { IfOk result (λ parts. IsRegionName parts.0.now) }
-    ensures inside { IfOk result (λ parts. (1 ≤ parts.1.cols) × (1 ≤ parts.1.rows) × (parts.1.col + parts.1.cols ≤ place.cols) × (parts.1.row + parts.1.rows ≤ place.rows)) }
+    ensures inside { IfOk result (λ parts. (1 ≤ parts.1.cols) × (1 ≤ parts.1.rows)
+        × (parts.1.col + parts.1.cols ≤ place.cols) × (parts.1.row + parts.1.rows ≤ place.rows)) }
     ensures based { IfOk result (λ parts. IsBase parts.1.base) }
     ensures fault { IfErr result (λ f. region_fault place (view object.now) ≡ Some f) }
 {
@@ -107,7 +113,8 @@ fn region(alloc: Global, object: &Value, index: u32, grid: GridSpec) -> Result<R
     ensures ok { OnOk result (region_fault (region_place grid.cols grid.rows index) (view object.now) ≡ None) }
     ensures value { IfOk result (λ r. r ≡ area_in (view object.now)) }
     ensures inside { IfOk result (IsArea grid) }
-    ensures fault { IfErr result (λ e. IsFaultOf (region_fault (region_place grid.cols grid.rows index) (view object.now)) e) }
+    ensures fault { IfErr result (λ e.
+        IsFaultOf (region_fault (region_place grid.cols grid.rows index) (view object.now)) e) }
 {
     let (name, numbers) = region_parts(object, region_place(grid, index))?;
     let name = String::from_str(alloc, name)?;
@@ -134,7 +141,8 @@ fn regions_of(alloc: Global, items: &[Value], grid: GridSpec) -> Result<Vec<Regi
     ensures ok { OnOk result (first_of (region_faults grid.cols grid.rows 0 (map view items.now)) ≡ None) }
     ensures value { IfOk result (λ v. v.items ≡ map area_in (map view items.now)) }
     ensures inside { IfOk result (λ v. All (IsArea grid) v.items) }
-    ensures fault { IfErr result (λ e. IsFaultOf (first_of (region_faults grid.cols grid.rows 0 (map view items.now))) e) }
+    ensures fault { IfErr result (λ e.
+        IsFaultOf (first_of (region_faults grid.cols grid.rows 0 (map view items.now))) e) }
 {
     let mut regions = Vec::with_capacity(alloc, items.len())?;
     for (index, item) in items.iter().enumerate() {

@@ -1,11 +1,16 @@
 //! The objects of whole numbers that stand in a calibration file.
 
-ghost use Rattle.std.specs.Prelude.{◌≡◌, ◌≤ℤ◌, ◌%◌, ◌==◌, pos, unsigned_abs, IsTrue, IfOk, OnOk, IfErr, IfSome, Some, None, is_some};
+ghost use Rattle.std.specs.Prelude.{◌≡◌, ◌≤ℤ◌, ◌%◌, ◌==◌, pos, neg_ℤ, unsigned_abs};
+ghost use Rattle.std.specs.Prelude.{IsTrue, IfOk, OnOk, IfErr, IfSome, Some, None, is_some};
 ghost use Rattle.serde_json.specs.View.{view};
 ghost use Rattle.serde_json.specs.Find.{get};
-ghost use Rattle.sgm_base.specs.declared.limits.TheConstants.{MIN_FIRST, MAX_FIRST, MAX_COUNT, MAX_PENALTY, MIN_WINDOW_SIDE, MAX_WINDOW_WIDTH, MAX_WINDOW_HEIGHT};
+ghost use Rattle.sgm_base.specs.Ranges.{IsFromTo};
+ghost use Rattle.sgm_base.specs.declared.limits.TheConstants.{MIN_FIRST, MAX_FIRST, MAX_COUNT, MAX_GRID_LINES};
+ghost use Rattle.sgm_base.specs.declared.limits.TheConstants.{MAX_PENALTY, MIN_WINDOW_SIDE, MAX_WINDOW_WIDTH};
+ghost use Rattle.sgm_base.specs.declared.limits.TheConstants.{MAX_WINDOW_HEIGHT};
 ghost use Rattle.sgm_height.specs.Camera.{IsCamera};
 ghost use Rattle.sgm_grid.specs.Cells.{IsGridSpec};
+ghost use Rattle.sgm_grid.specs.declared.limits.TheConstants.{MAX_CELL, MAX_PLACE};
 ghost use Rattle.sgm_energy.specs.Pens.{p1_of, p2_of};
 ghost use Rattle.sgm_calib.specs.Table as table;
 ghost use Rattle.sgm_calib.specs.Rows.{number_of, count_of, meant, form_meant, presence_meant};
@@ -189,6 +194,32 @@ pub fn camera(top: &Value) -> Result<Option<Camera>, CalibFault>
     }
 }
 
+/// The grid of numbers in their ranges.
+#[tactic(auto, using(std::proofs::lemmas::Int::ints))]
+fn grid_spec(west: i64, south: i64, cell: i64, cols: i64, rows: i64) -> GridSpec
+    requires west { IsFromTo (neg_ℤ MAX_PLACE) MAX_PLACE west }
+    requires south { IsFromTo (neg_ℤ MAX_PLACE) MAX_PLACE south }
+    requires cell { IsFromTo (pos 1) MAX_CELL cell }
+    requires cols { IsFromTo (pos 1) (pos MAX_GRID_LINES) cols }
+    requires rows { IsFromTo (pos 1) (pos MAX_GRID_LINES) rows }
+    ensures value { result ≡ record {
+      west = west;
+      south = south;
+      cell = cell;
+      cols = unsigned_abs cols;
+      rows = unsigned_abs rows;
+    } }
+    ensures kept { IsGridSpec result }
+{
+    GridSpec {
+        west,
+        south,
+        cell,
+        cols: cols as u32,
+        rows: rows as u32,
+    }
+}
+
 /// The grid that an object is, once its names are known.
 #[tactic(auto, unfolding(crate::specs::Table::grid_of))]
 fn grid_of(object: &Value) -> Result<GridSpec, CalibFault>
@@ -202,13 +233,7 @@ fn grid_of(object: &Value) -> Result<GridSpec, CalibFault>
     let cell = whole(object, &CELL, PLAIN)?;
     let cols = whole(object, &GRID_COLS, PLAIN)?;
     let rows = whole(object, &GRID_ROWS, PLAIN)?;
-    Ok(GridSpec {
-        west,
-        south,
-        cell,
-        cols: cols as u32,
-        rows: rows as u32,
-    })
+    Ok(grid_spec(west, south, cell, cols, rows))
 }
 
 /// The grid, where there is one.

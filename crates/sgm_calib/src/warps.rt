@@ -95,7 +95,8 @@ fn node(u: &Value, v: &Value) -> (i32, i32)
 /// The nodes that numbers are by twos.
 fn nodes(alloc: Global, items: &[Value]) -> Result<Vec<(i32, i32)>, AllocError>
     requires range { All (λ item. IsCoordinate (unwrap_or (whole (view item)) (pos 0))) items.now }
-    ensures value { IfOk result (λ places. places.items ≡ pairs (map (λ item. unwrap_or (whole (view item)) (pos 0)) items.now)) }
+    ensures value { IfOk result (λ places. places.items
+        ≡ pairs (map (λ item. unwrap_or (whole (view item)) (pos 0)) items.now)) }
     ensures count { IfOk result (λ places. length places.items ≡ length items.now / 2) }
     ensures range { IfOk result (λ places. All IsNode places.items) }
 {

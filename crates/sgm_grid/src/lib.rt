@@ -10,6 +10,3 @@ mod text;
 pub use grid::{Grid, higher};
 pub use grid_spec::GridSpec;
 pub use limits::{MAX_CELL, MAX_HEIGHT, MAX_PLACE};
-
-#[cfg(test)]
-mod tests;

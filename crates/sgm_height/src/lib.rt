@@ -6,6 +6,3 @@ mod limits;
 
 pub use camera::{Camera, point};
 pub use limits::{MAX_BASELINE, MAX_DEPTH, MAX_FOCAL, MAX_MOUNT, MAX_OFFSET};
-
-#[cfg(test)]
-mod tests;

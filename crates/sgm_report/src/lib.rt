@@ -9,6 +9,3 @@ mod volumes;
 pub use region::{MAX_NAME, Region, is_region_name};
 pub use table::write_report;
 pub use volumes::{RegionTally, tally};
-
-#[cfg(test)]
-mod tests;

@@ -1,5 +1,5 @@
-use super::*;
 use sgm_base::Point;
+use sgm_height::{Camera, MAX_BASELINE, MAX_DEPTH, MAX_FOCAL, MAX_MOUNT, MAX_OFFSET, point};
 
 fn at(x: i64, y: i64, h: i64) -> Option<Point> {
     Some(Point { x, y, h })

@@ -1,9 +1,9 @@
 ghost use Rattle.std.specs.Prelude.{◌≡◌, IsTrue, All};
 ghost use Rattle.sgm_report.specs.Areas.{IsBase, IsRegionName, LiesIn};
 
-use super::*;
 use sgm_base::Point;
 use sgm_grid::{Grid, GridSpec, MAX_HEIGHT};
+use sgm_report::{Region, RegionTally, is_region_name, tally, write_report};
 use std::alloc::Global;
 use std::process::Abort;
 use std::test::Fail;

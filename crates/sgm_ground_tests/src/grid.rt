@@ -1,7 +1,7 @@
 ghost use Rattle.std.specs.Prelude.{◌≡◌};
 
-use super::*;
 use sgm_base::Point;
+use sgm_grid::{Grid, GridSpec};
 use std::test::Fail;
 
 /// Cells of 10, three columns from 100 and two rows from -20.

@@ -1,0 +1,10 @@
+//! The tests of `sgm_height`, `sgm_grid` and `sgm_report`, which call them from outside. They stand apart
+//! from them, since a crate that has tests is proved a second time with them.
+#![tactic(auto)]
+
+#[cfg(test)]
+mod grid;
+#[cfg(test)]
+mod height;
+#[cfg(test)]
+mod report;
