@@ -10,6 +10,7 @@ ever shown, and nothing is written beside the words' files.
 """
 
 import os
+import pty
 import subprocess
 import sys
 import tempfile
@@ -32,6 +33,20 @@ READERS = {
 }
 WRITERS = ["tests/make_cases.py", "tests/calibration_cases.py", "tests/definitions.py"]
 WRITERS += ["examples/photographs/make_photographs.py"]
+
+
+# Tools with words that make something of the files of this repository, the output's name being OUT.
+HEAP = os.path.join(TOP, "examples", "stockpile")
+MAKERS = {
+    "tools/cubic_metres.py": f"{HEAP}/expected/out.csv --out OUT",
+    "tools/stretch.py": f"{HEAP}/expected/out.pgm --out OUT",
+    "tools/heights_picture.py": f"{HEAP}/expected/out.asc --out OUT",
+    "tools/photo_to_pgm.py": f"{HEAP}/left.png --out OUT",
+    "tools/survey_page.py": f"{HEAP}/expected/out --calib {HEAP}/calibration.json --out OUT",
+    "tools/opencv_calibration.py": "cameras.json --unit m --near 2000000 --far 4000000 --mount 4000000 --out OUT",
+}
+CAMERAS = """{"imageSize": [100, 60], "M1": [128, 0, 50, 0, 128, 30, 0, 0, 1], "D1": [0, 0, 0, 0],
+ "M2": [128, 0, 50, 0, 128, 30, 0, 0, 1], "D2": [0, 0, 0, 0], "R": [1, 0, 0, 0, 1, 0, 0, 0, 1], "T": [-0.5, 0, 0]}"""
 
 
 def files():
@@ -104,6 +119,35 @@ class Manners(unittest.TestCase):
                 for name in ("none", "folder", "empty", "bytes", "text", "cut"):
                     self.has_one_line(path, run(path, *words.replace("FILE", name).split(), folder=folder))
                 self.assertEqual(sorted(os.listdir(folder)), before, path)
+
+    def test_outputs(self):
+        """Each makes its output and writes nothing else; where that can't be, one line says so."""
+        for path, words in MAKERS.items():
+            with tempfile.TemporaryDirectory() as folder:
+                with open(os.path.join(folder, "cameras.json"), "w") as file:
+                    file.write(CAMERAS)
+                self.has_one_line(path, run(path, *words.replace("OUT", "none/made").split(), folder=folder))
+                self.has_one_line(path, run(path, *words.replace("OUT", "/dev/full").split(), folder=folder))
+                status, _, err = run(path, *words.replace("OUT", "made").split(), folder=folder)
+                self.assertEqual((status, err), (0, ""), path)
+                self.assertEqual(sorted(os.listdir(folder)), ["cameras.json", "made"], path)
+
+    def test_progress(self):
+        """What goes on is shown on a terminal, and taken away again."""
+        for path, words in MAKERS.items():
+            if path == "tools/cubic_metres.py":
+                continue
+            with tempfile.TemporaryDirectory() as folder:
+                with open(os.path.join(folder, "cameras.json"), "w") as file:
+                    file.write(CAMERAS)
+                mine, theirs = pty.openpty()
+                command = [os.path.join(TOP, path), *words.replace("OUT", "made").split()]
+                subprocess.run(command, cwd=folder, stdout=subprocess.DEVNULL, stderr=theirs, timeout=60, check=True)
+                os.close(theirs)
+                shown = os.read(mine, 65536)
+                os.close(mine)
+                self.assertTrue(shown.startswith(b"\r\033[Kreading "), (path, shown))
+                self.assertTrue(shown.endswith(b"\r\033[K"), (path, shown))
 
     def test_folders_that_cannot_be_made(self):
         for path in WRITERS:

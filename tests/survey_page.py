@@ -163,6 +163,16 @@ def try_mouse(page, check, grid, regions, report):
         check.equal(f"{region['name']} drawn backwards", page.region(), region)
 
 
+def try_print(page, check, regions):
+    """On paper the regions keep their names, and what can't be pressed there is away."""
+    page.driver.execute_cdp_cmd("Emulation.setEmulatedMedia", {"media": "print"})
+    buttons = page.driver.find_elements("tag name", "button")
+    check.equal("on paper", [it.text for it in buttons if it.is_displayed()], [region["name"] for region in regions])
+    check.equal("numbers on paper", page.element("fill").is_displayed(), True)
+    page.driver.execute_cdp_cmd("Emulation.setEmulatedMedia", {"media": ""})
+    check.equal("on the screen", page.element("ground").is_displayed(), True)
+
+
 def try_names(page, check, regions, report):
     buttons = page.driver.find_elements("css selector", "#regions button")
     check.equal("names of the regions", [it.text for it in buttons], [region["name"] for region in regions])
@@ -342,6 +352,7 @@ def run(screenshot, folder):
         check.equal("title", driver.title, "The stockpile")
         # The whole picture, as it stands when it is opened.
         driver.save_screenshot(screenshot)
+        try_print(page, check, regions)
         try_names(page, check, regions, report)
         try_mouse(page, check, grid, regions, report)
         try_bases(page, check, grid, regions)

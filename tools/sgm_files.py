@@ -47,6 +47,9 @@ def package(name):
 numpy = package("numpy")
 Image = package("PIL.Image")
 ImageOps = package("PIL.ImageOps")
+if Image is not None:
+    # Above so many Pillow warns and then refuses; large photographs have more than its own number.
+    Image.MAX_IMAGE_PIXELS = 1 << 30
 
 
 def need(**modules):

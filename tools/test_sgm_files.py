@@ -138,6 +138,16 @@ class Numbers(unittest.TestCase):
 
 
 class Ends(unittest.TestCase):
+    def test_closed_output(self):
+        """Somebody reads the first line and goes away."""
+        script = "import sgm_files\ndef main():\n    print('a' * 1000000)\nsgm_files.run(main)\n"
+        command = [sys.executable, "-c", script]
+        with subprocess.Popen(command, cwd=HERE, stdout=subprocess.PIPE, stderr=subprocess.PIPE) as tool:
+            tool.stdout.read(1)
+            tool.stdout.close()
+            said = tool.stderr.read()
+        self.assertEqual((tool.returncode, said), (1, b"-c: standard output was closed\n"))
+
     def ends(self, body):
         """The status and standard error of a tool whose main has that body."""
         script = "import sgm_files\nsgm_files.sys.argv[0] = 'folder/tool.py'\n"

@@ -132,8 +132,10 @@ def write(folder):
     with open(os.path.join(folder, "true.json"), "w") as file:
         file.write(json.dumps(calibration(), indent=1) + "\n")
     for number, pair in enumerate(boards(), 1):
+        sgm_files.progress(f"board {number} of {len(POSES)}")
         for side, pixels in zip(("left", "right"), pair):
             sgm_files.write_png(os.path.join(folder, "boards", side, f"{number:02}.png"), pixels)
+    sgm_files.progress("the heap")
     for side, pixels in zip(("left", "right"), photographs()):
         sgm_files.write_png(os.path.join(folder, f"{side}.png"), pixels)
 
