@@ -100,9 +100,9 @@ fn check_at(
 }
 
 /// Writes the disparity of each pixel of the left row in sixteenths: 16 times its index `base` and the
-/// offset that [`sixteenths`] gives for the sums at the indices before, at and after it, which is 0 at the
-/// first and the last index. The column q = x - first - base lies in the row, `left` at x and `right` at q
-/// aren't void, and the indices `base` at x and `matched` at q differ by at most 1; otherwise it is None. The sums
+/// offset that [`sixteenths`] gives for the sums before, at and after that index, which is 0 at the first
+/// and the last one. It is None unless the column q = x - first - base lies in the row, `left` at x and
+/// `right` at q aren't void, and the indices `base` at x and `matched` at q differ by at most 1. The sums
 /// stand as for `base_row`, and `base` is what it gives for them. Takes no memory.
 pub fn check_row(
     sums: &[u16],
