@@ -10,6 +10,3 @@ mod maps;
 pub use check::check_row;
 pub use indices::{base_row, match_row};
 pub use maps::{join_strips, select, select_strip};
-
-#[cfg(test)]
-mod tests;
