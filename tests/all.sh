@@ -22,21 +22,29 @@ export SGM
 table() {
     cat <<TABLE
 launcher            -           tests/launcher.sh
-scripts             -           tests/scripts.py
+scripts             opencv      tests/scripts.py
 shellcheck          shellcheck  shellcheck -x sgm .ci/run $(cd "$top" && echo tests/*.sh)
 reference           -           tests/test_reference.py
+stored_runs         -           tests/stored_runs.py
 least_energies      -           tests/least_energies.py --check
 cubic_metres        -           tools/test_cubic_metres.py
-stretch             -           tools/test_stretch.py
-heights_picture     -           tools/test_heights_picture.py
-opencv_calibration  -           tools/test_opencv_calibration.py
-beside_opencv       opencv      tools/test_opencv_calibration.py BesideOpenCV
+sgm_files           pictures    tools/test_sgm_files.py
+stretch             pictures    tools/test_stretch.py
+heights_picture     pictures    tools/test_heights_picture.py
+photo_to_pgm        pictures    tools/test_photo_to_pgm.py
+opencv_calibration  opencv      tools/test_opencv_calibration.py
+calibrate_pair      opencv      tools/test_calibrate_pair.py
+survey_page_files   pictures    tools/test_survey_page.py
+survey_page         browser     tests/survey_page.py
 ends                program     tests/ends.sh
 workers             program     tests/workers.sh
 random_cases        program     tests/random_cases.py --cases 300
+refused_allocations program,gcc tests/refused_allocations.sh
+interrupted         program     tests/interrupted.py
 asc_gdal            program,gdal    tests/asc_gdal.sh
 pgm_tools           program,netpbm  tests/pgm_tools.sh
-unrectified_heap    program     tests/unrectified_heap.py
+unrectified_heap    program,opencv  tests/unrectified_heap.py
+guide               program,opencv,gdal tests/guide.py
 compare             program     tests/compare.sh
 definitions         rt          tests/definitions.sh
 TABLE
@@ -69,12 +77,25 @@ need() {
         command -v rt >/dev/null || printf "the toolchain's command rt isn't on the PATH\t\n"
         return
         ;;
-    opencv)
-        "$(python_with cv2)" -c "import cv2, numpy" 2>/dev/null || printf "OpenCV for Python\tpython3-opencv python3-numpy\n"
+    pictures)
+        "$(python_with PIL)" -c "import numpy, PIL" 2>/dev/null || printf "numpy and Pillow for Python\tpython3-numpy python3-pil\n"
         return
         ;;
-    gdal) commands="gdalinfo gdallocationinfo" packages=gdal-bin ;;
+    opencv)
+        "$(python_with cv2)" -c "import cv2, numpy, PIL" 2>/dev/null ||
+            printf "OpenCV for Python\tpython3-opencv python3-numpy python3-pil\n"
+        return
+        ;;
+    browser)
+        commands="chromium chromedriver" packages="chromium chromium-driver python3-selenium python3-numpy python3-pil"
+        if ! "$(python_with selenium)" -c "import selenium, numpy, PIL" 2>/dev/null; then
+            printf 'selenium for Python\t%s\n' "$packages"
+            return
+        fi
+        ;;
+    gdal) commands="gdalinfo gdallocationinfo gdal_calc.py" packages="gdal-bin python3-gdal" ;;
     netpbm) commands="pgmmake pamdepth pnmtopng pngtopnm" ;;
+    gcc) commands=gcc packages="gcc libc6-dev" ;;
     shellcheck) commands=shellcheck ;;
     esac
     for command in $commands; do
@@ -132,7 +153,9 @@ run() {
     for it in ${2//,/ }; do
         reason=$(need "$it")
         [ -n "$reason" ] || continue
-        missing=${reason%$'\t'*} packages=${reason#*$'\t'}
+        missing+=${missing:+, }${reason%$'\t'*}
+        reason=${reason#*$'\t'}
+        packages+=${packages:+${reason:+ }}$reason
     done
     if [ -n "$missing" ]; then
         skipped=$((skipped + 1))

@@ -203,15 +203,18 @@ def selection(draw):
             "sgm_select.Rows": "",
         },
     )
+    for before, at, after in [(7, 3, 3), (9, 3, 5), (4, 3, 9), (20, 3, 18), (18, 3, 20), (4, 3, 36), (32496, 0, 32496)]:
+        page.holds(f"vertex {before} {at} {after}", whole(matching.offset(before, at, after)))
     for _ in range(24):
-        width, count, first = draw.choice([1, 4, 6]), draw.choice([1, 2, 4]), draw.choice([-2, -1, 0, 1])
-        row = [[draw.choice([3, 3, 4, 7]) for _ in range(count)] for _ in range(width)]
+        width, count, first = draw.choice([1, 4, 6]), draw.choice([1, 2, 4, 5]), draw.choice([-2, -1, 0, 1])
+        row = [[draw.choice([3, 3, 4, 7, 40]) for _ in range(count)] for _ in range(width)]
         sums = listed([value for pixel in row for value in pixel])
         bases = [matching.least_index(pixel) for pixel in row]
         matches = [matching.match_of(row, q, first) for q in range(width)]
         left, right = some_plane(draw, width, 1, 0.1), some_plane(draw, width, 1, 0.1)
         checked = matching.disparities([row], left, right, first)[0]
-        rows = f"{listed(bases)} {listed(matches, option)} {listed(left[0], option)} {listed(right[0], option)}"
+        planes = f"{listed(left[0], option)} {listed(right[0], option)}"
+        rows = f"{sums} {count} {listed(bases)} {listed(matches, option)} {planes}"
         for x in range(width):
             page.holds(f"base_in {sums} {count} {x}", natural(bases[x]))
             page.holds(f"matched_in {sums} {width} {whole(first)} {count} {x}", option(matches[x]))
@@ -535,7 +538,7 @@ def texts(draw):
         },
     )
     for width, height in [(1, 1), (3, 2), (10, 1)]:
-        found = [[draw.choice([None, 0, 16, 4080]) for _ in range(width)] for _ in range(height)]
+        found = [[draw.choice([None, 0, 16, 23, 52, 4080]) for _ in range(width)] for _ in range(height)]
         summary = reference.summary_text(found)
         page.holds(f"disparity_text {plane_of(found)}", text(reference.disparity_text(found)))
         page.holds(f"summary_text {plane_of(found)}", text(summary))

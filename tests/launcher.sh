@@ -11,6 +11,7 @@ passed=0 failed=0
 unset GLIBC_TUNABLES CDPATH
 # What the launcher sets.
 tunables=glibc.malloc.hugetlb=1:glibc.malloc.mmap_threshold=1073741824
+tunables=$tunables:glibc.malloc.arena_max=1:glibc.malloc.top_pad=67108864
 # The commands that the launcher uses, and git where it is there: a folder without another rt.
 plain=$work/commands
 mkdir "$plain"
@@ -184,13 +185,14 @@ is "builds" "$(calls)" 1
 
 begin tunables
 started demo 0
-for pair in "" glibc.malloc.arena_max=1 glibc.malloc.hugetlb=0 glibc.malloc.hugetlb=2 \
+for pair in "" glibc.malloc.check=3 glibc.malloc.hugetlb=0 glibc.malloc.hugetlb=2 \
     glibc.malloc.check=3:glibc.malloc.hugetlb=0 glibc.malloc.hugetlb=0:glibc.malloc.check=3 \
-    glibc.malloc.mmap_threshold=4096; do
+    glibc.malloc.mmap_threshold=4096 glibc.malloc.arena_max=4; do
     case $pair in
     "") wanted=$tunables ;;
     *hugetlb*) wanted=$pair ;;
-    *mmap_threshold*) wanted=$pair:glibc.malloc.hugetlb=1 ;;
+    *mmap_threshold*) wanted=$pair:${tunables/glibc.malloc.mmap_threshold=1073741824:/} ;;
+    *arena_max*) wanted=$pair:${tunables/glibc.malloc.arena_max=1:/} ;;
     *) wanted=$pair:$tunables ;;
     esac
     GLIBC_TUNABLES=$pair started demo 0

@@ -154,8 +154,21 @@ def match_of(sums_row, q, first):
     return min(met)[1] if met else None
 
 
+def offset(before, at, after):
+    """How far the quadratic through three neighbouring sums has its least value from the middle one, in sixteenths."""
+    a, c = before - at, after - at
+    return (16 * (a - c) + (a + c)) // (2 * (a + c))
+
+
+def refined(values, base):
+    """The index of a pixel in sixteenths, moved by the offset. The first and the last index stay as they are."""
+    if base in (0, len(values) - 1):
+        return 16 * base
+    return 16 * base + offset(*values[base - 1 : base + 2])
+
+
 def disparities(sums, left, right, first):
-    """For each pixel 16 times its index, where the check from left to right holds; otherwise None."""
+    """For each pixel its index in sixteenths, where the check from left to right holds on whole indices; else None."""
     found = []
     for y, sums_row in enumerate(sums):
         width = len(sums_row)
@@ -170,7 +183,7 @@ def disparities(sums, left, right, first):
                 and right[y][q] is not None
                 and abs(base - matched[q]) <= 1
             )
-            row.append(16 * base if holds else None)
+            row.append(refined(sums_row[x], base) if holds else None)
         found.append(row)
     return found
 

@@ -16,7 +16,7 @@ import tempfile
 import unittest
 
 TOP = os.path.realpath(os.path.join(os.path.dirname(os.path.abspath(__file__)), ".."))
-FOLDERS = ["tests", "tools", "bench", "examples/pair", "examples/stockpile"]
+FOLDERS = ["tests", "tools", "bench", "examples/pair", "examples/photographs", "examples/stockpile"]
 # It takes the words of the program and no others; the program has no --help either.
 REFERENCE = "tests/reference.py"
 # What reads a file, with the words around the file's name, and what writes into a folder.
@@ -25,9 +25,13 @@ READERS = {
     "tools/stretch.py": "FILE --out made.png",
     "tools/heights_picture.py": "FILE --out made.png",
     "tools/opencv_calibration.py": "FILE --unit m --near 1 --far 2 --mount 3 --out made.json",
+    "tools/photo_to_pgm.py": "FILE --out made.pgm",
+    "tools/survey_page.py": "FILE --calib FILE --out made.html",
+    "tools/calibrate_pair.py": "--left FILE --right FILE --board 9x6 --square 1 --out made.json",
     "examples/stockpile/compare_truth.py": "FILE",
 }
 WRITERS = ["tests/make_cases.py", "tests/calibration_cases.py", "tests/definitions.py"]
+WRITERS += ["examples/photographs/make_photographs.py"]
 
 
 def files():

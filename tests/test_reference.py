@@ -6,6 +6,7 @@ output texts were computed on paper. Path values are compared with the least ene
 sequences of disparities along the ray, found by trying every sequence.
 """
 
+import fractions
 import itertools
 import json
 import os
@@ -251,6 +252,60 @@ class Definitions(unittest.TestCase):
             if matched < 3:
                 sums[2 + matched][matched] = 2
             self.assertEqual(matching.least_index(sums[5]), 3)
+            self.assertEqual(matching.match_of(sums, 2, 0), matched)
+            self.assertEqual(matching.disparities([sums], plane, plane, 0)[0][5], answer)
+
+    def test_offset(self):
+        for sums, answer in [
+            ((7, 3, 3), 8),
+            ((9, 3, 5), 4),
+            ((4, 3, 9), -6),
+            ((20, 3, 18), 1),
+            ((18, 3, 20), 0),
+            # The sum before counts for so little beside the one after that the offset is the least there is.
+            ((4, 3, 36), -8),
+            ((4, 3, 33), -7),
+            ((4, 3, 5), -3),
+            ((5, 3, 4), 3),
+            ((8, 3, 8), 0),
+        ]:
+            self.assertEqual(matching.offset(*sums), answer, sums)
+
+    def test_offset_is_the_vertex_of_the_quadratic(self):
+        """Through 0, a and c at 0, -1 and 1 goes the quadratic with the least value at (a - c) / (2 (a + c))."""
+        for a, c in itertools.product(range(1, 60), range(60)):
+            vertex = fractions.Fraction(a - c, 2 * (a + c))
+            offset = matching.offset(100 + a, 100, 100 + c)
+            # To the nearest sixteenth, halves up.
+            self.assertTrue(-8 <= offset <= 8 and 16 * vertex - fractions.Fraction(1, 2) < offset)
+            self.assertTrue(offset <= 16 * vertex + fractions.Fraction(1, 2))
+
+    def test_refined(self):
+        # The least sum is at the first index, at the last, between, and where there is one index alone.
+        for values, answer in [
+            ([3, 4, 9], 0),
+            ([9, 4, 3], 32),
+            ([9, 3, 5], 20),
+            ([9, 9, 9, 3, 5], 52),
+            ([3], 0),
+            ([3, 2], 16),
+            ([9, 3, 3, 9], 24),
+        ]:
+            self.assertEqual(matching.refined(values, matching.least_index(values)), answer, values)
+
+    def test_check_of_refined(self):
+        # The right pixel's index is compared with the whole one: 2 and 3 differ by 1, 1 and 3 by more.
+        plane = [[0] * 7]
+        for sums_at, matched, answer in [
+            ([9, 9, 9, 3, 5], 2, 52),
+            ([9, 9, 9, 3, 5], 1, None),
+            ([9, 9, 4, 3, 9], 1, None),
+            ([9, 9, 4, 3, 9], 2, 42),
+            ([9, 9, 9, 3, 3], 4, 56),
+        ]:
+            sums = [[9, 9, 9, 9, 9] for _ in range(7)]
+            sums[5] = sums_at
+            sums[2 + matched][matched] = 2
             self.assertEqual(matching.match_of(sums, 2, 0), matched)
             self.assertEqual(matching.disparities([sums], plane, plane, 0)[0][5], answer)
 

@@ -1,7 +1,7 @@
 #!/usr/bin/env python3
-"""Turns the report (OUT.csv) into a table in metres and cubic metres, exactly.
+"""Turns the report (OUT.csv) into a table in metres and cubic metres, exactly, and says the volume above the ground.
 
-    tools/cubic_metres.py OUT.csv [--out FILE.csv] [--digits N]
+    tools/cubic_metres.py OUT.csv [--ground NAME --calibration CALIB.json] [--out FILE.csv] [--digits N]
 
 The report has whole micrometres and cubic micrometres. Fill and cut pass 2^63 at 9.22 cubic metres, and
 2^53, up to which a sheet keeps whole numbers, at 0.009, so most programs round or refuse them. Here the
@@ -9,13 +9,25 @@ point is set by moving it, and no number is ever taken for a floating point one.
 
     region,cells,empty,fill_m3,cut_m3,net_m3,lowest_m,highest_m
 
-where net is fill less cut. Without --digits every digit stays and zeros at the end fall away; with it
-the numbers are rounded to so many decimals, halves away from 0. The table goes to standard output where
---out isn't given. Needs Python alone.
+where net is fill less cut. With --ground NAME a region of flat ground says from which height the others are
+to be measured, and each line has two words more, `ground_m,above_m3`:
+
+- ground_m is the mean height of the ground's cells, its base + (fill - cut) / (cells * cell * cell), to the
+  nearest micrometre, halves up. A cell keeps the highest of its points, so level ground is measured too high
+  by its noise; the cells of the heap are too, and a base that is measured takes the error out of both.
+- above_m3 is the region's net volume above that height (below it, where it is negative): net moves by
+  cells * cell * cell for each micrometre by which the base moves. It is exactly the fill less the cut of a
+  survey whose base for the region is ground_m. The ground's own line has none.
+
+Base and cell come from the calibration of the survey. Without --digits every digit stays and zeros at the end
+fall away; with it the numbers are rounded to so many decimals, halves away from 0. The table goes to standard
+output where --out isn't given. Needs Python alone.
 """
 
 import argparse
+import contextlib
 import csv
+import json
 import os
 import re
 import sys
@@ -24,6 +36,7 @@ from rasters import fault
 
 HEAD = ["region", "cells", "empty", "fill", "cut", "lowest", "highest"]
 NEW_HEAD = ["region", "cells", "empty", "fill_m3", "cut_m3", "net_m3", "lowest_m", "highest_m"]
+ABOVE_HEAD = ["ground_m", "above_m3"]
 WHOLE = re.compile("-?[0-9]+")
 
 
@@ -45,44 +58,132 @@ def moved(number, places, digits):
     return ("-" if number < 0 else "") + whole + ("." + part if part else "")
 
 
-def table(lines, digits):
-    """The new lines from those of the report."""
+def is_line(line):
+    return (
+        len(line) == len(HEAD)
+        and all(WHOLE.fullmatch(word) for word in line[1:5])
+        and all(word == "" or WHOLE.fullmatch(word) for word in line[5:])
+    )
+
+
+def report(lines):
+    """The lines of the report below its head: names with whole numbers, None where there is no height."""
     if not lines or lines[0] != HEAD:
         raise ValueError("not a report of sgm")
-    yield NEW_HEAD
     for number, line in enumerate(lines[1:], 2):
-        if len(line) != len(HEAD) or not all(WHOLE.fullmatch(word) for word in line[1:5]):
+        if not is_line(line):
             raise ValueError(f"line {number} isn't one of a report")
-        if not all(word == "" or WHOLE.fullmatch(word) for word in line[5:]):
-            raise ValueError(f"line {number} isn't one of a report")
-        fill, cut = int(line[3]), int(line[4])
+        yield [line[0], *(int(word) if word else None for word in line[1:])]
+
+
+def table(regions, digits):
+    """The lines of the table in metres and cubic metres."""
+    for name, cells, empty, fill, cut, lowest, highest in regions:
         volumes = [moved(volume, 18, digits) for volume in (fill, cut, fill - cut)]
-        heights = [word and moved(int(word), 6, digits) for word in line[5:]]
-        yield [*line[:3], *volumes, *heights]
+        heights = ["" if height is None else moved(height, 6, digits) for height in (lowest, highest)]
+        yield [name, cells, empty, *volumes, *heights]
+
+
+class Survey:
+    """What the calibration says of the report: the side of a cell, and the regions with their bases."""
+
+    def __init__(self, text):
+        try:
+            top = json.loads(text)
+            self.cell, areas = top["grid"]["cell"], top["regions"]
+            self.names = [area["name"] for area in areas]
+            self.sizes = [area["cols"] * area["rows"] for area in areas]
+            self.bases = [area["base"] for area in areas]
+        except (ValueError, KeyError, TypeError, RecursionError):
+            raise ValueError("not a calibration of sgm with regions") from None
+        if not all(type(number) is int for number in [self.cell, *self.bases, *self.sizes]) or self.cell < 1:
+            raise ValueError("not a calibration of sgm with regions")
+
+    def is_of(self, regions):
+        """Whether the report can be one of this calibration's."""
+        names = [name for name, *_ in regions]
+        sizes = [cells + empty for _, cells, empty, *_ in regions]
+        volumes = [volume for region in regions for volume in region[3:5]]
+        return (names, sizes) == (self.names, self.sizes) and all(volume % self.cell**2 == 0 for volume in volumes)
+
+
+def mean_height(region, base, cell):
+    """The mean height of the region's cells, to the nearest micrometre, halves up."""
+    _, cells, _, fill, cut, _, _ = region
+    above = (fill - cut) // cell**2
+    return base + (2 * above + cells) // (2 * cells)
+
+
+def net_above(region, base, cell, height):
+    """The region's volume above that height, less what is missing below it, in cubic micrometres."""
+    _, cells, _, fill, cut, _, _ = region
+    return fill - cut + (base - height) * cells * cell * cell
+
+
+def above_ground(regions, survey, name, digits):
+    """For each region the two words more."""
+    grounds = [number for number, region in enumerate(regions) if region[0] == name]
+    if len(grounds) != 1:
+        raise ValueError(f"{len(grounds) or 'no'} regions have the name {name}, one is needed")
+    ground = grounds[0]
+    if regions[ground][1] == 0:
+        raise ValueError(f"the region {name} has no cell with a height")
+    height = mean_height(regions[ground], survey.bases[ground], survey.cell)
+    for number, (region, base) in enumerate(zip(regions, survey.bases)):
+        volume = "" if number == ground else moved(net_above(region, base, survey.cell, height), 18, digits)
+        yield [moved(height, 6, digits), volume]
+
+
+@contextlib.contextmanager
+def named(name):
+    """Ends the tool with one line where the file of that name can't be read or is broken."""
+    try:
+        yield
+    except (OSError, ValueError, csv.Error) as error:
+        sys.exit(f"cubic_metres: {fault(error, name)}")
+
+
+def made(words):
+    """All lines of the table that the words ask for."""
+    with named(words.file), open(words.file, newline="", encoding="ascii", errors="replace") as file:
+        regions = list(report(list(csv.reader(file))))
+    lines = [NEW_HEAD, *table(regions, words.digits)]
+    if words.ground is None:
+        return lines
+    with named(words.calibration), open(words.calibration, encoding="utf-8", errors="replace") as file:
+        survey = Survey(file.read())
+    with named(words.file):
+        if not survey.is_of(regions):
+            raise ValueError(f"not the report of a survey by {words.calibration}")
+        more = [ABOVE_HEAD, *above_ground(regions, survey, words.ground, words.digits)]
+    return [[*line, *words_more] for line, words_more in zip(lines, more)]
 
 
 def main():
-    epilog = "Example: tools/cubic_metres.py heap.csv --digits 3"
+    epilog = "Example: tools/cubic_metres.py heap.csv --ground ground --calibration heap.json --digits 3"
     parser = argparse.ArgumentParser(description=__doc__.split("\n\n")[0], epilog=epilog)
     parser.add_argument("file", metavar="OUT.csv", help="the report that sgm has written")
+    parser.add_argument("--ground", metavar="NAME", help="the region of flat ground above which others are measured")
+    parser.add_argument("--calibration", metavar="CALIB.json", help="that of the survey; --ground takes it")
     parser.add_argument("--out", metavar="FILE.csv", help="the new table (standard output if not given)")
     parser.add_argument("--digits", type=int, choices=range(19), metavar="N", help="decimals, 0 to 18 (all if not given)")
     words = parser.parse_args()
+    if (words.ground is None) != (words.calibration is None):
+        parser.error("--ground and --calibration take each other")
+    lines = made(words)
     try:
-        with open(words.file, newline="", encoding="ascii", errors="replace") as file:
-            made = list(table(list(csv.reader(file)), words.digits))
         if words.out is None:
-            csv.writer(sys.stdout, lineterminator="\n").writerows(made)
+            csv.writer(sys.stdout, lineterminator="\n").writerows(lines)
             sys.stdout.flush()
         else:
             with open(words.out, "w", newline="") as file:
-                csv.writer(file, lineterminator="\n").writerows(made)
+                csv.writer(file, lineterminator="\n").writerows(lines)
     except BrokenPipeError:
         # Nobody reads on. What is still to be written would fail once more at the end.
         os.dup2(os.open(os.devnull, os.O_WRONLY), sys.stdout.fileno())
         sys.exit("cubic_metres: standard output was closed")
-    except (OSError, ValueError, csv.Error) as error:
-        sys.exit(f"cubic_metres: {fault(error, words.file)}")
+    except OSError as error:
+        sys.exit(f"cubic_metres: {fault(error, words.out or 'standard output')}")
 
 
 if __name__ == "__main__":

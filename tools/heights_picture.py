@@ -6,57 +6,75 @@
 Low cells are green, higher ones yellow and brown, the highest white; light comes from the north-west,
 so slopes that face it are lighter. Empty cells are black. The lowest and the highest hundredth of the
 cells share the end colours, so that a few outliers don't spoil the rest. North is up, and each cell
-becomes a square of --zoom pixels. It is a display, not a measurement. Needs Python alone.
+becomes a square of --zoom pixels. It is a display, not a measurement. Needs numpy and Pillow.
 """
 
 import argparse
-import sys
 
-from rasters import COLOUR, fault, png, read_heights
+import sgm_files
+from sgm_files import numpy
 
 # Colours from low to high, between which the others lie in proportion.
 SCALE = [(70, 130, 80), (150, 180, 95), (225, 205, 125), (175, 120, 75), (150, 100, 85), (250, 250, 250)]
-EMPTY = (0, 0, 0)
+# Rows that are worked on at once, so that a large grid takes little memory beside itself.
+BAND = 128
+# The longest side of a picture whose zoom isn't given.
+LONGEST_SIDE = 4096
 
 
-def colour_of(height, low, high):
-    """The colour of the scale at a height, which is held between low and high."""
-    if high == low:
-        return SCALE[0]
-    steps = (len(SCALE) - 1) * (min(max(height, low), high) - low)
-    at, part = divmod(steps, high - low)
-    if at == len(SCALE) - 1:
-        return SCALE[-1]
-    return tuple(a + (b - a) * part // (high - low) for a, b in zip(SCALE[at], SCALE[at + 1]))
+def colours_of(heights, low, high):
+    """The colours of the scale at heights, which are held between low and high."""
+    scale = numpy.array(SCALE, numpy.int64)
+    across = max(1, high - low)
+    at, part = numpy.divmod((len(SCALE) - 1) * (heights.clip(low, high) - low), across)
+    above = (at + 1).clip(max=len(SCALE) - 1)
+    return scale[at] + (scale[above] - scale[at]) * part[..., None] // across
 
 
-def rise(rows, size, here, col, row, step_col, step_row):
-    """How steeply the ground rises one cell further on, in hundredths; 0 where that cell is empty."""
-    col, row = col + step_col, row + step_row
-    if not (0 <= row < len(rows) and 0 <= col < len(rows[0])) or rows[row][col] is None:
-        return 0
-    return 100 * (rows[row][col] - here) // size
+def rise(heights, filled, size, step_row, step_col):
+    """How steeply the ground rises one cell further on, in hundredths; 0 where that cell is empty or outside."""
+    rows, cols = heights.shape
+    here = (slice(max(0, -step_row), rows - max(0, step_row)), slice(max(0, -step_col), cols - max(0, step_col)))
+    there = (slice(max(0, step_row), rows + min(0, step_row)), slice(max(0, step_col), cols + min(0, step_col)))
+    steep = numpy.zeros(heights.shape, numpy.int64)
+    steep[here] = numpy.where(filled[there], 100 * (heights[there] - heights[here]) // size, 0)
+    return steep
 
 
-def shaded(rows, size, low, high):
-    """Rows of colours. A slope that rises away from the north-west is lit, one that falls is in shade."""
-    for row, heights in enumerate(rows):
-        colours = []
-        for col, here in enumerate(heights):
-            if here is None:
-                colours.append(EMPTY)
-                continue
-            east = rise(rows, size, here, col, row, 1, 0) - rise(rows, size, here, col, row, -1, 0)
-            south = rise(rows, size, here, col, row, 0, 1) - rise(rows, size, here, col, row, 0, -1)
-            light = 100 + max(-45, min(45, (east + south) // 8))
-            colours.append(tuple(min(255, channel * light // 100) for channel in colour_of(here, low, high)))
-        yield colours
+def shaded_band(heights, filled, size, low, high):
+    """Colours of rows. A slope that rises away from the north-west is lit, one that falls is in shade."""
+    east = rise(heights, filled, size, 0, 1) - rise(heights, filled, size, 0, -1)
+    south = rise(heights, filled, size, 1, 0) - rise(heights, filled, size, -1, 0)
+    light = 100 + ((east + south) // 8).clip(-45, 45)
+    colours = (colours_of(heights, low, high) * light[..., None] // 100).clip(max=255)
+    return numpy.where(filled[..., None], colours, 0).astype(numpy.uint8)
 
 
-def picture(rows, zoom):
-    """The bytes of a PNG, each colour becoming a square of zoom pixels."""
-    lines = [b"".join(bytes(colour) * zoom for colour in row) for row in rows for _ in range(zoom)]
-    return png(len(rows[0]) * zoom, len(rows) * zoom, COLOUR, lines)
+def shaded(grid):
+    """The grid's colours, and the heights that became green and white; None where every cell is empty."""
+    rows, cols = grid.heights.shape
+    made = numpy.zeros((rows, cols, 3), numpy.uint8)
+    ends = sgm_files.hundredths(grid.heights[grid.filled])
+    if ends is None:
+        return made, None
+    for first in range(0, rows, BAND):
+        # A row more on either side, for the slopes of the band's own first and last rows.
+        begin, last = max(0, first - 1), min(rows, first + BAND)
+        end = min(rows, last + 1)
+        band = shaded_band(grid.heights[begin:end], grid.filled[begin:end], grid.cell, *ends)
+        made[first:last] = band[first - begin : last - begin]
+        sgm_files.progress(f"drawing: {100 * last // rows} %")
+    return made, ends
+
+
+def zoomed(colours, zoom):
+    """Each colour becomes a square of zoom pixels."""
+    return colours.repeat(zoom, axis=0).repeat(zoom, axis=1) if zoom > 1 else colours
+
+
+def zoom_of(rows, cols):
+    """The zoom where none is given: 4, or less where the picture would be too large."""
+    return max(1, min(4, LONGEST_SIDE // max(rows, cols)))
 
 
 def main():
@@ -64,19 +82,14 @@ def main():
     parser = argparse.ArgumentParser(description=__doc__.split("\n\n")[0], epilog=epilog)
     parser.add_argument("file", metavar="OUT.asc", help="the heights that sgm has written")
     parser.add_argument("--out", required=True, metavar="FILE.png", help="the picture")
-    parser.add_argument("--zoom", type=int, default=4, choices=range(1, 17), metavar="PIXELS", help="side of a cell, 1 to 16 (4)")
+    side = f"side of a cell, 1 to 16 (4, or less where a side would be above {LONGEST_SIDE} pixels)"
+    parser.add_argument("--zoom", type=int, choices=range(1, 17), metavar="PIXELS", help=side)
     words = parser.parse_args()
-    try:
-        with open(words.file, encoding="ascii", errors="replace") as file:
-            size, rows = read_heights(file.read())
-        filled = sorted(height for row in rows for height in row if height is not None)
-        low, high = (filled[len(filled) // 100], filled[-1 - len(filled) // 100]) if filled else (0, 0)
-        with open(words.out, "wb") as file:
-            file.write(picture(list(shaded(rows, size, low, high)), words.zoom))
-    except (OSError, ValueError) as error:
-        sys.exit(f"heights_picture: {fault(error, words.file)}")
-    print(f"{low} (green) to {high} (white) micrometres of height" if filled else "every cell is empty")
+    grid = sgm_files.read_grid(words.file)
+    colours, ends = shaded(grid)
+    sgm_files.write_png(words.out, zoomed(colours, words.zoom or zoom_of(*grid.heights.shape)))
+    print(f"{ends[0]} (green) to {ends[1]} (white) micrometres of height" if ends else "every cell is empty")
 
 
 if __name__ == "__main__":
-    main()
+    sgm_files.run(main)

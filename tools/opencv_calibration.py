@@ -1,29 +1,32 @@
 #!/usr/bin/env python3
-"""Turns an OpenCV stereo calibration into a calibration of sgm: meshes, camera and disparities.
+"""Turns an OpenCV stereo calibration into a calibration of sgm: meshes, camera, disparities, grid and regions.
 
     tools/opencv_calibration.py FILE.. --unit mm --near N --far N --mount N --out calibration.json
 
-FILE is JSON, or YAML or XML as cv2.FileStorage writes it; several files are taken together. They have
-the camera matrices, the distortions (4, 5, 8, 12 or 14 numbers, the tilt of the sensor being 0), R and T as cv2.stereoCalibrate gives them, the first camera being
-the left one, under the names M1 D1 M2 D2 (or K1 K2, or cameraMatrix1 distCoeffs1 and so on), R, T, and
-the size of the pictures as imageSize (or image_width and image_height, or --size WxH). In JSON a matrix
-is a list of rows or of numbers. Where R1 R2 P1 P2 of cv2.stereoRectify are there too, they are used as
-they are. --unit says in which unit T is.
+FILE is JSON, or YAML or XML as cv2.FileStorage writes it; several files are taken together. They have the
+camera matrices, the distortions (4, 5, 8, 12 or 14 numbers, the tilt of the sensor being 0), R and T as
+cv2.stereoCalibrate and tools/calibrate_pair.py give them, the first camera being the left one, under the
+names M1 D1 M2 D2 (or K1 K2, or cameraMatrix1 distCoeffs1 and so on), R, T, and the size of the pictures as
+imageSize (or image_width and image_height, or --size WxH). In JSON a matrix is a list of rows or of numbers.
+Where R1 R2 P1 P2 of cv2.stereoRectify are there too, they are used as they are; else they are computed.
+--unit says in which unit T is.
 
 --mount is the left camera's height above the place where heights are 0, --near and --far bound the
 distances that are measured. All three are micrometres, along the axis of the rectified cameras. The
 disparities are those of the distances from near to far, where --first and --count don't say otherwise.
 
-Needs Python alone, but OpenCV's package (cv2) for YAML, for XML and for --alpha.
+Needs numpy, and OpenCV's package (cv2) for YAML, for XML, and where a rectification has to be computed.
 """
 
 import argparse
 import json
 import math
 import re
-import sys
 
-from rasters import fault
+import sgm_files
+from sgm_files import Wrong, numpy
+
+cv2 = sgm_files.package("cv2")
 
 MICROMETRES = {"um": 1, "mm": 1000, "cm": 10000, "m": 1000000}
 NAMES = {
@@ -38,10 +41,20 @@ NAMES = {
     "P1": ("P1",),
     "P2": ("P2",),
 }
-COUNTS = {"K1": [9], "K2": [9], "D1": [4, 5, 8, 12, 14], "D2": [4, 5, 8, 12, 14], "R": [9], "T": [3]}
+LENS = [4, 5, 8, 12, 14]
+COUNTS = {"K1": [9], "K2": [9], "D1": LENS, "D2": LENS, "R": [9], "T": [3]}
 COUNTS |= {"R1": [9], "R2": [9], "P1": [12], "P2": [12]}
-# The ranges of a grid's numbers: west, south, cell, cols, rows.
-GRID = [(-2000000000, 2000000000), (-2000000000, 2000000000), (1, 1000000000), (1, 4096), (1, 4096)]
+SHAPES = {9: (3, 3), 12: (3, 4)}
+# The ranges of a grid's numbers, and of a region's base.
+GRID = {
+    "WEST": (-2000000000, 2000000000),
+    "SOUTH": (-2000000000, 2000000000),
+    "CELL": (1, 1000000000),
+    "COLS": (1, 4096),
+    "ROWS": (1, 4096),
+}
+BASE = (-2000000000, 2000000000)
+MOST_REGIONS = 1000
 # Meshes: the steps that are tried, how close one has to be to the map in pixels, the range of a node's
 # numbers, and how long a calibration may be in bytes.
 STEPS = (64, 32, 16, 8, 4)
@@ -50,25 +63,14 @@ FARTHEST = 16777216
 LONGEST = 16777216
 # No number of a camera is greater. NaN and infinity aren't up to it either.
 MOST = 1e18
-
-
-class Wrong(Exception):
-    """What stands in the way, in words."""
+# The most cells, being pixels times disparities, and what one takes: bytes beside those of a pixel and of a
+# cell of the grid, and seconds of one worker on a processor of 2.5 GHz, as measured.
+MOST_CELLS = 268435456
+BYTES_OF_CELL, BYTES_OF_PIXEL, BYTES_OF_GRID = 3, 45, 16
+SECONDS_OF_CELL = 7e-9
 
 
 # Reading
-
-
-def read_json(name):
-    try:
-        with open(name, encoding="utf-8") as file:
-            top = json.load(file)
-    except (ValueError, RecursionError) as error:
-        raise Wrong(f"{name}: not JSON: {error}")
-    if not isinstance(top, dict):
-        raise Wrong(f"{name}: not a JSON object")
-    # A matrix as cv2.FileStorage writes it has its numbers under `data`.
-    return {key: value["data"] if isinstance(value, dict) and "data" in value else value for key, value in top.items()}
 
 
 def read_storage(name):
@@ -76,10 +78,7 @@ def read_storage(name):
     # A missing file is told first, and without OpenCV's messages.
     with open(name, "rb"):
         pass
-    try:
-        import cv2
-    except ImportError:
-        raise Wrong(f"{name}: OpenCV's package (cv2) is needed for YAML and XML; JSON is read without it")
+    sgm_files.need(cv2=cv2)
     try:
         return found_in(cv2.FileStorage(name, cv2.FILE_STORAGE_READ), name)
     except (cv2.error, SystemError):
@@ -101,6 +100,12 @@ def found_in(storage, name):
     return found
 
 
+def read_matrices(name):
+    """The same of a JSON file, in which a matrix as cv2.FileStorage writes it has its numbers under `data`."""
+    top = sgm_files.read_json(name)
+    return {key: value["data"] if isinstance(value, dict) and "data" in value else value for key, value in top.items()}
+
+
 def flat(value):
     """The numbers of a list of rows, or of a list."""
     if isinstance(value, list):
@@ -110,15 +115,11 @@ def flat(value):
     return [float(value)]
 
 
-def rows_of(numbers, across):
-    return [numbers[at : at + across] for at in range(0, len(numbers), across)]
-
-
 def read_calibration(files, size):
     """The parts by their names in NAMES, and `size`. R1, R2, P1, P2 are there together or not at all."""
     found = {}
     for name in files:
-        found |= read_json(name) if name.lower().endswith(".json") else read_storage(name)
+        found |= read_matrices(name) if name.lower().endswith(".json") else read_storage(name)
     parts = {}
     for part, names in NAMES.items():
         given = [found[name] for name in names if name in found]
@@ -132,9 +133,8 @@ def read_calibration(files, size):
         raise Wrong(f"{' and '.join(sorted(missing))} missing")
     for part in rectified if len(rectified) < 4 else ():
         del parts[part]
-    for part in ("K1", "K2", "R", "R1", "R2", "P1", "P2"):
-        if part in parts:
-            parts[part] = rows_of(parts[part], 4 if part[0] == "P" else 3)
+    for part, numbers in parts.items():
+        parts[part] = numpy.array(numbers).reshape(-1 if part[0] == "D" else SHAPES.get(len(numbers), -1))
     parts["size"] = size or size_in(found)
     if not all(1 <= side <= 4096 for side in parts["size"]):
         raise Wrong("sides of the pictures are 1 to 4096")
@@ -153,60 +153,12 @@ def size_in(found):
     return int(sides[0]), int(sides[1])
 
 
-# Rectifying: both cameras are turned halfway towards each other, and then so that the baseline is level
+# Meshes
 
 
-def product(a, b):
-    return [[sum(x * y for x, y in zip(row, column)) for column in zip(*b)] for row in a]
-
-
-def transposed(a):
-    return [list(column) for column in zip(*a)]
-
-
-def times(a, v):
-    return [sum(x * y for x, y in zip(row, v)) for row in a]
-
-
-def rotation_about(v):
-    """The rotation about the axis v by as many radians as v is long."""
-    angle = math.hypot(*v)
-    x, y, z = (part / angle for part in v) if angle else (0, 0, 0)
-    c, s = math.cos(angle), math.sin(angle)
-    return [
-        [c + x * x * (1 - c), x * y * (1 - c) - z * s, x * z * (1 - c) + y * s],
-        [y * x * (1 - c) + z * s, c + y * y * (1 - c), y * z * (1 - c) - x * s],
-        [z * x * (1 - c) - y * s, z * y * (1 - c) + x * s, c + z * z * (1 - c)],
-    ]
-
-
-def axis_of(a):
-    """The axis of a rotation, as long as its angle in radians."""
-    v = [a[2][1] - a[1][2], a[0][2] - a[2][0], a[1][0] - a[0][1]]
-    sine, cosine = math.hypot(*v) / 2, (a[0][0] + a[1][1] + a[2][2] - 1) / 2
-    if cosine < 0:
-        raise Wrong("the cameras are turned away from each other by more than a right angle")
-    return [part * math.atan2(sine, cosine) / (2 * sine) for part in v] if sine else [0.0, 0.0, 0.0]
-
-
-def rotations(r, t):
-    """R1 and R2: what turns the axes of either camera into those of the rectified pair."""
-    half = rotation_about([-part / 2 for part in axis_of(r)])
-    along = times(half, t)
-    if abs(along[0]) <= abs(along[1]):
-        raise Wrong("the cameras stand one above the other: turn the pictures and calibrate anew")
-    if along[0] > 0:
-        raise Wrong("the second camera stands to the left of the first one: exchange them")
-    # The level axis is (-1, 0, 0), so the axis of this turn, along x level, is (0, -z, y).
-    axis = [0.0, -along[2], along[1]]
-    angle = math.acos(min(1, abs(along[0]) / math.hypot(*along)))
-    level = rotation_about([part * angle / math.hypot(*axis) for part in axis] if any(axis) else axis)
-    return product(level, transposed(half)), product(level, half)
-
-
-def distorted(d, x, y):
+def distorted(lens, x, y):
     """Where the lens shows what would stand at (x, y), both in focal lengths from the axis."""
-    k1, k2, p1, p2, k3, k4, k5, k6, s1, s2, s3, s4, tilt_x, tilt_y = d + [0.0] * (14 - len(d))
+    k1, k2, p1, p2, k3, k4, k5, k6, s1, s2, s3, s4, tilt_x, tilt_y = [*lens] + [0.0] * (14 - len(lens))
     if tilt_x or tilt_y:
         raise Wrong("a distortion with a tilted sensor isn't known here")
     q = x * x + y * y
@@ -217,114 +169,60 @@ def distorted(d, x, y):
     )
 
 
-def undistorted(d, x, y):
-    """What the lens shows at (x, y): the inverse of `distorted`, by steps that come nearer and nearer."""
-    a, b = x, y
-    for _ in range(100):
-        seen_x, seen_y = distorted(d, a, b)
-        a, b = a + x - seen_x, b + y - seen_y
-    if not math.hypot(x - seen_x, y - seen_y) < 1e-6:
-        raise Wrong("the distortion can't be undone at a corner of the picture")
-    return a, b
-
-
-def middle(k, d, rotation, focal, size):
-    """The principal point with which the corners of the picture lie about the middle on average."""
-    width, height = size
-    corners = []
-    for u, v in ((0, 0), (width - 1, 0), (0, height - 1), (width - 1, height - 1)):
-        x, y = undistorted(d, (u - k[0][2]) / k[0][0], (v - k[1][2]) / k[1][1])
-        a, b, c = times(rotation, [x, y, 1.0])
-        corners.append((focal * a / c, focal * b / c))
-    across, down = (sum(it) / 4 for it in zip(*corners))
-    return (width - 1) / 2 - across, (height - 1) / 2 - down
-
-
-def own_rectification(parts, is_centred):
-    """R1, R2, P1, P2 as cv2.stereoRectify chooses them without alpha."""
-    r1, r2 = rotations(parts["R"], parts["T"])
-    focal = (parts["K1"][1][1] + parts["K2"][1][1]) / 2
-    (x1, y1), (x2, y2) = (
-        middle(parts[k], parts[d], r, focal, parts["size"]) for k, d, r in (("K1", "D1", r1), ("K2", "D2", r2))
-    )
-    if not is_centred:
-        x1 = x2 = (x1 + x2) / 2
-    down = (y1 + y2) / 2
-    shift = focal * times(r2, parts["T"])[0]
-    p1, p2 = ([[focal, 0, x, s], [0, focal, down, 0], [0, 0, 1, 0]] for x, s in ((x1, 0.0), (x2, shift)))
-    return r1, r2, p1, p2
-
-
-def opencv_rectification(parts, is_centred, alpha):
-    try:
-        import cv2
-        import numpy
-    except ImportError:
-        raise Wrong("OpenCV's package (cv2) is needed for --alpha")
-    arrays = [numpy.array(parts[name]) for name in ("K1", "D1", "K2", "D2")]
-    turn, shift = numpy.array(parts["R"]), numpy.array(parts["T"])
-    flags = 0 if is_centred else cv2.CALIB_ZERO_DISPARITY
-    made = cv2.stereoRectify(*arrays, parts["size"], turn, shift, flags=flags, alpha=alpha)
-    return tuple(it.tolist() for it in made[:4])
-
-
-# Meshes
-
-
 class View:
     """One camera of the pair, and how the rectified picture is taken from its picture."""
 
     def __init__(self, k, d, rotation, p):
-        self.k, self.d, self.back, self.p = k, d, transposed(rotation), p
+        self.k, self.d, self.back, self.p = k, d, numpy.linalg.inv(rotation), p
 
-    def place(self, x, y):
-        """The place in the camera's picture that the rectified pixel (x, y) shows, in pixels.
+    def places(self, x, y):
+        """The places in the camera's picture that the rectified pixels (x, y) show, in pixels, u and v last.
 
         This is the map of cv2.initUndistortRectifyMap, which goes from the rectified picture to the
-        camera's, as a mesh of sgm does. It is given by its formula, so that it has values beyond the
-        picture's sides too, where the last nodes of a mesh may lie. None where the lens shows nothing.
+        camera's, as a mesh of sgm does. It is given by its formula, so that it has values between the
+        pixels and beyond the picture's sides, where the last nodes of a mesh may lie. NaN where the lens
+        shows nothing.
         """
         k, p = self.k, self.p
-        a, b, c = times(self.back, [(x - p[0][2]) / p[0][0], (y - p[1][2]) / p[1][1], 1.0])
-        if c <= 0:
-            return None
+        across, down = (x - p[0, 2]) / p[0, 0], (y - p[1, 2]) / p[1, 1]
+        a, b, c = (row[0] * across + row[1] * down + row[2] for row in self.back)
+        c = numpy.where(c > 0, c, numpy.nan)
         seen_x, seen_y = distorted(self.d, a / c, b / c)
-        return k[0][0] * seen_x + k[0][1] * seen_y + k[0][2], k[1][1] * seen_y + k[1][2]
+        return numpy.stack([k[0, 0] * seen_x + k[0, 1] * seen_y + k[0, 2], k[1, 1] * seen_y + k[1, 2]], axis=-1)
 
-    def node(self, x, y):
-        """The same in 1/256 of a pixel, whole and within the ranges of a node."""
-        place = self.place(x, y) or (-FARTHEST, -FARTHEST)
-        return [max(-FARTHEST, min(FARTHEST, round(256 * part))) for part in place]
+    def nodes(self, size, step):
+        """Rows of places of nodes in 1/256 of a pixel, whole and within the ranges of a node."""
+        cols, rows = ((side - 1) // step + 2 for side in size)
+        y, x = numpy.mgrid[0:rows, 0:cols] * float(step)
+        places = numpy.nan_to_num(256 * self.places(x, y), nan=-FARTHEST)
+        return numpy.rint(places.clip(-FARTHEST, FARTHEST)).astype(numpy.int64)
 
     def mesh(self, size, step):
-        cols, rows = ((side - 1) // step + 2 for side in size)
-        nodes = [part for j in range(rows) for i in range(cols) for part in self.node(i * step, j * step)]
-        return {"kind": "mesh", "step": step, "cols": cols, "rows": rows, "nodes": nodes}
+        nodes = self.nodes(size, step)
+        rows, cols, _ = nodes.shape
+        return {"kind": "mesh", "step": step, "cols": cols, "rows": rows, "nodes": nodes.ravel().tolist()}
 
     def deviation(self, size, step):
         """How far the mesh is from the map at most, in pixels, where the map leads into the picture.
 
         Tried in the middle of each cell and of its upper and left sides.
         """
-        mesh, worst = self.mesh(size, step), 0.0
-        for j in range(mesh["rows"] - 1):
-            for i in range(mesh["cols"] - 1):
-                for across, down in ((1, 1), (1, 0), (0, 1)):
-                    place = self.place(step * (i + across / 2), step * (j + down / 2))
-                    if place and all(0 <= part <= side - 1 for part, side in zip(place, size)):
-                        worst = max(worst, math.dist(place, mean_of_nodes(mesh, i, j, across, down)))
+        nodes, worst = self.nodes(size, step) / 256, 0.0
+        rows, cols = nodes.shape[0] - 1, nodes.shape[1] - 1
+        y, x = numpy.mgrid[0:rows, 0:cols]
+        for across, down in ((1, 1), (1, 0), (0, 1)):
+            places = self.places(step * (x + across / 2), step * (y + down / 2))
+            corners = [nodes[j : rows + j, i : cols + i] for j in (0, down) for i in (0, across)]
+            away = numpy.hypot(*numpy.moveaxis(places - sum(corners) / 4, -1, 0))
+            is_inside = ((places >= 0) & (places <= numpy.array(size) - 1)).all(axis=-1)
+            worst = max(worst, float(away[is_inside].max(initial=0.0)))
         return worst
-
-
-def mean_of_nodes(mesh, i, j, across, down):
-    """What the mesh gives in the middle between node (i, j) and the one so many columns and rows further on."""
-    firsts = [2 * (row * mesh["cols"] + col) for row in (j, j + down) for col in (i, i + across)]
-    return [sum(mesh["nodes"][first + part] for first in firsts) / 4 / 256 for part in (0, 1)]
 
 
 def finest_needed(views, size):
     """The largest step at which both meshes are close enough to the map, else the least; and their deviation."""
     for step in STEPS:
+        sgm_files.progress(f"trying meshes of step {step}")
         worst = max(view.deviation(size, step) for view in views)
         if worst <= CLOSE_ENOUGH:
             break
@@ -334,8 +232,26 @@ def finest_needed(views, size):
 # The calibration
 
 
+def rectification(parts, is_centred, alpha):
+    """R1, R2, P1, P2 of cv2.stereoRectify; those of the files where no option asks for others."""
+    if "P1" in parts and alpha is None and not is_centred:
+        return [parts[name] for name in ("R1", "R2", "P1", "P2")]
+    if "T" not in parts or "R" not in parts:
+        raise Wrong("R and T are missing")
+    sgm_files.need(cv2=cv2)
+    flags = 0 if is_centred else cv2.CALIB_ZERO_DISPARITY
+    cameras = [parts[name] for name in ("K1", "D1", "K2", "D2")] + [parts["size"], parts["R"], parts["T"]]
+    try:
+        made = cv2.stereoRectify(*cameras, flags=flags, alpha=-1 if alpha is None else alpha)
+    except cv2.error as error:
+        raise Wrong(f"no cameras have these numbers: {error.err}")
+    return made[:4]
+
+
 def camera_of(p1, p2, micrometres, words):
     """The camera's keys. Both pictures have one focal length and one row of the principal point."""
+    if not all(numpy.isfinite(p).all() and p[0, 0] > 0 for p in (p1, p2)):
+        raise Wrong("no cameras have these numbers")
     equal = [(p1[0][0], p1[1][1]), (p1[0][0], p2[0][0]), (p1[1][2], p2[1][2])]
     if not all(math.isclose(a, b, abs_tol=0.01) for a, b in equal):
         raise Wrong("P1 and P2 aren't those of a rectified pair")
@@ -372,20 +288,34 @@ def disparities_of(camera, first, count):
     return {"first": first, "count": count}
 
 
+def cost(size, count, grid):
+    """The cells that are compared, and about how much memory and time they take."""
+    pixels = size[0] * size[1]
+    cells = pixels * count
+    if cells > MOST_CELLS:
+        advice = "scale the pictures down before calibrating, or bring --near and --far closer together"
+        raise Wrong(f"{size[0]} x {size[1]} x {count} are {cells} cells, {MOST_CELLS} at most: {advice}")
+    memory = BYTES_OF_CELL * cells + BYTES_OF_PIXEL * pixels + BYTES_OF_GRID * (grid[3] * grid[4] if grid else 0)
+    takes = f"about {memory // 1000000 + 1} MB of memory and {seconds(cells)} with one worker"
+    return f"{cells} cells of {MOST_CELLS} at most: {takes}"
+
+
+def seconds(cells):
+    about = SECONDS_OF_CELL * cells
+    return f"{about:.0f} seconds" if about >= 3 else f"{max(about, 0.1):.1f} seconds"
+
+
+def region_of(values):
+    return dict(zip(("name", "col", "row", "cols", "rows", "base"), values))
+
+
 def calibration(parts, words):
-    """The calibration, and a line about it."""
-    if "P1" in parts and words.alpha is None and not words.centred:
-        made = [parts[name] for name in ("R1", "R2", "P1", "P2")]
-    elif "T" not in parts or "R" not in parts:
-        raise Wrong("R and T are missing")
-    elif words.alpha is not None:
-        made = opencv_rectification(parts, words.centred, words.alpha)
-    else:
-        made = own_rectification(parts, words.centred)
-    r1, r2, p1, p2 = made
+    """The calibration, and the lines about it."""
+    r1, r2, p1, p2 = rectification(parts, words.centred, words.alpha)
     camera = camera_of(p1, p2, MICROMETRES[words.unit], words)
     span = disparities_of(camera, words.first, words.count)
     views, size = [View(parts["K1"], parts["D1"], r1, p1), View(parts["K2"], parts["D2"], r2, p2)], parts["size"]
+    costs = cost(size, span["count"], words.grid)
     if words.step is None:
         step, worst = finest_needed(views, size)
     else:
@@ -400,13 +330,15 @@ def calibration(parts, words):
     }
     if words.grid is not None:
         whole["grid"] = dict(zip(("west", "south", "cell", "cols", "rows"), words.grid))
+    if words.region:
+        whole["regions"] = [region_of(values) for values in words.region]
     line = (
         f"{size[0]} x {size[1]}, focal length {camera['focal'] / 256:.2f} pixels, "
         f"baseline {camera['baseline']} micrometres, "
         f"disparities {span['first']} to {span['first'] + span['count'] - 1}, "
         f"meshes of step {step} within {worst:.3f} pixels"
     )
-    return whole, line
+    return whole, f"{line}\n{costs}"
 
 
 def text_of(whole):
@@ -450,11 +382,38 @@ def part_word(word):
     raise argparse.ArgumentTypeError(f"{word} isn't a number from 0 to 1")
 
 
+def region_words(values, grid):
+    """A region's name and numbers from its words."""
+    name, *words = values
+    if grid is None:
+        raise argparse.ArgumentTypeError("a region is of a grid, and --grid isn't given")
+    if not re.fullmatch("[A-Za-z0-9 _.-]{1,64}", name):
+        raise argparse.ArgumentTypeError(f"NAME {name!r} isn't 1 to 64 letters, digits, spaces, _, - and .")
+    made = [name]
+    for key, word in zip(("COL", "ROW", "COLS", "ROWS", "BASE"), words):
+        try:
+            made.append(whole_word(*range_of(key, made, grid))(word))
+        except argparse.ArgumentTypeError as error:
+            raise argparse.ArgumentTypeError(f"{key} {error}")
+    return made
+
+
+def range_of(key, made, grid):
+    """The range of a region's number, given its name and the numbers before it."""
+    _, _, _, cols, rows = grid
+    if key == "BASE":
+        return BASE
+    if key in ("COL", "ROW"):
+        return 0, (cols if key == "COL" else rows) - 1
+    return 1, cols - made[1] if key == "COLS" else rows - made[2]
+
+
 def words_of():
     """The words, in their ranges: what the program would refuse in its calibration is refused here."""
     epilog = """example:
   tools/opencv_calibration.py intrinsics.yml extrinsics.yml --size 1280x960 --unit mm \\
-      --near 6000000 --far 9000000 --mount 8500000 --out calibration.json"""
+      --near 6000000 --far 9000000 --mount 8500000 --grid -6000000 -5000000 50000 240 200 \\
+      --region pile 20 30 120 110 0 --region ground 160 40 40 60 0 --out calibration.json"""
     layout = argparse.RawDescriptionHelpFormatter
     parser = argparse.ArgumentParser(description=__doc__.split("\n\n")[0], epilog=epilog, formatter_class=layout)
     option = parser.add_argument
@@ -473,40 +432,48 @@ def words_of():
     window = sides_word((3, 5, 7, 9), (3, 5, 7))
     option("--census", type=window, default=(9, 7), metavar="WxH", help="the window: 3, 5, 7, 9 by 3, 5, 7 (9x7)")
     penalty = whole_word(1, 4000)
-    option("--penalties", type=penalty, nargs=2, default=(10, 120), metavar=("P1", "P2"), help="1 to 4000 each (10 120)")
-    names = ("WEST", "SOUTH", "CELL", "COLS", "ROWS")
+    costs = {"metavar": ("P1", "P2"), "help": "1 to 4000 each (10 120)"}
+    option("--penalties", type=penalty, nargs=2, default=(10, 120), **costs)
+    names = tuple(GRID)
     option("--grid", type=int, nargs=5, metavar=names, help="of heights: lower left corner and cell in micrometres")
+    region = "a rectangle of the grid's cells, counted from the upper left one; may come many times"
+    numbers = ("NAME", "COL", "ROW", "COLS", "ROWS", "BASE")
+    option("--region", nargs=6, action="append", default=[], metavar=numbers, help=region)
     option("--step", type=whole_word(2, 1024), metavar="PIXELS", help="of the meshes; chosen if not given")
     option("--centred", action="store_true", help="each picture about its own middle, so that doffs isn't 0")
-    option("--alpha", type=part_word, help="of cv2.stereoRectify: 0 fills the picture, 1 loses nothing; needs cv2")
+    option("--alpha", type=part_word, help="of cv2.stereoRectify: 0 fills the picture, 1 loses nothing")
     words = parser.parse_args()
     if words.near > words.far:
         parser.error("--near is above --far")
     if words.penalties[0] > words.penalties[1]:
         parser.error("--penalties: P1 is above P2")
-    for name, value, (low, high) in zip(names, words.grid or (), GRID):
+    for (name, (low, high)), value in zip(GRID.items(), words.grid or ()):
         if not low <= value <= high:
             parser.error(f"--grid: {name} {value} isn't from {low} to {high}")
+    if len(words.region) > MOST_REGIONS:
+        parser.error(f"--region: {len(words.region)} of them, {MOST_REGIONS} at most")
+    try:
+        words.region = [region_words(values, words.grid) for values in words.region]
+    except argparse.ArgumentTypeError as error:
+        parser.error(f"--region: {error}")
     return words
 
 
 def main():
     words = words_of()
+    sgm_files.need(numpy=numpy)
     try:
-        whole, line = calibration(read_calibration(words.files, words.size), words)
-        text = text_of(whole)
-        if len(text) > LONGEST:
-            raise Wrong(f"the file would be too long, {len(text)} bytes: give a larger --step")
-        with open(words.out, "w") as file:
-            file.write(text)
-    except OSError as error:
-        sys.exit(f"opencv_calibration: {fault(error, words.out)}")
-    except Wrong as error:
-        sys.exit(f"opencv_calibration: {error}")
-    except (ArithmeticError, ValueError) as error:
-        sys.exit(f"opencv_calibration: no cameras have these numbers: {error}")
-    print(line)
+        with numpy.errstate(all="ignore"):
+            whole, lines = calibration(read_calibration(words.files, words.size), words)
+    except (ArithmeticError, ValueError, numpy.linalg.LinAlgError) as error:
+        raise Wrong(f"no cameras have these numbers: {error}")
+    text = text_of(whole)
+    if len(text) > LONGEST:
+        raise Wrong(f"the file would be too long, {len(text)} bytes: give a larger --step")
+    with open(words.out, "w") as file:
+        file.write(text)
+    print(lines)
 
 
 if __name__ == "__main__":
-    main()
+    sgm_files.run(main)

@@ -8,50 +8,33 @@ OUT.pgm has 16 bits a pixel, 0 for a pixel without a disparity, so most viewers 
 Here the values are stretched over all greys, low ones dark and high ones light; the lowest and the
 highest hundredth share the end greys, so that a few outliers don't spoil the rest. Pixels or cells
 without a value are magenta. The greys are a display, not a measurement; the values at both ends are
-printed. Needs Python alone.
+printed. Needs numpy and Pillow.
 """
 
 import argparse
-import re
-import struct
-import sys
 
-import rasters
+import sgm_files
+from sgm_files import numpy
 
 MAGENTA = (200, 0, 120)
 # Entry 0 of the palette is for no value, the others are the greys from dark to light.
 PALETTE = [MAGENTA] + [(level,) * 3 for level in range(1, 256)]
 DARKEST, LIGHTEST = 16, 255
-HEAD = re.compile(rb"P5\n([0-9]+) ([0-9]+)\n65535\n")
 
 
-def read_disparities(data):
-    """Rows of values in sixteenths of a pixel above the first disparity, None where there is none."""
-    head = HEAD.match(data)
-    if not head:
-        raise ValueError("not a disparity picture of sgm")
-    width, height = int(head[1]), int(head[2])
-    raster = data[head.end() :]
-    if not width * height or len(raster) != 2 * width * height:
-        raise ValueError(f"{len(raster)} bytes of disparities, {2 * width * height} needed")
-    samples = struct.unpack(f">{width * height}H", raster)
-    values = [sample - 16 if sample else None for sample in samples]
-    return [values[y * width : (y + 1) * width] for y in range(height)]
+def stretched(values, filled):
+    """Rows of palette numbers, and the values that became the darkest and the lightest grey, or None."""
+    ends = sgm_files.hundredths(values[filled])
+    if ends is None:
+        return numpy.zeros(values.shape, numpy.uint8), None
+    low, high = ends
+    greys = DARKEST + (LIGHTEST - DARKEST) * (values.clip(low, high) - low) // max(1, high - low)
+    return numpy.where(filled, greys, 0).astype(numpy.uint8), ends
 
 
-def stretched(rows):
-    """Rows of palette numbers, with the values that became the darkest and the lightest grey."""
-    filled = sorted(value for row in rows for value in row if value is not None)
-    if not filled:
-        return [bytes(len(row)) for row in rows], None, None
-    low, high = filled[len(filled) // 100], filled[-1 - len(filled) // 100]
-    across = max(1, high - low)
-
-    def grey(value):
-        return DARKEST + (LIGHTEST - DARKEST) * (min(max(value, low), high) - low) // across
-
-    greys = {None: 0, **{value: grey(value) for value in set(filled)}}
-    return [bytes(greys[value] for value in row) for row in rows], low, high
+def is_picture(name):
+    with open(name, "rb") as file:
+        return file.read(2) == b"P5"
 
 
 def main():
@@ -60,19 +43,16 @@ def main():
     parser.add_argument("file", metavar="OUT", help="OUT.pgm or OUT.asc, as sgm has written it")
     parser.add_argument("--out", required=True, metavar="FILE.png", help="the picture")
     words = parser.parse_args()
-    try:
-        with open(words.file, "rb") as file:
-            data = file.read()
-        is_disparity = data[:2] == b"P5"
-        values = read_disparities(data) if is_disparity else rasters.read_heights(data.decode("ascii", "replace"))[1]
-        rows, low, high = stretched(values)
-        with open(words.out, "wb") as file:
-            file.write(rasters.png(len(rows[0]), len(rows), rasters.PALETTE, rows, PALETTE))
-    except (OSError, ValueError) as error:
-        sys.exit(f"stretch: {rasters.fault(error, words.file)}")
-    unit = "sixteenths of a pixel above the first disparity" if is_disparity else "micrometres of height"
-    print("no value anywhere" if low is None else f"{low} (dark) to {high} (light) {unit}")
+    if is_picture(words.file):
+        values, filled = sgm_files.read_disparities(words.file)
+        unit = "sixteenths of a pixel above the first disparity"
+    else:
+        grid = sgm_files.read_grid(words.file)
+        values, filled, unit = grid.heights, grid.filled, "micrometres of height"
+    numbers, ends = stretched(values, filled)
+    sgm_files.write_png(words.out, numbers, PALETTE)
+    print("no value anywhere" if ends is None else f"{ends[0]} (dark) to {ends[1]} (light) {unit}")
 
 
 if __name__ == "__main__":
-    main()
+    sgm_files.run(main)

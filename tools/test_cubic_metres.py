@@ -1,25 +1,37 @@
 #!/usr/bin/env python3
-"""Tries cubic_metres.py on reports whose numbers in metres were worked out by hand."""
+"""Tries cubic_metres.py on reports whose numbers in metres were worked out by hand, and its volumes above the
+ground on heights drawn at random: the definitions (tests/reference*.py) give the same for that base."""
 
+import json
 import os
+import random
 import subprocess
 import sys
 import tempfile
 import unittest
 
+HERE = os.path.dirname(os.path.abspath(__file__))
+TOOL = os.path.join(HERE, "cubic_metres.py")
+sys.path.insert(0, os.path.join(HERE, "..", "tests"))
+
+import cubic_metres as tool
+import reference
+import reference_matching as matching
 from cubic_metres import moved
 
-TOOL = os.path.join(os.path.dirname(os.path.abspath(__file__)), "cubic_metres.py")
 HEAD = "region,cells,empty,fill,cut,lowest,highest\n"
 NEW_HEAD = "region,cells,empty,fill_m3,cut_m3,net_m3,lowest_m,highest_m\n"
 
 
-def run(text, *options):
+def run(text, *options, calibration=None):
     """What the tool makes of a report: its status, both streams, and the file of --out if there is one."""
     with tempfile.TemporaryDirectory() as folder:
         name = os.path.join(folder, "o.csv")
         with open(name, "w") as file:
             file.write(text)
+        if calibration is not None:
+            with open(os.path.join(folder, "c.json"), "w") as file:
+                file.write(calibration)
         done = subprocess.run([sys.executable, TOOL, name, *options], cwd=folder, capture_output=True, text=True)
         made, written = os.path.join(folder, "m.csv"), None
         if os.path.exists(made):
@@ -103,6 +115,111 @@ class Tables(unittest.TestCase):
             ("\u00ff" + HEAD, "not a report of sgm"),
         ]:
             self.assertEqual(run(text), (1, "", f"cubic_metres: o.csv: {line}\n", None))
+
+
+def calibration(cell, *areas):
+    """The calibration's part that the tool reads: regions of (name, cols, rows, base)."""
+    keys = ("name", "cols", "rows", "base")
+    return json.dumps({"grid": {"cell": cell}, "regions": [dict(zip(keys, area)) for area in areas]})
+
+
+class Ground(unittest.TestCase):
+    # Cells of 1 mm. The ground: four cells, 10 and 2 um above and below their base of 100, so 102 um high. The
+    # pile: three cells, 900 um above their base of 0 in all, so 900 - 3 * 102 = 594 above the ground.
+    REPORT = HEAD + "ground,4,0,10000000,2000000,98,107\npile,3,1,900000000,0,200,400\nhole,0,2,0,0,,\n"
+    AREAS = (("ground", 2, 2, 100), ("pile", 4, 1, 0), ("hole", 1, 2, 7))
+    WORDS = ("--ground", "ground", "--calibration", "c.json")
+
+    def test_by_hand(self):
+        head = NEW_HEAD.replace("\n", ",ground_m,above_m3\n")
+        made = head + (
+            "ground,4,0,0.00000000001,0.000000000002,0.000000000008,0.000098,0.000107,0.000102,\n"
+            "pile,3,1,0.0000000009,0,0.0000000009,0.0002,0.0004,0.000102,0.000000000594\n"
+            "hole,0,2,0,0,0,,,0.000102,0\n"
+        )
+        self.assertEqual(run(self.REPORT, *self.WORDS, calibration=calibration(1000, *self.AREAS)), (0, made, "", None))
+
+    def test_rounded_into_a_file(self):
+        report = HEAD + "a,2,0,3000000000000000000,0,1500000,1500000\nb,1,1,0,4000000000000000000,-4000000,-4000000\n"
+        made = NEW_HEAD.replace("\n", ",ground_m,above_m3\n") + (
+            "a,2,0,3.0,0.0,3.0,1.5,1.5,-4.0,11.0\nb,1,1,0.0,4.0,-4.0,-4.0,-4.0,-4.0,\n"
+        )
+        words = ("--ground", "b", "--calibration", "c.json", "--digits", "1", "--out", "m.csv")
+        both = calibration(1000000, ("a", 1, 2, 0), ("b", 2, 1, 0))
+        self.assertEqual(run(report, *words, calibration=both), (0, "", "", made))
+
+    def test_mean_is_rounded_halves_up(self):
+        for above, cells, base, mean in [(1, 2, 0, 1), (-1, 2, 0, 0), (-3, 2, 0, -1), (1, 3, 5, 5), (2, 3, 5, 6)]:
+            region = ["g", cells, 0, max(above, 0) * 49, max(-above, 0) * 49, None, None]
+            self.assertEqual(tool.mean_height(region, base, 7), mean)
+
+    def test_volume_is_that_of_a_survey_with_this_base(self):
+        draw = random.Random(25)
+        for _ in range(200):
+            cell, base = draw.choice([1, 7, 125000]), draw.randrange(-900, 900)
+            heights = [draw.choice([None, draw.randrange(-1000, 1000)]) for _ in range(12)]
+            area = {"row": 0, "rows": 1, "col": 0, "cols": 12, "base": base}
+            region = ["r", *matching.tally([heights], cell, area)]
+            other = draw.randrange(-900, 900)
+            _, _, fill, cut, _, _ = matching.tally([heights], cell, {**area, "base": other})
+            self.assertEqual(tool.net_above(region, base, cell, other), fill - cut)
+            there = [height for height in heights if height is not None]
+            if there:
+                mean = tool.mean_height(region, base, cell)
+                self.assertTrue(-1 < 2 * (len(there) * mean - sum(there)) / len(there) <= 1)
+
+    def test_example(self):
+        """The ground's height as base of both regions: the definitions' report has then the tool's volume."""
+        heap = os.path.join(HERE, "..", "examples", "stockpile")
+        with open(os.path.join(heap, "calibration.json")) as file:
+            text = file.read()
+        with open(os.path.join(heap, "expected", "out.csv")) as file:
+            report = file.read()
+        words = ("--ground", "ground", "--calibration", "c.json")
+        status, out, err, _ = run(report, *words, calibration=text)
+        self.assertEqual((status, err), (0, ""))
+        pile = dict(zip(*(line.split(",") for line in out.splitlines()[:2])))
+        with open(os.path.join(heap, "expected", "out.asc")) as file:
+            rows = [line.split() for line in file][6:]
+        cells = [[None if word == "-2147483648" else int(word) for word in row] for row in rows]
+        made = json.loads(text)
+        base = int(pile["ground_m"].replace(".", ""))
+        self.assertEqual(moved(base, 6, None), pile["ground_m"])
+        regions = [{**region, "base": base} for region in made["regions"]]
+        tallies = [matching.tally(cells, made["grid"]["cell"], region) for region in regions]
+        again = reference.table_text(regions, tallies).decode().splitlines()[1].split(",")
+        self.assertEqual(moved(int(again[3]) - int(again[4]), 18, None), pile["above_m3"])
+
+    def test_refused(self):
+        twice = (*self.AREAS[:2], ("ground", 1, 2, 7))
+        good = calibration(1000, *self.AREAS)
+        broken = ["", "{", "[]", "7", '{"version":1}', "[" * 100000]
+        broken += [good.replace("1000", "1e3"), good.replace("1000", "0"), good.replace("100}", "true}")]
+        for report, text, name, line in [
+            (self.REPORT, good, "heap", "o.csv: no regions have the name heap, one is needed"),
+            (self.REPORT, good, "hole", "o.csv: the region hole has no cell with a height"),
+            (
+                self.REPORT.replace("hole", "ground"),
+                calibration(1000, *twice),
+                "ground",
+                "o.csv: 2 regions have the name ground, one is needed",
+            ),
+            (self.REPORT.replace("hole", "rock"), good, "ground", "o.csv: not the report of a survey by c.json"),
+            (self.REPORT.replace("4,0", "3,0"), good, "ground", "o.csv: not the report of a survey by c.json"),
+            (self.REPORT, calibration(1001, *self.AREAS), "ground", "o.csv: not the report of a survey by c.json"),
+            (HEAD, good, "ground", "o.csv: not the report of a survey by c.json"),
+            (self.REPORT.replace("900", "9x0"), good, "ground", "o.csv: line 3 isn't one of a report"),
+            (self.REPORT, None, "ground", "c.json: No such file or directory"),
+            *((self.REPORT, text, "ground", "c.json: not a calibration of sgm with regions") for text in broken),
+        ]:
+            words = ("--ground", name, "--calibration", "c.json")
+            self.assertEqual(run(report, *words, calibration=text), (1, "", f"cubic_metres: {line}\n", None), line)
+
+    def test_words_that_take_each_other(self):
+        for words in (self.WORDS[:2], self.WORDS[2:]):
+            status, out, err, _ = run(self.REPORT, *words, calibration=calibration(1000, *self.AREAS))
+            self.assertEqual((status, out), (2, ""))
+            self.assertTrue(err.endswith("cubic_metres.py: error: --ground and --calibration take each other\n"), err)
 
 
 if __name__ == "__main__":

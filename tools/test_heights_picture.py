@@ -2,15 +2,14 @@
 """Tries heights_picture.py on grids of a few cells, whose colours were worked out by hand."""
 
 import os
-import struct
 import subprocess
 import sys
 import tempfile
 import unittest
-import zlib
 
-from heights_picture import colour_of, shaded
-from rasters import read_heights
+import sgm_files
+from heights_picture import colours_of, shaded, zoom_of
+from sgm_files import numpy
 
 TOOL = os.path.join(os.path.dirname(os.path.abspath(__file__)), "heights_picture.py")
 HEAD = "ncols {}\nnrows {}\nxllcorner 0\nyllcorner 0\ncellsize 1000\nNODATA_value -2147483648\n"
@@ -18,23 +17,10 @@ RAMP = HEAD.format(3, 1) + "0 1000 2000\n"
 EMPTY = HEAD.format(2, 1) + "-2147483648 -2147483648\n"
 
 
-def picture(data):
-    """The rows of colours in the bytes of a PNG without filters, and nothing but its three chunks."""
-    assert data[:8] == b"\x89PNG\r\n\x1a\n"
-    chunks, at = {}, 8
-    while at < len(data):
-        (length,) = struct.unpack_from(">I", data, at)
-        kind, body = data[at + 4 : at + 8], data[at + 8 : at + 8 + length]
-        assert struct.unpack_from(">I", data, at + 8 + length) == (zlib.crc32(kind + body),)
-        chunks[kind] = body
-        at += 12 + length
-    assert list(chunks) == [b"IHDR", b"IDAT", b"IEND"]
-    width, height, *form = struct.unpack(">IIBBBBB", chunks[b"IHDR"])
-    assert form == [8, 2, 0, 0, 0]
-    raster = zlib.decompress(chunks[b"IDAT"])
-    lines = [raster[at : at + 1 + 3 * width] for at in range(0, len(raster), 1 + 3 * width)]
-    assert len(lines) == height and all(line[0] == 0 for line in lines)
-    return [[tuple(line[1 + 3 * x : 4 + 3 * x]) for x in range(width)] for line in lines]
+def picture(name):
+    """The rows of colours of a PNG."""
+    with sgm_files.Image.open(name) as image:
+        return [[tuple(colour) for colour in row] for row in numpy.array(image.convert("RGB")).tolist()]
 
 
 def run(text, *options):
@@ -46,9 +32,19 @@ def run(text, *options):
         done = subprocess.run([sys.executable, TOOL, name, "--out", out, *options], capture_output=True, text=True)
         made = None
         if os.path.exists(out):
-            with open(out, "rb") as file:
-                made = picture(file.read())
+            made = picture(out)
     return done.returncode, done.stdout, done.stderr.replace(name, "o.asc"), made
+
+
+def grid(rows, size=1000):
+    """A grid of these heights, None for an empty cell."""
+    filled = numpy.array([[height is not None for height in row] for row in rows])
+    heights = numpy.array([[-(2**31) if height is None else height for height in row] for row in rows], numpy.int64)
+    return sgm_files.Grid(0, 0, size, heights, filled)
+
+
+def colours(rows):
+    return [[tuple(colour) for colour in row] for row in shaded(grid(rows))[0].tolist()]
 
 
 class Colours(unittest.TestCase):
@@ -61,32 +57,41 @@ class Colours(unittest.TestCase):
             (2000, (250, 250, 250)),
             (9000, (250, 250, 250)),
         ]:
-            self.assertEqual(colour_of(height, 0, 2000), colour, height)
-        self.assertEqual(colour_of(7, 7, 7), (70, 130, 80))
+            self.assertEqual(tuple(colours_of(numpy.array([height]), 0, 2000)[0]), colour, height)
+        self.assertEqual(tuple(colours_of(numpy.array([7]), 7, 7)[0]), (70, 130, 80))
 
     def test_slopes(self):
         # A rise of one cell's side from west to east makes a cell in the middle lighter by a quarter.
-        ramp = list(shaded([[0, 1000, 2000]], 1000, 0, 2000))
-        self.assertEqual(ramp, [[(78, 145, 89), (250, 202, 125), (255, 255, 255)]])
-        fall = list(shaded([[2000], [1000], [0]], 1000, 0, 2000))
-        self.assertEqual(fall[1], [(150, 121, 75)])
+        self.assertEqual(colours([[0, 1000, 2000]]), [[(78, 145, 89), (250, 202, 125), (255, 255, 255)]])
+        self.assertEqual(colours([[2000], [1000], [0]])[1], [(150, 121, 75)])
         # An empty cell is black, and no slope goes to it.
-        self.assertEqual(list(shaded([[None, 0]], 1000, 0, 2000)), [[(0, 0, 0), (70, 130, 80)]])
+        self.assertEqual(colours([[None, 0]]), [[(0, 0, 0), (70, 130, 80)]])
+
+    def test_bands(self):
+        """A grid of more rows than are drawn at once falls evenly to the south: all rows but the ends are alike."""
+        rows = 300
+        falls = grid([[0] for _ in range(rows)])
+        falls.heights[:, 0] = [1000 * (rows - row) for row in range(rows)]
+        made, (low, high) = shaded(falls)
+        plain = colours_of(falls.heights, low, high)
+        for row in range(1, rows - 1):
+            self.assertEqual(made[row, 0].tolist(), (plain[row, 0] * 75 // 100).tolist(), row)
+
+    def test_zoom(self):
+        self.assertEqual([zoom_of(96, 115), zoom_of(2000, 10), zoom_of(4096, 4096)], [4, 2, 1])
 
 
-class Grids(unittest.TestCase):
-    def test_rows(self):
-        self.assertEqual(read_heights(HEAD.format(2, 2) + "1 -2147483648\n-3 4\n"), (1000, [[1, None], [-3, 4]]))
-
+class Refused(unittest.TestCase):
     def test_refused(self):
         for text, line in [
             ("P5 1 1 255", "not a height grid of sgm"),
             (HEAD.format(2, 2) + "1 2 3\n", "3 heights, 4 needed"),
-            (HEAD.format(0, 0), "0 heights, 0 needed"),
+            (HEAD.format(0, 0), "not a height grid of sgm"),
             (HEAD.format(-1, -1) + "5\n", "not a height grid of sgm"),
             (HEAD.format(1, 1).replace("cellsize 1000", "cellsize 0") + "5\n", "not a height grid of sgm"),
             (HEAD.format(1, 1) + "5.0\n", "not a height grid of sgm"),
-            (HEAD.format(1, 1)[: -len(" -2147483648\n")], "0 heights, 1 needed"),
+            (HEAD.format(1, 1), "0 heights, 1 needed"),
+            (HEAD.format(1, 1)[: -len(" -2147483648\n")], "not a height grid of sgm"),
             ("", "not a height grid of sgm"),
             ("\x00\u00ff", "not a height grid of sgm"),
         ]:

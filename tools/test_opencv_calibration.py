@@ -1,7 +1,7 @@
 #!/usr/bin/env python3
 """Tries opencv_calibration.py: on cameras without a lens's faults, where every number follows by hand, and
 on a made-up pair with known numbers, whose pictures and points are taken through the definitions of the
-program (tests/reference*.py) and, where it is installed, through OpenCV."""
+program (tests/reference*.py) and through OpenCV. Needs numpy and OpenCV."""
 
 import json
 import math
@@ -18,12 +18,7 @@ sys.path.insert(0, os.path.join(HERE, "..", "tests"))
 import opencv_calibration as tool
 import reference_inputs as inputs
 import reference_matching as matching
-
-try:
-    import cv2
-    import numpy
-except ImportError:
-    cv2 = None
+from opencv_calibration import cv2, numpy
 
 LIMITS = "--unit m --near 2000000 --far 4000000 --mount 4000000"
 # Two equal cameras without distortion, level and side by side, the right one 0.5 m to the right.
@@ -45,7 +40,7 @@ MADE = {
     "distCoeffs1": [-0.21, 0.06, 0.0011, -0.0006, 0.012],
     "cameraMatrix2": [[408.0, 0, 155.0], [0, 407.0, 124.0], [0, 0, 1]],
     "distCoeffs2": [-0.18, 0.04, -0.0007, 0.0008, 0.0],
-    "R": tool.rotation_about([0.012, -0.035, 0.016]),
+    "R": cv2.Rodrigues(numpy.array([0.012, -0.035, 0.016]))[0].tolist(),
     "T": [-398.0, 6.0, 5.0],
 }
 MADE_LIMITS = "--unit mm --near 2000000 --far 5000000 --mount 5000000"
@@ -159,12 +154,43 @@ class WithoutDistortion(unittest.TestCase):
             ({**without("imageSize"), "image_width": None, "image_height": 1}, LIMITS, "None isn't a number"),
             ({**PLAIN, "T": [math.nan, 0, 0]}, LIMITS, "nan isn't a number"),
             ({**PLAIN, "T": [-math.inf, 0, 0]}, LIMITS, "-inf isn't a number"),
-            ({**PLAIN, "M1": 9 * [0]}, LIMITS, "no cameras have these numbers: float division by zero"),
+            ({**PLAIN, "M1": 9 * [0]}, LIMITS, "no cameras have these numbers"),
             ({**PLAIN, "R": {"a": 1}}, LIMITS, "{'a': 1} isn't a number"),
             ("", LIMITS, "given.json: not JSON: Expecting value: line 1 column 1 (char 0)"),
         ]:
             status, errors, made = run(given, options)
             self.assertEqual((status, errors, made), (1, f"opencv_calibration: {line}\n", None))
+
+    def test_too_many_cells(self):
+        given = {**PLAIN, "imageSize": [4096, 4096]}
+        status, errors, made = run(given, LIMITS)
+        # Disparities 16 to 32, as above.
+        start = "opencv_calibration: 4096 x 4096 x 17 are 285212672 cells, 268435456 at most: "
+        self.assertEqual((status, errors[: len(start)], errors.count("\n"), made), (1, start, 1, None))
+
+    def test_regions(self):
+        """What is written is read back by the program's definitions, which know the ranges themselves."""
+        grid = LIMITS + " --step 30 --grid -1000000 -500000 50000 40 20"
+        made = made_from(PLAIN, grid + " --region pile 0 0 40 20 -5 --region g.2-a_b 39 19 1 1 2000000000")
+        keys = ("name", "col", "row", "cols", "rows", "base")
+        wanted = [("pile", 0, 0, 40, 20, -5), ("g.2-a_b", 39, 19, 1, 1, 2000000000)]
+        self.assertEqual(made.regions, [dict(zip(keys, it)) for it in wanted])
+
+    def test_what_is_printed(self):
+        with tempfile.TemporaryDirectory() as folder:
+            with open(os.path.join(folder, "given.json"), "w") as file:
+                json.dump(PLAIN, file)
+            command = [sys.executable, TOOL, "given.json", "--out", "made.json", *LIMITS.split(), "--step", "30"]
+            done = subprocess.run(command, cwd=folder, capture_output=True, text=True)
+        first, second = done.stdout.splitlines()
+        self.assertEqual(
+            first,
+            "100 x 60, focal length 128.00 pixels, baseline 500000 micrometres, disparities 16 to 32, "
+            "meshes of step 30 within 0.000 pixels",
+        )
+        # 100 * 60 * 17; three bytes each and 45 for each pixel are 0.6 MB, so one is said.
+        wanted = "102000 cells of 268435456 at most: about 1 MB of memory and 0.1 seconds with one worker"
+        self.assertEqual(second, wanted)
 
     def test_missing_files(self):
         for name in ("none.json", "none.yml"):
@@ -179,6 +205,7 @@ class WithoutDistortion(unittest.TestCase):
             self.assertEqual((status, made, "Traceback" in errors, errors.count("\n")), (1, None, False, 1), given[:20])
 
     def test_wrong_words(self):
+        ten = "--grid 0 0 1 10 20"
         for options, line in [
             ("--near 2000001 --far 2000000", "--near is above --far"),
             ("--far 2000000001", "argument --far: 2000000001 isn't a whole number from 1 to 2000000000"),
@@ -195,6 +222,15 @@ class WithoutDistortion(unittest.TestCase):
             ("--alpha nan", "argument --alpha: nan isn't a number from 0 to 1"),
             ("--grid 0 0 0 1 1", "--grid: CELL 0 isn't from 1 to 1000000000"),
             ("--grid 0 0 1 1 4097", "--grid: ROWS 4097 isn't from 1 to 4096"),
+            ("--region a 0 0 1 1 0", "--region: a region is of a grid, and --grid isn't given"),
+            (ten + " --region a/b 0 0 1 1 0", "--region: NAME 'a/b' isn't 1 to 64 letters, digits, spaces, _, - and ."),
+            (ten + " --region a 10 0 1 1 0", "--region: COL 10 isn't a whole number from 0 to 9"),
+            (ten + " --region a 0 -1 1 1 0", "--region: ROW -1 isn't a whole number from 0 to 19"),
+            (ten + " --region a 4 0 7 1 0", "--region: COLS 7 isn't a whole number from 1 to 6"),
+            (ten + " --region a 4 4 6 17 0", "--region: ROWS 17 isn't a whole number from 1 to 16"),
+            (ten + " --region a 4 4 6 16 1.", "--region: BASE 1. isn't a whole number from -2000000000 to 2000000000"),
+            (ten + " --region a 0 0 1 1", "argument --region: expected 6 arguments"),
+            (ten + 1001 * " --region a 0 0 1 1 0", "--region: 1001 of them, 1000 at most"),
         ]:
             status, errors, made = run(PLAIN, LIMITS + " " + options)
             self.assertEqual((status, made), (2, None), options)
@@ -216,8 +252,6 @@ class Distortion(unittest.TestCase):
             ([0, 0, 0, 0, 0, 0, 0, 0, 0.1, 0.2, 0.3, 0.4], (0, 1), (0.3, 1.7)),
         ]:
             self.assertLess(math.dist(tool.distorted(lens, *place), seen), 1e-12, lens)
-            back = tool.undistorted(lens[:4], *tool.distorted(lens[:4], 0.2, 0.1))
-            self.assertLess(math.dist(back, (0.2, 0.1)), 1e-9)
 
 
 class WithDistortion(unittest.TestCase):
@@ -239,16 +273,16 @@ class WithDistortion(unittest.TestCase):
     def test_points_come_back(self):
         """A pixel and its disparity give a point; that point, seen through both lenses, lies where the two
         meshes take that pixel and its partner from."""
+        parts = tool.read_calibration([self.file()], None)
         for way, made in self.made.items():
-            parts = tool.read_calibration([self.file()], None)
-            r1, _, _, _ = tool.own_rectification(parts, bool(way))
+            r1, _, _, _ = tool.rectification(parts, bool(way), None)
             for x in range(100, WIDTH, 29):
                 for y in range(0, HEIGHT, 27):
                     for d in (made.first + 3, made.first + made.count - 4):
                         across, up, height = matching.point(made.camera, x, y, 16 * d)
                         rectified = [across / 1000, -up / 1000, (made.camera["mount"] - height) / 1000]
-                        first = tool.times(tool.transposed(r1), rectified)
-                        second = [a + b for a, b in zip(tool.times(parts["R"], first), parts["T"])]
+                        first = r1.T @ rectified
+                        second = parts["R"] @ first + parts["T"]
                         for point, k, lens, side, at in (
                             (first, "K1", "D1", made.left, x),
                             (second, "K2", "D2", made.right, x - d),
@@ -256,7 +290,7 @@ class WithDistortion(unittest.TestCase):
                             if not 0 <= at < WIDTH:
                                 continue
                             seen = tool.distorted(parts[lens], point[0] / point[2], point[1] / point[2])
-                            expected = [parts[k][i][i] * seen[i] + parts[k][i][2] for i in (0, 1)]
+                            expected = [parts[k][i, i] * seen[i] + parts[k][i, 2] for i in (0, 1)]
                             place = [part / 256 for part in matching.place(side, at, y)]
                             self.assertLess(math.dist(place, expected), 0.06, (way, x, y, d))
 
@@ -269,7 +303,6 @@ class WithDistortion(unittest.TestCase):
         return name
 
 
-@unittest.skipIf(cv2 is None, "OpenCV's package (cv2) isn't installed")
 class BesideOpenCV(unittest.TestCase):
     def setUp(self):
         array = {key: numpy.array(value, float) for key, value in MADE.items()}
@@ -314,13 +347,12 @@ class BesideOpenCV(unittest.TestCase):
         for options, flags, alpha in cases:
             camera = made_from(MADE, MADE_LIMITS + options).camera
             _, _, p1, p2, q = self.rectified(flags, alpha)
-            # Without alpha the tool's own choice of the middle may differ by a little from OpenCV's.
             self.assertAlmostEqual(camera["focal"] / 256, p1[0, 0], delta=0.01)
-            self.assertAlmostEqual(camera["cx"] / 256, p1[0, 2], delta=0.05)
-            self.assertAlmostEqual(camera["cy"] / 256, p1[1, 2], delta=0.05)
+            self.assertAlmostEqual(camera["cx"] / 256, p1[0, 2], delta=0.01)
+            self.assertAlmostEqual(camera["cy"] / 256, p1[1, 2], delta=0.01)
             self.assertAlmostEqual(camera["baseline"] / 1000, -p2[0, 3] / p2[0, 0], delta=0.01)
-            self.assertAlmostEqual(camera["doffs"] / 256, p2[0, 2] - p1[0, 2], delta=0.05)
-            self.assertAlmostEqual(camera["doffs"] / 256, q[3, 3] / q[3, 2], delta=0.05)
+            self.assertAlmostEqual(camera["doffs"] / 256, p2[0, 2] - p1[0, 2], delta=0.01)
+            self.assertAlmostEqual(camera["doffs"] / 256, q[3, 3] / q[3, 2], delta=0.01)
             for x, y, d in ((200, 100, 60), (250, 30, 45), (120, 220, 70)):
                 across, down, away, scale = q @ (x, y, d, 1)
                 point = matching.point({**camera, "near": 1, "far": 2000000000}, x, y, 16 * d)
@@ -328,19 +360,14 @@ class BesideOpenCV(unittest.TestCase):
                 for ours, their in zip(point, theirs):
                     self.assertAlmostEqual(ours / 1000, their, delta=0.005 * away / scale)
 
-    def test_rotations_and_map(self):
-        r1, r2 = tool.rotations(MADE["R"], MADE["T"])
-        for flags in (0, cv2.CALIB_ZERO_DISPARITY):
-            theirs = self.rectified(flags)
-            self.assertLess(abs(numpy.array(r1) - theirs[0]).max(), 1e-9)
-            self.assertLess(abs(numpy.array(r2) - theirs[1]).max(), 1e-9)
-        # The map beyond the picture's right and lower sides too.
-        for (k, d), r, p in zip(self.lenses, theirs[:2], theirs[2:4]):
+    def test_map(self):
+        """The map, beyond the picture's right and lower sides too."""
+        rectified = self.rectified(cv2.CALIB_ZERO_DISPARITY)
+        y, x = numpy.mgrid[0 : HEIGHT + 16, 0 : WIDTH + 16]
+        for (k, d), r, p in zip(self.lenses, rectified[:2], rectified[2:4]):
             maps = cv2.initUndistortRectifyMap(k, d, r, p, (WIDTH + 16, HEIGHT + 16), cv2.CV_32FC1)
-            view = tool.View(k.tolist(), d.tolist(), r.tolist(), p.tolist())
-            for x in range(0, WIDTH + 16, 5):
-                for y in range(0, HEIGHT + 16, 5):
-                    self.assertLess(math.dist(view.place(x, y), (maps[0][y, x], maps[1][y, x])), 0.001)
+            places = tool.View(k, d, r, p).places(x, y)
+            self.assertLess(abs(places - numpy.stack(maps, axis=-1)).max(), 0.001)
 
     def test_distortion(self):
         """All twelve numbers of a lens, against OpenCV's own."""
@@ -384,14 +411,28 @@ class BesideOpenCV(unittest.TestCase):
                     self.assertEqual(file.read(), plain, ending)
 
 
-@unittest.skipIf(cv2 is not None, "OpenCV's package (cv2) is installed")
 class WithoutOpenCV(unittest.TestCase):
+    """What is said where OpenCV's package isn't there, and that a rectified JSON file doesn't need it."""
+
+    def ended(self, given, name):
+        with tempfile.TemporaryDirectory() as folder:
+            with open(os.path.join(folder, name), "w") as file:
+                file.write(given if isinstance(given, str) else json.dumps(given))
+            script = f"import sys; sys.path.insert(0, {HERE!r}); import opencv_calibration as tool; tool.cv2 = None; "
+            script += "sys.argv[0] = 'opencv_calibration'; tool.sgm_files.run(tool.main)"
+            command = [sys.executable, "-c", script, name, "--out", "made.json", *LIMITS.split()]
+            done = subprocess.run(command, cwd=folder, capture_output=True, text=True)
+        return done.returncode, done.stderr
+
     def test_said_clearly(self):
-        start = "opencv_calibration: "
-        line = start + "given.yml: OpenCV's package (cv2) is needed for YAML and XML; JSON is read without it\n"
-        self.assertEqual(run("", LIMITS, "given.yml"), (1, line, None))
-        line = start + "OpenCV's package (cv2) is needed for --alpha\n"
-        self.assertEqual(run(PLAIN, LIMITS + " --alpha 0"), (1, line, None))
+        line = "opencv_calibration: cv2 of Python needed: apt-get install python3-opencv on Debian\n"
+        self.assertEqual(self.ended("", "given.yml"), (1, line))
+        self.assertEqual(self.ended(PLAIN, "given.json"), (1, line))
+
+    def test_rectified(self):
+        one = [[1, 0, 0], [0, 1, 0], [0, 0, 1]]
+        p1, p2 = ([[64, 0, 40, shift], [0, 64, 20, 0], [0, 0, 1, 0]] for shift in (0, -32))
+        self.assertEqual(self.ended({**PLAIN, "R1": one, "R2": one, "P1": p1, "P2": p2}, "given.json"), (0, ""))
 
 
 if __name__ == "__main__":

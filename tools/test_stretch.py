@@ -2,36 +2,24 @@
 """Tries stretch.py on pictures and grids of a few values, whose greys were worked out by hand."""
 
 import os
-import struct
 import subprocess
 import sys
 import tempfile
 import unittest
-import zlib
+
+import sgm_files
+from sgm_files import numpy
 
 TOOL = os.path.join(os.path.dirname(os.path.abspath(__file__)), "stretch.py")
 HEAD = b"ncols %d\nnrows %d\nxllcorner 0\nyllcorner 0\ncellsize 1000\nNODATA_value -2147483648\n"
 NONE = (200, 0, 120)
 
 
-def picture(data):
-    """The rows of colours in the bytes of a PNG with a palette and without filters."""
-    assert data[:8] == b"\x89PNG\r\n\x1a\n"
-    chunks, at = {}, 8
-    while at < len(data):
-        (length,) = struct.unpack_from(">I", data, at)
-        kind, body = data[at + 4 : at + 8], data[at + 8 : at + 8 + length]
-        assert struct.unpack_from(">I", data, at + 8 + length) == (zlib.crc32(kind + body),)
-        chunks[kind] = body
-        at += 12 + length
-    assert list(chunks) == [b"IHDR", b"PLTE", b"IDAT", b"IEND"]
-    width, height, *form = struct.unpack(">IIBBBBB", chunks[b"IHDR"])
-    assert form == [8, 3, 0, 0, 0]
-    palette = [tuple(chunks[b"PLTE"][at : at + 3]) for at in range(0, len(chunks[b"PLTE"]), 3)]
-    raster = zlib.decompress(chunks[b"IDAT"])
-    lines = [raster[at : at + 1 + width] for at in range(0, len(raster), 1 + width)]
-    assert len(lines) == height and all(line[0] == 0 for line in lines)
-    return [[palette[number] for number in line[1:]] for line in lines]
+def picture(name):
+    """The rows of colours of a PNG that has a palette."""
+    with sgm_files.Image.open(name) as image:
+        assert image.mode == "P", image.mode
+        return [[tuple(colour) for colour in row] for row in numpy.array(image.convert("RGB")).tolist()]
 
 
 def run(data):
@@ -43,8 +31,7 @@ def run(data):
         done = subprocess.run([sys.executable, TOOL, name, "--out", out], capture_output=True, text=True)
         made = None
         if os.path.exists(out):
-            with open(out, "rb") as file:
-                made = picture(file.read())
+            made = picture(out)
     return done.returncode, done.stdout, done.stderr.replace(name, "o"), made
 
 
@@ -75,11 +62,11 @@ class Stretched(unittest.TestCase):
         for data, line in [
             (b"", "not a height grid of sgm"),
             (b"\xff\0", "not a height grid of sgm"),
-            (b"P5", "not a disparity picture of sgm"),
+            (b"P5", "not a binary PGM"),
             (b"P5\n2 1\n255\n\0\1", "not a disparity picture of sgm"),
-            (b"P5\n-2 1\n65535\n\0\1", "not a disparity picture of sgm"),
-            (b"P5\n2 1\n65535\n\0\1", "2 bytes of disparities, 4 needed"),
-            (b"P5\n0 1\n65535\n", "0 bytes of disparities, 0 needed"),
+            (b"P5\n-2 1\n65535\n\0\1", "not a binary PGM"),
+            (b"P5\n2 1\n65535\n\0\1", "2 bytes of samples, 4 needed"),
+            (b"P5\n0 1\n65535\n", "sides are 1 to 4096 and the greatest value is 1 to 65535"),
             (HEAD % (2, 2) + b"1 2 3\n", "3 heights, 4 needed"),
         ]:
             self.assertEqual(run(data), (1, "", f"stretch: o: {line}\n", None), data)

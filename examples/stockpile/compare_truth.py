@@ -5,8 +5,10 @@
 
 reads OUT.asc and OUT.csv. The truth is the cone of make_stockpile.py: its volume is pi * radius * radius *
 height / 3, and the height of a place is the height of the tip less its distance from the axis times the
-slope. Prints the true and the measured numbers with their errors, and fails where OUT.csv isn't the sum of
-the cells of OUT.asc. The program decides nothing here: these numbers are for people, and use floating point.
+slope. The measured volume is that above the mean height of the ground region, as tools/cubic_metres.py
+--ground says it. Prints the true and the measured numbers with their errors, and fails where OUT.csv isn't
+the sum of the cells of OUT.asc. The program decides nothing here: these numbers are for people, and use
+floating point.
 """
 
 import argparse
@@ -16,9 +18,12 @@ import math
 import os
 import sys
 
+HERE = os.path.dirname(os.path.abspath(__file__))
+sys.path.insert(0, os.path.join(HERE, "..", "..", "tools"))
+
+import cubic_metres
 import make_stockpile as truth
 
-HERE = os.path.dirname(os.path.abspath(__file__))
 METRE = 1_000_000
 
 
@@ -74,9 +79,9 @@ def is_sum_of_cells(line, region, heights, size):
     return list(line.values()) == [str(it) for it in made]
 
 
-def print_parts(pairs, size):
+def print_parts(pairs, size, base):
     """Where the error of the volume comes from: cells that are too high or too low, and cells that are empty."""
-    errors = [height - true for true, height in pairs if height is not None]
+    errors = [height - base - true for true, height in pairs if height is not None]
     missing = [true for true, height in pairs if height is None]
     cube = METRE**3 / size**2
     print(f"of the volume's error: {sum(errors) / cube:+.3f} m3 from {len(errors)} measured cells, ", end="")
@@ -87,8 +92,14 @@ def percent(measured, true):
     return f"{100 * (measured / true - 1):+.2f} %"
 
 
+def whole_numbers(line):
+    """A line of the report with its numbers, None for a height that isn't there."""
+    name, *numbers = line.values()
+    return [name, *(int(word) if word else None for word in numbers)]
+
+
 def compare(out):
-    """Prints the comparison of OUT.asc and OUT.csv."""
+    """Prints the comparison of OUT.asc and OUT.csv, and gives the pile's volume and its greatest height."""
     with open(os.path.join(HERE, "calibration.json"), encoding="utf-8") as file:
         calibration = json.load(file)
     regions, grid = calibration["regions"], calibration["grid"]
@@ -103,20 +114,23 @@ def compare(out):
         if not is_sum_of_cells(line, region, [height for _, height in pairs], head["cellsize"]):
             raise NotASurvey(f"{out}.csv: region {region['name']}: the report isn't the sum of the cells")
 
-    pile, ground = lines
-    volume = true_volume()
-    measured = int(pile["fill"]) - int(pile["cut"])
-    highest = int(pile["highest"])
-    height, low, high = truth.CONE_HEIGHT, int(ground["lowest"]), int(ground["highest"])
+    (pile, ground), (pile_base, ground_base) = map(whole_numbers, lines), (region["base"] for region in regions)
+    if ground[1] == 0 or pile[1] == 0:
+        raise NotASurvey(f"{out}.csv: a region has no cell with a height")
+    base = cubic_metres.mean_height(ground, ground_base, head["cellsize"])
+    volume, measured = true_volume(), cubic_metres.net_above(pile, pile_base, head["cellsize"], base)
+    height, highest = truth.CONE_HEIGHT, pile[-1]
+    low, high = (end / METRE for end in ground[-2:])
+    print(f"ground  true 0.000 m     measured {base / METRE:.3f} m, its cells {low:.3f} to {high:.3f} m")
     print(f"volume  true {volume / METRE**3:.3f} m3   measured {measured / METRE**3:.3f} m3   ", end="")
-    print(percent(measured, volume))
+    print(f"{percent(measured, volume)}, above the measured ground")
     print(f"height  true {height / METRE:.3f} m     measured {highest / METRE:.3f} m     {percent(highest, height)}")
-    print(f"ground  true 0.000 m     measured {low / METRE:.3f} to {high / METRE:.3f} m")
-    print_parts(list(cells_of(regions[0], head, rows)), head["cellsize"])
+    print_parts(list(cells_of(regions[0], head, rows)), head["cellsize"], base)
+    return measured, highest
 
 
 def main():
-    epilog = "Example, after the match of examples/stockpile into /tmp/heap: examples/stockpile/compare_truth.py /tmp/heap"
+    epilog = "Example, after the match of the example into /tmp/heap: examples/stockpile/compare_truth.py /tmp/heap"
     parser = argparse.ArgumentParser(description=__doc__.split("\n\n")[0], epilog=epilog)
     parser.add_argument("out", metavar="OUT", help="the last word of the match")
     words = parser.parse_args()

@@ -52,8 +52,8 @@ def through_pixel(camera_x, x, y):
     return Ray(camera_x, x - AXIS[0], AXIS[1] - y)
 
 
-def depth_of_cone(ray):
-    """The depth at which the ray enters the cone, or None.
+def depth_of_cone(ray, mount=MOUNT):
+    """The depth at which the ray enters the cone, or None, with the cameras so high above the ground.
 
     With Z the depth, R the radius, H the height and T the tip's depth, a place at the horizontal
     distance r from the axis lies on the cone where R (Z - T) = H r. Squared, and with the ray's place
@@ -61,7 +61,7 @@ def depth_of_cone(ray):
     other solution belongs to the cone's mirror image above the tip, or lies behind the first one. With
     these numbers no pixel makes the square's factor 0.
     """
-    tip = MOUNT - CONE_HEIGHT
+    tip = mount - CONE_HEIGHT
     aside, ahead = ray.focal * (ray.camera_x - CONE_X), ray.focal * -CONE_Y
     wide, high = CONE_RADIUS**2, CONE_HEIGHT**2
     a = wide * ray.focal**2 - high * (ray.right**2 + ray.up**2)
@@ -72,12 +72,12 @@ def depth_of_cone(ray):
         return None
     root = math.isqrt(square)
     depths = [(-half_b + root) // a, (-half_b - root) // a]
-    return min((depth for depth in depths if tip <= depth <= MOUNT), default=None)
+    return min((depth for depth in depths if tip <= depth <= mount), default=None)
 
 
-def depth_of_crate(ray):
+def depth_of_crate(ray, mount=MOUNT):
     """The depth at which the ray meets the crate's top or the side that is turned to it, or None."""
-    top = MOUNT - CRATE_HEIGHT
+    top = mount - CRATE_HEIGHT
     sides = [top]
     if ray.right:
         sides += [(edge - ray.camera_x) * ray.focal // ray.right for edge in (CRATE_WEST, CRATE_EAST)]
@@ -88,7 +88,7 @@ def depth_of_crate(ray):
         # A side's depth is rounded, so the place on it may lie beside it by as much.
         x, y = ray.place(depth)
         return (
-            top <= depth <= MOUNT
+            top <= depth <= mount
             and CRATE_WEST - 9 <= x <= CRATE_EAST + 9
             and CRATE_SOUTH - 9 <= y <= CRATE_NORTH + 9
         )
@@ -118,13 +118,18 @@ def texture(x, y, seed):
     return (3 * fine + 3 * middle + 2 * coarse) // 8
 
 
-def surface(ray):
-    """The grey value, 30 to 220, of the first surface that the ray meets."""
-    meets = [(MOUNT, "ground")]
-    for depth, name in ((depth_of_cone(ray), "cone"), (depth_of_crate(ray), "crate")):
+def first_surface(ray, mount=MOUNT):
+    """The depth and the name of the first surface that the ray meets."""
+    meets = [(mount, "ground")]
+    for depth, name in ((depth_of_cone(ray, mount), "cone"), (depth_of_crate(ray, mount), "crate")):
         if depth is not None:
             meets.append((depth, name))
-    depth, name = min(meets)
+    return min(meets)
+
+
+def surface(ray, mount=MOUNT):
+    """The grey value, 30 to 220, of the first surface that the ray meets."""
+    depth, name = first_surface(ray, mount)
     x, y = ray.place(depth)
     if name == "ground":
         return 40 + texture(x, y, 1) * 5 // 8
@@ -135,12 +140,12 @@ def surface(ray):
     return 60 + texture(x, y, 21) * 5 // 8 + 28 * (CONE_X - x) // CONE_RADIUS
 
 
-def left_sample(x, y):
-    return surface(through_pixel(0, x, y)) + noise(x, y, 31) % 5
+def left_sample(x, y, mount=MOUNT):
+    return surface(through_pixel(0, x, y), mount) + noise(x, y, 31) % 5
 
 
-def right_sample(x, y):
-    return surface(through_pixel(BASELINE, x, y)) * 4 // 5 + 6 + noise(x, y, 32) % 5
+def right_sample(x, y, mount=MOUNT):
+    return surface(through_pixel(BASELINE, x, y), mount) * 4 // 5 + 6 + noise(x, y, 32) % 5
 
 
 def write_pair():

@@ -16,6 +16,3 @@ pub use sgm_outcome::{Outcome, Refusal, write_fault};
 pub use sgm_pair::pair;
 pub use sgm_words::{Input, Options, Output, UsageFault, read_words};
 pub use top::run;
-
-#[cfg(test)]
-mod tests;

@@ -2,21 +2,25 @@
 //!
 //! The fields are `file NAME TEXT`, a file that is held besides or in place of one of those; a call that
 //! fails once, `trip fetch NAME`, `trip create NAME`, `trip append NAME LENGTH` or `trip finish NAME`; `sure`
-//! for a shelf where nothing fails and every name is held; `out LENGTH`, where standard output fails once;
-//! and `err LENGTH`, the room of standard error. The answer is the status, what is held under the names o.pgm,
-//! o.asc and o.csv, and what the two streams received, with `\n`, `\\` and bytes as `\x0f`.
+//! for a shelf where nothing fails and every name is held; `out LENGTH` and `err LENGTH`, where standard output
+//! and standard error fail once, at that length. The answer is the status, what is held under the names o.pgm,
+//! o.asc and o.csv, and what the two streams received, with `\n`, `\\` and bytes as `\x0f`; last, where standard
+//! error hasn't received the line of the outcome, ` | outcome LINE`.
 
+use crate::line::line_of;
 use crate::parts::{cut, words_of};
 use crate::{escapes, example};
 use sgm_app::run;
 use sgm_io::{FetchError, MemoryShelf, MemorySink, Shelf, SureShelf, Trip};
+use sgm_outcome::Outcome;
 use sgm_work::OpenGate;
 use std::alloc::{AllocError, Global};
 use std::fmt::Write;
+use std::str;
 use std::thread::Threads;
 
 /// The room of a stream, and the most bytes of a file that is looked at.
-const ROOM: usize = 4096;
+const ROOM: usize = 1_048_576;
 
 /// What a case asks for.
 #[derive(Drop)]
@@ -26,7 +30,7 @@ struct Case {
     trips: Vec<Trip>,
     is_sure: bool,
     out_stop: Option<usize>,
-    err_room: usize,
+    err_stop: Option<usize>,
 }
 
 fn read_trip(alloc: Global, text: &str) -> Result<Option<Trip>, AllocError> {
@@ -68,13 +72,8 @@ impl Case {
     }
 
     fn set_err(&mut self, text: &str) -> bool {
-        match text.parse() {
-            Ok(room) => {
-                self.err_room = room;
-                true
-            }
-            Err(_) => false,
-        }
+        self.err_stop = text.parse().ok();
+        self.err_stop.is_some()
     }
 
     /// Takes in a field, and answers whether there is such a one.
@@ -102,7 +101,7 @@ fn read_case(alloc: Global, text: &str) -> Result<Option<Case>, AllocError> {
         trips: Vec::new(alloc),
         is_sure: false,
         out_stop: None,
-        err_room: ROOM,
+        err_stop: None,
     };
     if fields.is_empty() {
         return Ok(Some(case));
@@ -139,6 +138,22 @@ fn push_held<S: Shelf>(
     }
 }
 
+/// Adds the line of the outcome where it isn't what standard error received.
+fn push_untold(
+    alloc: Global,
+    text: &mut String,
+    outcome: Outcome,
+    taken: &[u8],
+) -> Result<(), AllocError> {
+    let line = line_of(alloc, outcome)?;
+    let told = str::from_utf8(taken).unwrap_or("not UTF-8").trim_end();
+    if line.as_str() != told {
+        text.push_str(" | outcome ")?;
+        text.push_str(line.as_str())?;
+    }
+    Ok(())
+}
+
 /// How a run of these words ends over the shelf, with these streams.
 fn end_of<R: Threads + Sync, S: Shelf>(
     rt: &R,
@@ -158,6 +173,7 @@ fn end_of<R: Threads + Sync, S: Shelf>(
     push_quoted(&mut text, out.taken())?;
     text.push_str(" | err ")?;
     push_quoted(&mut text, err.taken())?;
+    push_untold(alloc, &mut text, outcome, err.taken())?;
     Ok(text)
 }
 
@@ -168,10 +184,10 @@ fn end_of_case<R: Threads + Sync>(rt: &R, alloc: Global, case: Case) -> Result<S
         trips,
         is_sure,
         out_stop,
-        err_room,
+        err_stop,
     } = case;
     let out = MemorySink::make(alloc, ROOM, out_stop)?;
-    let err = MemorySink::make(alloc, err_room, None)?;
+    let err = MemorySink::make(alloc, ROOM, err_stop)?;
     if is_sure {
         let mut shelf = SureShelf::make(alloc, files)?;
         end_of(rt, alloc, &words, &mut shelf, out, err)

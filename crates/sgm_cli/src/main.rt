@@ -1,11 +1,15 @@
 //! The tool as a program: real files, standard streams, and the status of the run.
 #![tactic(auto)]
 
-use sgm_app::run;
+use sgm_app::{Outcome, run, write_fault};
 use sgm_io::{DiskShelf, StdSink};
 use sgm_work::OpenGate;
+use std::io::ErrorKind;
 use std::process::ExitCode;
 use std::{env, io};
+
+// The status where the system gives no words, for any cause but want of memory.
+const NO_WORDS: u8 = 1;
 
 // The words after the program's name.
 fn words(rt: &HostRuntime) -> io::Result<Vec<String>> {
@@ -16,9 +20,20 @@ fn words(rt: &HostRuntime) -> io::Result<Vec<String>> {
     Ok(words)
 }
 
+// The status where there are no words. Want of memory has its line.
+fn end_without_words(rt: &HostRuntime, error: &io::Error) -> u8 {
+    if error.kind() != ErrorKind::OutOfMemory {
+        return NO_WORDS;
+    }
+    let outcome = Outcome::NoMemory;
+    write_fault(&outcome, &mut StdSink::make(rt.stderr()));
+    outcome.status()
+}
+
 fn main(rt: HostRuntime) -> ExitCode {
-    let Ok(words) = words(&rt) else {
-        return ExitCode::from(1);
+    let words = match words(&rt) {
+        Ok(words) => words,
+        Err(error) => return ExitCode::from(end_without_words(&rt, &error)),
     };
     let mut shelf = DiskShelf::make(&rt, rt.alloc());
     let mut out = StdSink::make(rt.stdout());

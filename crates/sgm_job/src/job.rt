@@ -65,7 +65,7 @@ impl From<AllocError> for SurveyError {
 /// What a survey answers.
 #[derive(Drop)]
 pub struct Surveyed {
-    /// The disparity of each pixel of the left image, in sixteenths.
+    /// The disparity of each pixel of the left image, less the first, in sixteenths.
     pub disp: DispMap,
     /// The greatest height of each cell, where the calibration has a grid.
     pub grid: Option<Grid>,
@@ -141,9 +141,9 @@ fn disparity_map<R: Threads + Sync, G: Gate + Sync>(
     )
 }
 
-/// Surveys a pair of images: rectifies them, matches them, and gives for each pixel of the left one the index
-/// of its disparity in sixteenths, or None where the match isn't the same from the right or a pixel is void;
-/// the grid of the greatest heights where the calibration has one; and the tally of each region where it has
+/// Surveys a pair of images: rectifies them, matches them, and gives for each pixel of the left one its
+/// disparity, less the first, in sixteenths, or None where the match isn't the same from the right or a pixel is
+/// void; the grid of the greatest heights where the calibration has one; and the tally of each region where it has
 /// regions. Faults are seen to before memory is taken, in the order of [`SurveyFault`]. The image is cut into
 /// `strips`, or as many as it has rows, and the work is shared among so many `workers`, each in a thread of its
 /// own where one can be made; neither they nor the strips change the answer. The workers come to the gate as

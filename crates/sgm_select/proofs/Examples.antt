@@ -1,7 +1,7 @@
 -- What the definitions give for small rows.
 use Rattle.std.proofs.Common.{◌≡◌, ℕ, [], ◌∷◌, map, Option, Some, None, pos, negsuc, refl, List}
 use Rattle.sgm_energy.specs.Energies.{least}
-use Rattle.sgm_select.specs.Selection.{least_index}
+use Rattle.sgm_select.specs.Selection.{in_sixteenths, least_index, vertex}
 use Rattle.sgm_select.specs.Rows.{base_in, matched_in, checked_in}
 
 -- of two least sums the first
@@ -26,10 +26,16 @@ matches_beyond : map (matched_in sums 5 (pos 5) 2) (0 ∷ 4 ∷ []) ≡ None ∷
 unfolding matched_in least_index least
 matches_beyond = refl
 
--- the base index 3 at the column 5 against the index of the column 2
-checked_with : Option ℕ → Option ℕ
-checked_with m = checked_in (0 ∷ 0 ∷ 0 ∷ 0 ∷ 0 ∷ 3 ∷ []) (None ∷ None ∷ m ∷ []) (None ∷ None ∷ None ∷ None ∷ None ∷ Some 7 ∷ []) (None ∷ None ∷ Some 7 ∷ []) (pos 0) 5
+-- of sums as far from the middle one on both sides, and of others
+vertices : (vertex 7 3 3 ≡ pos 8) × (vertex 9 3 5 ≡ pos 4) × (vertex 4 3 9 ≡ negsuc 5) × (vertex 20 3 18 ≡ pos 1) × (vertex 18 3 20 ≡ pos 0)
+unfolding vertex
+vertices = (refl, refl, refl, refl, refl)
 
-differences : map checked_with (Some 1 ∷ Some 2 ∷ Some 3 ∷ Some 4 ∷ Some 5 ∷ None ∷ []) ≡ None ∷ Some 48 ∷ Some 48 ∷ Some 48 ∷ None ∷ None ∷ []
-unfolding checked_with checked_in
+-- the base index 3 at the column 5, with these sums, against the index of the column 2
+checked_with : List ℕ → Option ℕ → Option ℕ
+checked_with pixel m = checked_in (0 ∷ 0 ∷ 0 ∷ 0 ∷ 0 ∷ 0 ∷ 0 ∷ 0 ∷ 0 ∷ 0 ∷ 0 ∷ 0 ∷ 0 ∷ 0 ∷ 0 ∷ 0 ∷ 0 ∷ 0 ∷ 0 ∷ 0 ∷ 0 ∷ 0 ∷ 0 ∷ 0 ∷ 0 ∷ pixel) 5
+    (0 ∷ 0 ∷ 0 ∷ 0 ∷ 0 ∷ 3 ∷ []) (None ∷ None ∷ m ∷ []) (None ∷ None ∷ None ∷ None ∷ None ∷ Some 7 ∷ []) (None ∷ None ∷ Some 7 ∷ []) (pos 0) 5
+
+differences : map (checked_with (9 ∷ 9 ∷ 9 ∷ 3 ∷ 5 ∷ [])) (Some 1 ∷ Some 2 ∷ Some 3 ∷ Some 4 ∷ Some 5 ∷ None ∷ []) ≡ None ∷ Some 52 ∷ Some 52 ∷ Some 52 ∷ None ∷ None ∷ []
+unfolding checked_with checked_in in_sixteenths vertex
 differences = refl

@@ -1,6 +1,6 @@
 -- Which index is the least one.
-use Rattle.std.proofs.Common.{◌≡◌, ℕ, ◌+◌, ◌*◌, ◌<◌, ◌≤◌, zero, suc, Bool, true, false, eqb, List, [], ◌∷◌, map, Some, None, refl, sym, ap, ◌∙◌, inl, inr, arith, slice_index, unwrap_or, take, drop, Contains, cond}
-use Rattle.std.proofs.lemmas.Bool.{cases_eq, cases_Bool, eq-eqb, ne_eqb}
+use Rattle.std.proofs.Common.{◌≡◌, ℕ, ◌+◌, ◌*◌, ◌<◌, ◌≤◌, zero, suc, Bool, true, false, eqb, List, [], ◌∷◌, map, Some, None, refl, sym, ap, ◌∙◌, subst, inl, inr, arith, slice_index, unwrap_or, take, drop, Contains, cond}
+use Rattle.std.proofs.lemmas.Bool.{cases_eq, cases_lt, cases_Bool, eq-eqb, ne_eqb}
 use Rattle.std.proofs.lemmas.List.{get_or-take, get_or-drop}
 use Rattle.std.specs.List.{filter, find, range_with_len}
 use Rattle.sgm_energy.specs.Energies.{least, below}
@@ -50,6 +50,30 @@ least_index_none counts f n h = find_none (λ d. eqb (f d) (least (map f (filter
 pub least_of_is : (f : ℕ → ℕ) (n b : ℕ) → b < n → ((d : ℕ) → d < n → f b ≤ f d) → ((d : ℕ) → d < b → f b < f d) → least_of f n ≡ b
 least_of_is f n b h low first =
     ap (λ o. unwrap_or o 0) (least_index_is (λ _. true) f n b h refl (λ d l _. low d l) (λ d l _. first d l))
+
+-- b is the least number below n at which f is least
+pub record IsLeastAt (f : ℕ → ℕ) (n b : ℕ) : Type 0 where
+  pub inside : b < n
+  pub low : (d : ℕ) → d < n → f b ≤ f d
+  pub first : (d : ℕ) → d < b → f b < f d
+
+-- there is such a number
+some_least : (f : ℕ → ℕ) (n : ℕ) → (b : ℕ) × IsLeastAt f (suc n) b
+some_least f zero = (0, record { inside = omega arith; low = λ d l. (let e : d ≡ 0 = omega arith in rw e (omega arith)); first = λ d l. absurd (omega arith) })
+some_least f (suc n) =
+    let rest = some_least f n in
+    let b = rest.0 in
+    elim (cases_lt (f (suc n)) (f b)) [
+      | inl l ↦ (suc n, record { inside = omega arith; low = λ d k. elim (cases_eq d (suc n)) [ inl e ↦ rw e (omega arith) | inr ne ↦ omega (arith, rest.1.low d (omega arith)) ]; first = λ d k. omega (arith, rest.1.low d (omega arith)) })
+      | inr l ↦ (b, record { inside = omega (arith, rest.1.inside); low = λ d k. elim (cases_eq d (suc n)) [ inl e ↦ rw e l | inr ne ↦ rest.1.low d (omega arith) ]; first = rest.1.first })
+    ]
+
+-- the choice is one
+pub least_of_least : (f : ℕ → ℕ) (n : ℕ) → 0 < n → IsLeastAt f n (least_of f n)
+least_of_least f (suc n) h =
+    let there = some_least f n in
+    subst (IsLeastAt f (suc n)) (sym (least_of_is f (suc n) there.0 there.1.inside there.1.low there.1.first)) there.1
+least_of_least f zero h = absurd (omega arith)
 
 -- ---- two functions with the same values below n
 

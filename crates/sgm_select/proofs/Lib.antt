@@ -1,7 +1,9 @@
+pub mod Checked
 pub mod Examples
 pub mod Greatest
 pub mod Keys
 pub mod LeastIndex
+pub mod Offsets
 pub mod Rows
 pub mod Selected
 pub mod Strips

@@ -1,5 +1,5 @@
 -- Disparities that are written row by row.
-use Rattle.std.proofs.Common.{◌≡◌, ℕ, ◌+◌, ◌*◌, ◌/◌, ◌%◌, ◌<◌, List, ◌++◌, length, take, drop, get_or, slice_index, Option, Some, None, sym, ap, ◌∙◌, subst, inl, inr, arith}
+use Rattle.std.proofs.Common.{◌≡◌, ℕ, ◌+◌, ◌*◌, ◌/◌, ◌%◌, ◌<◌, ◌≤◌, List, ◌++◌, length, take, drop, get_or, slice_index, Option, Some, None, sym, ap, ◌∙◌, subst, inl, inr, arith}
 use Rattle.std.specs.Prelude.{EachIndex, slice_get, ℤ}
 use Rattle.std.proofs.lemmas.Bool.{cases_eq}
 use Rattle.std.proofs.lemmas.List.FromFn.{fill_by_all}
@@ -32,15 +32,16 @@ matches_held g first y count n sums matches ec ew h lm each = record {
 
 -- what the check finds in a row is the disparity
 pub row_selected : (g : Problem) (planes others : Values) (first : ℤ) (y count n : ℕ) (sums bases : List ℕ) (matches lefts rights : List (Option ℕ))
-    → g.count ≡ count → g.width ≡ n → y < g.height → HoldsRow g y (path_sum g) sums → SuitsPlane g planes → SuitsPlane g others
+    → g.count ≡ count → 1 ≤ count → g.width ≡ n → y < g.height → HoldsRow g y (path_sum g) sums → SuitsPlane g planes → SuitsPlane g others
     → lefts ≡ row_of planes y → rights ≡ row_of others y → length bases ≡ n → length matches ≡ n
     → EachIndex bases (λ x. slice_index bases x ≡ base_in sums count x)
     → EachIndex matches (λ q. slice_get matches q ≡ Some (matched_in sums (length matches) first count q))
-    → (x : ℕ) → x < n → checked_in bases matches lefts rights first x ≡ disparity g planes others first (pixel_at x y)
-row_selected g planes others first y count n sums bases matches lefts rights ec ew hy h sp so el er lb lm eb em x hx =
-    ap (λ l. checked_in bases matches l rights first x) el ∙ ap (λ r. checked_in bases matches (row_of planes y) r first x) er
-    ∙ checked_in-is g planes others first y x bases matches (sym sp.same_width) (sym sp.same_height) (sym so.same_width) (sym so.same_height)
-    (bases_held g y count n sums bases ec ew h lb eb) (matches_held g first y count n sums matches ec ew h lm em) (omega (arith, ew)) hy
+    → (x : ℕ) → x < n → checked_in sums count bases matches lefts rights first x ≡ disparity g planes others first (pixel_at x y)
+row_selected g planes others first y count n sums bases matches lefts rights ec some ew hy h sp so el er lb lm eb em x hx =
+    ap (λ l. checked_in sums count bases matches l rights first x) el ∙ ap (λ r. checked_in sums count bases matches (row_of planes y) r first x) er
+    ∙ ap (λ k. checked_in sums k bases matches (row_of planes y) (row_of others y) first x) (sym ec)
+    ∙ checked_in-is g planes others first y x sums bases matches (sym sp.same_width) (sym sp.same_height) (sym so.same_width) (sym so.same_height)
+    h (bases_held g y count n sums bases ec ew h lb eb) (matches_held g first y count n sums matches ec ew h lm em) (omega arith) (omega (arith, ew)) hy
 
 -- one row more holds its entries
 pub entries_more : (f : ℕ → ℕ → Option ℕ) (width y : ℕ) (s a v b : List (Option ℕ)) → a ≡ take (y * width) s → b ≡ drop width (drop (y * width) s) → length a ≡ y * width → length v ≡ width

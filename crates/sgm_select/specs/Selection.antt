@@ -1,5 +1,7 @@
--- Which index is chosen for a pixel, and which of them stand the check from left to right.
-use Rattle.std.specs.Prelude.{ℕ, ◌+◌, ◌*◌, Bool, true, ◌&&◌, ◌==◌, nat_le, if◌then◌else◌, map, filter, find, unwrap_or, Option, Some, None, is_some, option_and_then, ℤ}
+-- Which index is chosen for a pixel, which of them stand the check from left to right, and the disparities that they
+-- give, which lie between whole indices.
+use Rattle.std.specs.Prelude.{ℕ, ◌+◌, ◌-◌, ◌*◌, Bool, true, ◌&&◌, ◌||◌, ◌==◌, nat_le, if◌then◌else◌, map, filter, find, unwrap_or, unsigned_abs, Option, Some, None, is_some, option_and_then, option_map, ℤ, pos, ◌+ℤ◌, ◌-ℤ◌, ◌*ℤ◌}
+use Rattle.sgm_base.specs.Rounding.{rounded}
 use Rattle.sgm_base.specs.Values.{Values, row_by_row, value_at, values_of}
 use Rattle.sgm_base.specs.Columns.{left_column, right_column}
 use Rattle.sgm_energy.specs.Rays.{Pixel, pixel_at, Problem}
@@ -32,19 +34,38 @@ matched g first q y =
 abbrev pub agree : ℕ → ℕ → Bool
 agree a b = nat_le a (b + 1) && nat_le b (a + 1)
 
--- The index b in sixteenths, where neither pixel is void and the index of the right one agrees; else none
+-- The index b, where neither pixel is void and the index of the right one agrees; else none
 abbrev pub checked : ℕ → Option ℕ → Option ℕ → Option ℕ → Option ℕ
-checked b (Some left) (Some right) (Some m) = if agree b m then Some (16 * b) else None
+checked b (Some left) (Some right) (Some m) = if agree b m then Some b else None
 checked b _ _ _ = None
 
+-- How far from the middle one of three sums, in sixteenths of an index, the parabola through them has its least
+-- value. With a and c the first and the last sum less the middle one this is 8 * (a - c) / (a + c), rounded:
+-- floor((16 * (a - c) + (a + c)) / (2 * (a + c))).
+unfoldable pub vertex : ℕ → ℕ → ℕ → ℤ
+vertex before at after =
+    let a = pos before -ℤ pos at in
+    let c = pos after -ℤ pos at in
+    rounded (pos 8 *ℤ (a -ℤ c)) (a +ℤ c)
+
+-- the offset of the index b from the sums beside its own: none at the first and the last index
+abbrev pub offset : (ℕ → ℕ) → ℕ → ℕ → ℤ
+offset sums count b =
+    if (b == 0) || (b + 1 == count) then pos 0 else vertex (sums (b - 1)) (sums b) (sums (b + 1))
+
+-- the index b and its offset, in sixteenths. This is never negative where the sum at b is least
+unfoldable pub in_sixteenths : (ℕ → ℕ) → ℕ → ℕ → ℕ
+in_sixteenths sums count b = unsigned_abs (pos (16 * b) +ℤ offset sums count b)
+
 -- The disparity of the pixel p, in sixteenths: with b its index and q = x - first - b the column of the right image,
--- 16 * b where q lies in the row, the planes are void neither at p on the left nor at q on the right, and b and the
--- index of q differ by at most 1. Otherwise none.
+-- 16 * b and the offset of b, where q lies in the row, the planes are void neither at p on the left nor at q on the
+-- right, and b and the index of q differ by at most 1. Otherwise none.
 unfoldable pub disparity : Problem → Values → Values → ℤ → Pixel → Option ℕ
 disparity g left right first p =
     let b = base g p in
-    option_and_then (λ q. checked b (value_at left p.x p.y) (value_at right q p.y) (matched g first q p.y))
-    (right_column g.width first p.x b)
+    option_map (in_sixteenths (path_sum g p) g.count)
+    (option_and_then (λ q. checked b (value_at left p.x p.y) (value_at right q p.y) (matched g first q p.y))
+    (right_column g.width first p.x b))
 
 -- the disparity of each pixel, row by row
 abbrev pub disparities_of : Problem → Values → Values → ℤ → Values

@@ -40,7 +40,7 @@ fn select_row(
 {
     base_row(sums, span.count as usize, bases);
     match_row(sums, span, matches);
-    check_row(bases, matches, left, right, span, into);
+    check_row(sums, bases, matches, left, right, span, into);
 }
 
 /// Writes the disparities of the row `y` to their place among the rows of a strip.
@@ -197,8 +197,8 @@ fn select_strips(
     Ok(strips)
 }
 
-/// The disparity of each pixel of the left image: the index at which its sum is least, in sixteenths,
-/// where the left-right check leaves it. The planes have the scene's size, and the parcels are all strips
+/// The disparity of each pixel of the left image, in sixteenths: the index at which its sum is least and
+/// its offset by the sums beside it, where the left-right check leaves it. The planes have the scene's size, and the parcels are all strips
 /// of the scene in order, each complete.
 pub fn select(
     alloc: Global,

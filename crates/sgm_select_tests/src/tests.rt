@@ -1,7 +1,7 @@
 ghost use Rattle.std.specs.Prelude.{◌≡◌, IfOk};
 
 use sgm_base::Span;
-use sgm_select::{base_row, check_row, match_row};
+use sgm_select::{base_row, match_row};
 use std::test::Fail;
 
 /// The sums of two rows of a worked pair: five columns, two indices each.
@@ -68,73 +68,5 @@ fn disparities_beyond_the_row(rt: HostRuntime) -> Result<(), Fail> {
     assert!(rt; matched == [None, None, None, None, Some(1)]);
     match_row(&INNER, span_of(4, 2)?, &mut matched);
     assert!(rt; matched == [Some(0), None, None, None, None]);
-    Ok(())
-}
-
-/// The disparity of the column 5 of six, of base 3, where the right column 2 has this index.
-fn checked_with(
-    matched: Option<u16>,
-    left: Option<u16>,
-    right: Option<u16>,
-) -> Result<Option<u16>, Fail> {
-    let mut into = [Some(9); 6];
-    check_row(
-        &[0, 0, 0, 0, 0, 3],
-        &[None, None, matched, None, None, None],
-        &[Some(1), Some(1), Some(1), Some(1), Some(1), left],
-        &[Some(1), Some(1), right, Some(1), Some(1), Some(1)],
-        span_of(0, 4)?,
-        &mut into,
-    );
-    Ok(into[5])
-}
-
-#[test]
-fn indices_may_differ_by_one(rt: HostRuntime) -> Result<(), Fail> {
-    for (matched, want) in [
-        (0, None),
-        (1, None),
-        (2, Some(48)),
-        (3, Some(48)),
-        (4, Some(48)),
-        (5, None),
-        (65535, None),
-    ] {
-        assert_eq!(rt; checked_with(Some(matched), Some(1), Some(1))?, want);
-    }
-    Ok(())
-}
-
-#[test]
-fn voids_are_not_checked(rt: HostRuntime) -> Result<(), Fail> {
-    assert_eq!(rt; checked_with(Some(3), Some(0), Some(0))?, Some(48));
-    assert_eq!(rt; checked_with(Some(3), None, Some(0))?, None);
-    assert_eq!(rt; checked_with(Some(3), Some(0), None)?, None);
-    assert_eq!(rt; checked_with(None, Some(0), Some(0))?, None);
-    Ok(())
-}
-
-#[test]
-fn disparities_of_a_pair(rt: HostRuntime) -> Result<(), Fail> {
-    let values = [Some(1); 5];
-    let base = [0, 0, 1, 1, 1];
-    let matched = [0, 1, 1, 0, 0].map(|m: u16| Some(m));
-    let mut into = [None; 5];
-    check_row(&base, &matched, &values, &values, span_of(0, 2)?, &mut into);
-    assert!(rt; into == [0, 0, 16, 16, 16].map(|d: u16| Some(d)));
-    // The column x + 1 - base leaves the row on the right at x = 4.
-    let last = [0, 0, 1, 1, 0];
-    check_row(
-        &last,
-        &matched,
-        &values,
-        &values,
-        span_of(-1, 2)?,
-        &mut into,
-    );
-    assert!(rt; into == [Some(0), Some(0), Some(16), Some(16), None]);
-    // The column x - 2 - base leaves the row on the left at the first three.
-    check_row(&base, &matched, &values, &values, span_of(2, 2)?, &mut into);
-    assert!(rt; into == [None, None, None, Some(16), Some(16)]);
     Ok(())
 }

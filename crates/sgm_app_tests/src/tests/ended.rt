@@ -1,7 +1,7 @@
 //! Runs in memory, and what stands after them.
 
 use super::fixtures::words_of;
-use crate::run;
+use sgm_app::run;
 use sgm_io::{MemoryShelf, MemorySink, Shelf, Trip};
 use sgm_work::OpenGate;
 use std::alloc::{AllocError, Global};

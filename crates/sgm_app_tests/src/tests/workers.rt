@@ -2,7 +2,7 @@
 
 use super::ended::shelf_of;
 use super::fixtures::{SUMMARY, example, words_of};
-use crate::run;
+use sgm_app::run;
 use sgm_io::MemorySink;
 use sgm_work::Gate;
 use std::alloc::Global;

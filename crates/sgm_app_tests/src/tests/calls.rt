@@ -3,7 +3,7 @@
 use super::fixtures::{example, words_of};
 use super::recording::{RecordingShelf, RecordingSink};
 use super::trips::{Call, trips_of};
-use crate::run;
+use sgm_app::run;
 use sgm_io::{MemoryShelf, MemorySink};
 use sgm_work::OpenGate;
 use std::alloc::Global;

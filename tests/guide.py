@@ -1,0 +1,105 @@
+#!/usr/bin/env python3
+"""Runs all commands of docs/GUIDE.md, in their order.
+
+    tests/guide.py [--keep FOLDER]
+
+The commands are those that stand between ```sh and ```; they are run as they stand from the top of the
+repository, with `./sgm` being the program that the variable SGM names (./sgm itself without it), and /tmp/survey
+and /tmp/heap being in a new folder. Each has to end with 0 and to write the files that it names, and the grid
+in metres has to be the survey's. Other blocks that begin with ``` show files and what is printed. Needs what the
+tools need, and GDAL. Takes a minute.
+"""
+
+import argparse
+import json
+import os
+import re
+import shutil
+import subprocess
+import sys
+import tempfile
+
+TOP = os.path.realpath(os.path.join(os.path.dirname(os.path.abspath(__file__)), ".."))
+GUIDE = os.path.join(TOP, "docs", "GUIDE.md")
+BLOCK = re.compile(r"^```sh\n(.*?)^```$", re.M | re.S)
+# The folders of the guide.
+FOLDERS = ("/tmp/survey", "/tmp/heap")
+
+
+def commands(text):
+    """The commands of the guide: lines, with those that they go on with."""
+    for block in BLOCK.findall(text):
+        for command in block.replace("\\\n", " ").splitlines():
+            if command.strip():
+                yield re.sub(" +", " ", command)
+
+
+def put_into(folder, command):
+    """The command on this folder's files."""
+    for name in FOLDERS:
+        command = re.sub(re.escape(name) + r"(?![\w-])", os.path.join(folder, os.path.basename(name)), command)
+    return re.sub(r"^\./sgm(?= )", '"$SGM"', command)
+
+
+def written(command, folder):
+    """The files of the folder that a command names, which are there after it."""
+    names = re.findall(re.escape(folder) + r"/[\w./-]+\.\w+", command)
+    return [name for name in names if not os.path.exists(name) or not os.path.getsize(name)]
+
+
+def run(folder, environment):
+    """How many commands there are, and the first one that failed with what it said, or None."""
+    with open(GUIDE, encoding="utf-8") as file:
+        given = list(commands(file.read()))
+    for number, command in enumerate(given):
+        mine = put_into(folder, command)
+        words = ["bash", "-eu", "-o", "pipefail", "-c", mine]
+        done = subprocess.run(words, cwd=TOP, env=environment, stdin=subprocess.DEVNULL, capture_output=True, text=True)
+        missing = written(mine, folder)
+        if done.returncode or missing:
+            said = done.stderr or f"{', '.join(missing)}: not there or empty"
+            return number, f"{command}\nends with {done.returncode}\n{said}"
+        print(f"ran  {command}", flush=True)
+    return len(given), None
+
+
+def metres_fault(folder):
+    """What is wrong with the grid in metres: its corners, and its lowest and highest height; None where nothing is."""
+    words = ["gdalinfo", "-json", "-mm", os.path.join(folder, "survey", "heap.tif")]
+    found = json.loads(subprocess.run(words, capture_output=True, check=True).stdout)
+    band, corners = found["bands"][0], found["cornerCoordinates"]
+    with open(os.path.join(folder, "survey", "heap.asc"), encoding="ascii") as file:
+        numbers = file.read().split()
+    cols, rows, west, south, cell, empty = map(int, numbers[1:12:2])
+    heights = [int(word) for word in numbers[12:] if int(word) != empty]
+    wanted = [west, south + rows * cell, west + cols * cell, south, min(heights), max(heights)]
+    got = [*corners["upperLeft"], *corners["lowerRight"], band["computedMin"], band["computedMax"]]
+    # gdalinfo gives the lowest and the highest with three decimals.
+    near = [abs(a * 1e6 - b) < limit for a, b, limit in zip(got, wanted, [1, 1, 1, 1, 501, 501])]
+    return None if all(near) else f"the grid in metres has {got}, not {wanted} micrometres"
+
+
+def main():
+    parser = argparse.ArgumentParser(description=__doc__.split("\n\n")[0], epilog="Example: tests/guide.py")
+    parser.add_argument("--keep", metavar="FOLDER", help="a folder for the files, which is kept")
+    words = parser.parse_args()
+    program = os.path.realpath(os.environ.get("SGM", os.path.join(TOP, "sgm")))
+    if words.keep:
+        os.makedirs(words.keep, exist_ok=True)
+    folder = os.path.realpath(words.keep) if words.keep else tempfile.mkdtemp(prefix="sgm-guide.")
+    try:
+        count, fault = run(folder, {**os.environ, "SGM": program})
+        fault = fault or metres_fault(folder)
+    finally:
+        if not words.keep:
+            shutil.rmtree(folder)
+    if fault:
+        sys.exit(f"guide: {fault}")
+    # A guide without commands would pass for nothing.
+    if count < 10:
+        sys.exit(f"guide: {count} commands found in {GUIDE}")
+    print(f"guide: {count} commands run")
+
+
+if __name__ == "__main__":
+    main()

@@ -1,0 +1,151 @@
+#!/usr/bin/env bash
+# Runs the worked example with three strips and two workers, and refuses it memory: the first allocation in the
+# first run, the second one in the second, and so on, until a run takes none of that number. All workers count
+# together, so a number may fall to any of them. Each run has to end Done, with the files and the summary whole;
+# or out of memory, with its line and status, nothing on standard output, and each file as it was, but for outputs
+# up to one: those before that one whole, and that one the beginning of its text. All is tried twice, over a folder
+# without outputs and over one with older ones. The program is the one that the variable SGM names (./sgm of this
+# repository without it); gcc builds the library that refuses, which takes the place of the C library's calls.
+#
+#     tests/refused_allocations.sh
+set -u
+# shellcheck source-path=SCRIPTDIR source=common.sh
+. "$(dirname "$0")/common.sh"
+has gcc || skip gcc gcc
+need_program
+# The program itself, since the launcher is a script, which takes memory too.
+program=$SGM
+[ "$program" = "$top/sgm" ] && program=$top/crates/sgm_cli/out/sgm_cli
+if ! head -c 4 "$program" | grep -q ELF; then
+    echo "refused_allocations: skipped: $program is no built program"
+    exit 0
+fi
+most=100000 failed=0
+line='sgm: no memory' summary='valid 15 of 15'
+outputs=(o.pgm o.asc o.csv)
+
+cat >"$work/refuse.c" <<'C'
+#include <errno.h>
+#include <fcntl.h>
+#include <stdatomic.h>
+#include <stddef.h>
+#include <stdlib.h>
+#include <unistd.h>
+
+extern void *__libc_malloc(size_t);
+extern void *__libc_calloc(size_t, size_t);
+extern void *__libc_realloc(void *, size_t);
+extern void *__libc_memalign(size_t, size_t);
+
+static atomic_ulong calls;
+static unsigned long refused;
+static const char *mark;
+
+/* What the loader takes before the program stands isn't counted. */
+__attribute__((constructor)) static void begin(void) {
+    const char *number = getenv("REFUSED_ALLOCATION");
+    mark = getenv("REFUSED_MARK");
+    refused = number ? strtoul(number, NULL, 10) : 0;
+}
+
+/* Whether this allocation is the one to refuse; then the file of the mark is made. */
+static int refuses(void) {
+    if (refused == 0 || atomic_fetch_add(&calls, 1) + 1 != refused)
+        return 0;
+    if (mark)
+        close(open(mark, O_WRONLY | O_CREAT, 0600));
+    errno = ENOMEM;
+    return 1;
+}
+
+void *malloc(size_t size) { return refuses() ? NULL : __libc_malloc(size); }
+void *calloc(size_t count, size_t size) { return refuses() ? NULL : __libc_calloc(count, size); }
+void *realloc(void *old, size_t size) { return refuses() ? NULL : __libc_realloc(old, size); }
+void *memalign(size_t unit, size_t size) { return refuses() ? NULL : __libc_memalign(unit, size); }
+void *aligned_alloc(size_t unit, size_t size) { return memalign(unit, size); }
+int posix_memalign(void **into, size_t unit, size_t size) {
+    void *block = memalign(unit, size);
+    if (!block)
+        return ENOMEM;
+    *into = block;
+    return 0;
+}
+C
+gcc -O2 -shared -fPIC -o "$work/refuse.so" "$work/refuse.c" || exit 1
+
+# begin FOLDER [TEXT]: a folder with the example, and outputs of that text.
+begin() {
+    rm -rf "$1" && mkdir "$1" && cp "$top"/crates/sgm_cli/data/{l.pgm,r.pgm,c.json} "$1" || exit 1
+    [ $# = 1 ] || for file in "${outputs[@]}"; do echo "$2" >"$1/$file"; done
+}
+
+# is_beginning FILE WHOLE: whether the file holds the beginning of the whole one, perhaps all of it.
+is_beginning() { [ -f "$1" ] && [ "$(stat -c %s "$1")" -le "$(stat -c %s "$2")" ] && cmp -s -n "$(stat -c %s "$1")" "$1" "$2"; }
+
+# same ONE OTHER: whether both files are the same, or neither is there.
+same() { if [ -e "$1" ]; then cmp -s "$1" "$2"; else [ ! -e "$2" ]; fi; }
+
+# stopped: whether the files in made are those of a run that stopped at some output, or before all.
+stopped() {
+    local at=0
+    while [ $at -lt 3 ] && cmp -s "made/${outputs[at]}" "whole/${outputs[at]}" && ! same "made/${outputs[at]}" "before/${outputs[at]}"; do
+        at=$((at + 1))
+    done
+    [ $at = 3 ] && return
+    same "made/${outputs[at]}" "before/${outputs[at]}" || is_beginning "made/${outputs[at]}" "whole/${outputs[at]}" || return
+    while at=$((at + 1)) && [ $at -lt 3 ]; do same "made/${outputs[at]}" "before/${outputs[at]}" || return; done
+}
+
+is_done() { [ "$status" = 0 ] && diff -r whole made >/dev/null && [ "$(cat out)" = "$summary" ] && [ ! -s err ]; }
+
+# The run in made, whose memory is refused at this number, if one is given. Sets status.
+run() {
+    (cd made && env ${1:+LD_PRELOAD="$work/refuse.so"} REFUSED_ALLOCATION="${1-}" REFUSED_MARK="$work/mark" \
+        "$program" match l.pgm r.pgm c.json o strips=3 workers=2 >"$work/out" 2>"$work/err" </dev/null)
+    status=$?
+}
+
+wrong() {
+    failed=$((failed + 1))
+    echo "refused_allocations: allocation $number, $what: $1"
+    cp -r made "$work/out" "$work/err" "$(mktemp -d "${TMPDIR:-/tmp}/sgm-refused_allocations.$number.XXXXXX")"
+}
+
+cd "$work" || exit 1
+begin made && run && mv made whole || exit 1
+if [ "$status" != 0 ] || [ "$(cat out)" != "$summary" ] || [ ! -s whole/o.csv ]; then
+    echo "refused_allocations: the worked example ends with $status: $(cat err)" >&2
+    exit 1
+fi
+count=0 without=0 with=0
+for what in "no older outputs" "older outputs"; do
+    for ((number = 1; number <= most; number++)); do
+        rm -rf before mark
+        if [ "$what" = "older outputs" ]; then begin made older; else begin made; fi
+        cp -r made before
+        run "$number"
+        [ -e mark ] || break
+        case $status in
+        0)
+            with=$((with + 1))
+            is_done || wrong "done, and not whole"
+            ;;
+        6)
+            without=$((without + 1))
+            printf '%s\n' "$line" | cmp -s - err || wrong "standard error has '$(cat err)'"
+            [ ! -s out ] || wrong "standard output has '$(cat out)'"
+            for file in l.pgm r.pgm c.json; do same "made/$file" "before/$file" || wrong "$file changed"; done
+            [ -z "$(comm -13 <(ls whole) <(ls made))" ] || wrong "another file came"
+            stopped || wrong "the outputs are neither as before nor those of a run that stopped"
+            ;;
+        *) wrong "status $status, '$(cat err)'" ;;
+        esac
+    done
+    # A run that takes none of the number is as any other.
+    is_done || wrong "none was refused, and it isn't done"
+    count=$((count + number - 1))
+    counts=${counts:+$counts and }$((number - 1))
+done
+[ "$count" -gt 0 ] || { echo "refused_allocations: no allocation was refused" && exit 1; }
+echo "refused_allocations: $counts allocations, each refused in a run of its own: $with runs done, $without out of memory, $failed wrong"
+[ "$failed" = 0 ]

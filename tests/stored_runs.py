@@ -1,0 +1,124 @@
+#!/usr/bin/env python3
+"""Holds the stored whole runs (the cases `run` of crates/sgm_cases/stdin) against the reference.
+
+    tests/stored_runs.py [--write]
+
+Each case names words and files, and its answer says the status, the three outputs and both streams; the form
+is that of crates/sgm_cases/src/run.rt. Cases in which a call or a stream fails are passed over, since the
+reference has no such devices. With --write what differs is replaced by the reference's answer: the answers are
+never taken from the program. Takes about a minute.
+"""
+
+import argparse
+import os
+import re
+import subprocess
+import sys
+import tempfile
+
+import reference
+from test_reference import WORKED
+
+STORED = os.path.join(os.path.dirname(os.path.abspath(__file__)), "..", "crates", "sgm_cases", "stdin")
+OUTPUTS = ("o.pgm", "o.asc", "o.csv")
+# The most bytes of a file that an answer shows.
+ROOM = 4096
+ESCAPE = re.compile(rb"\\(?:x(..)|\*(\d+):((?:[^\\]|\\[^*.])*)\\\.|(.))", re.S)
+PLAIN = {b"n": b"\n", b"r": b"\r", b"t": b"\t"}
+
+
+def unescaped(text):
+    """The bytes that a text in one line stands for."""
+
+    def replaced(found):
+        byte, copies, piece, letter = found.groups()
+        if byte:
+            return bytes([int(byte, 16)])
+        return int(copies) * unescaped(piece) if copies else PLAIN.get(letter, letter)
+
+    return ESCAPE.sub(replaced, text)
+
+
+def quoted(data):
+    def shown(byte):
+        if byte in b"\n\\":
+            return "\\n" if byte == 10 else "\\\\"
+        return chr(byte) if 32 <= byte < 127 else f"\\x{byte:02x}"
+
+    return '"' + "".join(map(shown, data)) + '"'
+
+
+def given(case):
+    """The words and the files of a case, and what an absent file shows; None where a call or a stream fails."""
+    words, *fields = case.removeprefix("run").removeprefix(" ").split(" ; ")
+    files, absent = dict(WORKED), "absent"
+    for field in fields:
+        kind, _, rest = field.partition(" ")
+        if kind == "file":
+            name, _, text = rest.partition(" ")
+            files[name] = unescaped(text.encode())
+        elif kind == "sure":
+            # On a shelf where nothing fails every name is held.
+            absent = quoted(b"")
+        else:
+            return None
+    return words.split(" ") if words else [], files, absent
+
+
+def answer(words, files, absent):
+    """How the reference ends on them, in the form of the stored answers."""
+    with tempfile.TemporaryDirectory(prefix="sgm-stored_runs.") as folder:
+        for name, data in files.items():
+            with open(os.path.join(folder, name), "wb") as file:
+                file.write(data)
+        command = [sys.executable, os.path.abspath(reference.__file__), *words]
+        done = subprocess.run(command, cwd=folder, capture_output=True)
+        parts = [str(done.returncode)]
+        for name in OUTPUTS:
+            path, shown = os.path.join(folder, name), absent
+            if os.path.exists(path):
+                with open(path, "rb") as file:
+                    data = file.read()
+                shown = quoted(data) if len(data) <= ROOM else "too long"
+            parts.append(f"{name} {shown}")
+    return " | ".join([*parts, f"out {quoted(done.stdout)}", f"err {quoted(done.stderr)}"])
+
+
+def hold(is_writing):
+    with open(STORED, encoding="utf-8", newline="") as file:
+        lines = file.read().split("\n")
+    same, passed_over, differ = 0, 0, []
+    for at in range(0, len(lines) - 1, 2):
+        if not re.match("run( |$)", lines[at]):
+            continue
+        case = given(lines[at])
+        if case is None:
+            passed_over += 1
+            continue
+        made = answer(*case)
+        if made == lines[at + 1]:
+            same += 1
+            continue
+        differ.append(at + 1)
+        lines[at + 1] = made
+    if is_writing and differ:
+        with open(STORED, "w", encoding="utf-8", newline="") as file:
+            file.write("\n".join(lines))
+    for number in differ:
+        print(f"stored_runs: line {number}: " + ("written anew" if is_writing else "the reference ends otherwise"))
+    print(f"stored_runs: {same} the same, {len(differ)} different, {passed_over} with devices that fail passed over")
+    return 1 if differ and not is_writing else 0
+
+
+def main():
+    parser = argparse.ArgumentParser(description=__doc__.split("\n\n")[0], epilog="Example: tests/stored_runs.py")
+    parser.add_argument("--write", action="store_true", help="put the reference's answer where another one stands")
+    words = parser.parse_args()
+    try:
+        return hold(words.write)
+    except OSError as error:
+        sys.exit(f"stored_runs: {error}")
+
+
+if __name__ == "__main__":
+    sys.exit(main())

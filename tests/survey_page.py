@@ -1,0 +1,376 @@
+#!/usr/bin/env python3
+"""Tries the page of tools/survey_page.py in a real browser, headless Chromium (Debian: chromium, chromium-driver,
+python3-selenium).
+
+    tests/survey_page.py [--screenshot FILE.png]
+
+The page is that of examples/stockpile/expected. Rectangles are drawn with the mouse, moved by keys and picked by
+their names; bases are typed and taken from the mean of the ground. What the page counts is compared with OUT.csv
+and with what this script counts in OUT.asc, digit by digit. Pages of other surveys have to warn of what is wrong
+with them. Nothing may be fetched, and the browser may not complain. Without --screenshot the picture goes into a
+new file, whose name is printed. Takes half a minute.
+"""
+
+import argparse
+import json
+import os
+import shutil
+import sys
+import tempfile
+
+HERE = os.path.dirname(os.path.abspath(__file__))
+TOP = os.path.dirname(HERE)
+HEAP = os.path.join(TOP, "examples", "stockpile")
+sys.path.insert(0, os.path.join(TOP, "tools"))
+
+import sgm_files
+import survey_page
+from sgm_files import Wrong, numpy
+
+webdriver = sgm_files.package("selenium.webdriver")
+EMPTY = -(2**31)
+SIZE = (1280, 1180)
+
+
+def browser():
+    """Chromium without a window."""
+    from selenium.common.exceptions import WebDriverException
+    from selenium.webdriver.chrome.service import Service
+
+    options = webdriver.ChromeOptions()
+    options.binary_location = "/usr/bin/chromium"
+    options.set_capability("goog:loggingPrefs", {"browser": "ALL"})
+    # A process of root has no sandbox of Chromium's; a page without network needs none.
+    for word in ("--headless=new", "--no-sandbox", "--disable-gpu", f"--window-size={SIZE[0]},{SIZE[1]}"):
+        options.add_argument(word)
+    try:
+        return webdriver.Chrome(options=options, service=Service("/usr/bin/chromedriver"))
+    except WebDriverException as error:
+        raise Wrong(f"Chromium doesn't start: {error.msg}")
+
+
+class Page:
+    """The page in the browser, and what a person does there."""
+
+    def __init__(self, driver, name):
+        self.driver = driver
+        driver.get("file://" + name)
+
+    def element(self, key):
+        return self.driver.find_element("id", key)
+
+    def exact(self, key):
+        text = self.element(key).get_attribute("data-exact")
+        return None if text is None else int(text)
+
+    def shown(self):
+        """What is counted, under the names of the report."""
+        return {key: self.exact(key) for key in sgm_files.REPORT_NAMES[1:]}
+
+    def place(self, col, row):
+        """Where the middle of a shown cell is in the window."""
+        script = """const at = new DOMPoint(arguments[0] + .5, arguments[1] + .5)
+            .matrixTransform(document.getElementById("map").getScreenCTM()); return [at.x, at.y];"""
+        return [round(part) for part in self.driver.execute_script(script, col, row)]
+
+    def draw(self, first, last):
+        """Drags the mouse from one cell to another."""
+        from selenium.webdriver.common.actions.action_builder import ActionBuilder
+
+        self.driver.execute_script('document.getElementById("map").scrollIntoView({block: "center"})')
+        actions = ActionBuilder(self.driver)
+        mouse = actions.pointer_action
+        mouse.move_to_location(*self.place(*first)).pointer_down()
+        # By way of another cell, as a hand goes.
+        mouse.move_to_location(*self.place(first[0], last[1])).move_to_location(*self.place(*last)).pointer_up()
+        actions.perform()
+
+    def keys(self, *keys):
+        from selenium.webdriver.common.keys import Keys
+
+        held, keys = [getattr(Keys, key) for key in keys[:-1]], getattr(Keys, keys[-1])
+        chain = webdriver.ActionChains(self.driver)
+        for key in held:
+            chain.key_down(key)
+        chain.send_keys(keys)
+        for key in held:
+            chain.key_up(key)
+        chain.perform()
+
+    def type(self, key, text):
+        from selenium.webdriver.common.keys import Keys
+
+        self.element(key).send_keys(Keys.CONTROL, "a")
+        self.element(key).send_keys(text)
+
+    def region(self):
+        """The line for the calibration."""
+        return json.loads(self.element("json").get_attribute("value"))
+
+    def warnings(self, key="warnings"):
+        return [it.text for it in self.element(key).find_elements("tag name", "li")]
+
+    def fetched(self):
+        script = "return performance.getEntriesByType('resource').map((it) => it.name)"
+        return [name for name in self.driver.execute_script(script) if not name.startswith("data:")]
+
+
+def counted(grid, region, base):
+    """A line of the report, counted here, and the mean of the heights."""
+    rows, cols = (slice(region[key], region[key] + region[key + "s"]) for key in ("row", "col"))
+    heights = [int(it) for it in grid.heights[rows, cols][grid.filled[rows, cols]]]
+    area = grid.cell**2
+    line = {"cells": len(heights), "empty": region["rows"] * region["cols"] - len(heights)}
+    line["fill"] = sum(height - base for height in heights if height > base) * area
+    line["cut"] = sum(base - height for height in heights if height < base) * area
+    line |= {"lowest": min(heights, default=None), "highest": max(heights, default=None)}
+    return line, (2 * sum(heights) + len(heights)) // (2 * len(heights)) if heights else None
+
+
+class Checks:
+    def __init__(self):
+        self.passed, self.failed = 0, 0
+
+    def equal(self, what, found, wanted):
+        if found == wanted:
+            self.passed += 1
+            return
+        self.failed += 1
+        print(f"survey_page: {what}: {found!r}, not {wanted!r}")
+
+    def has(self, what, lines, part):
+        self.equal(what + f" ({part})", any(part in line for line in lines), True)
+
+
+def corners(region):
+    first = (region["col"], region["row"])
+    return first, (region["col"] + region["cols"] - 1, region["row"] + region["rows"] - 1)
+
+
+def try_mouse(page, check, grid, regions, report):
+    """Each region of the calibration, drawn: the report's numbers, and the calibration's line."""
+    for region, line in zip(regions, report):
+        page.draw(*corners(region))
+        page.type("base", sgm_files.decimal(region["base"], 6))
+        page.type("name", region["name"])
+        check.equal(f"{region['name']} drawn", page.shown(), {key: line[key] for key in page.shown()})
+        check.equal(f"{region['name']}'s line", page.region(), region)
+        numbers = " ".join(str(region[key]) for key in ("col", "row", "cols", "rows", "base"))
+        words = page.element("words").get_attribute("value")
+        check.equal(f"{region['name']}'s words", words, f"--region {region['name']} {numbers}")
+        # From the other corner it is the same rectangle.
+        page.draw(*reversed(corners(region)))
+        check.equal(f"{region['name']} drawn backwards", page.region(), region)
+
+
+def try_names(page, check, regions, report):
+    buttons = page.driver.find_elements("css selector", "#regions button")
+    check.equal("names of the regions", [it.text for it in buttons], [region["name"] for region in regions])
+    for button, region, line in zip(buttons, regions, report):
+        button.click()
+        check.equal(f"{region['name']} picked", page.shown(), {key: line[key] for key in page.shown()})
+        check.equal(f"{region['name']}'s base", page.region(), region)
+
+
+def try_bases(page, check, grid, regions):
+    """A base that is typed, one that can't be, and one from the ground's mean."""
+    pile, ground = regions[:2]
+    page.draw(*corners(pile))
+    for text, base in (("1.234567", 1234567), ("-0,5", -500000), ("2000", 2000000000)):
+        page.type("base", text)
+        check.equal(f"base {text}", page.shown(), counted(grid, pile, base)[0])
+    before = page.shown()
+    for text in ("2000.1", "x", " "):
+        page.type("base", text)
+        check.equal(f"base {text!r} is marked", page.element("base").get_attribute("aria-invalid"), "true")
+        check.equal(f"base {text!r} counts nothing", page.shown(), before)
+    page.type("base", "1.2345678")
+    check.equal("a seventh decimal is marked", page.element("base").get_attribute("aria-invalid"), "true")
+    # A piece of the slope, whose mean isn't a round number.
+    for taken in (ground, {**pile, "col": pile["col"] + 20, "cols": 9, "rows": 31}):
+        page.draw(*corners(taken))
+        page.element("ground").click()
+        line, mean = counted(grid, taken, 0)
+        check.equal("mean", page.exact("mean"), mean)
+        check.equal("base from the mean", page.region()["base"], mean)
+        page.draw(*corners(pile))
+        check.equal("pile over that base", page.shown(), counted(grid, pile, mean)[0])
+    return mean
+
+
+def try_keys(page, check, grid):
+    page.type("base", "0")
+    page.draw((40, 30), (49, 39))
+    wanted = {"col": 40, "row": 30, "cols": 10, "rows": 10}
+    for keys, change in (
+        (("ARROW_RIGHT",), {"col": 41}),
+        (("ARROW_DOWN",), {"row": 31}),
+        (("CONTROL", "ARROW_LEFT"), {"col": 31}),
+        (("SHIFT", "ARROW_RIGHT"), {"cols": 11}),
+        (("SHIFT", "ARROW_UP"), {"rows": 9}),
+        (("CONTROL", "SHIFT", "ARROW_DOWN"), {"rows": 19}),
+        (("ARROW_UP",), {"row": 30}),
+    ):
+        page.keys(*keys)
+        wanted |= change
+        check.equal(" ".join(keys), {key: page.region()[key] for key in wanted}, wanted)
+        check.equal(" ".join(keys) + " counts", page.shown(), counted(grid, wanted, 0)[0])
+    for key, number in (("col", 3), ("rows", 60)):
+        page.type(key, str(number))
+        wanted[key] = number
+    check.equal("typed", {key: page.region()[key] for key in wanted}, wanted)
+    check.equal("typed counts", page.shown(), counted(grid, wanted, 0)[0])
+
+
+# Surveys that are made up
+
+
+def write_survey(folder, name, heights, regions, report=None):
+    """OUT.pgm, OUT.asc and OUT.csv of a grid of cells of 0.5 m, 5 m below cameras whose step there is 0.1 m."""
+    heights, out = numpy.array(heights, numpy.int64), os.path.join(folder, name)
+    rows, cols = heights.shape
+    calibration = {
+        "disparities": {"first": 10, "count": 20},
+        "camera": {"focal": 128000, "baseline": 500000, "cx": 0, "cy": 0, "doffs": 0, "mount": 5000000},
+        "grid": {"west": 0, "south": -1000000, "cell": 500000, "cols": cols, "rows": rows},
+        "regions": regions,
+    }
+    with open(out + ".asc", "w") as file:
+        file.write(f"ncols {cols}\nnrows {rows}\nxllcorner 0\nyllcorner -1000000\ncellsize 500000\n")
+        file.write(f"NODATA_value {EMPTY}\n")
+        file.write("".join(" ".join(map(str, row)) + "\n" for row in heights))
+    grid = sgm_files.read_grid(out + ".asc")
+    with open(out + ".csv", "w") as file:
+        file.write(",".join(sgm_files.REPORT_NAMES) + "\n")
+        for region in regions:
+            line = report or counted(grid, region, region["base"])[0]
+            words = [region["name"], *("" if value is None else value for value in line.values())]
+            file.write(",".join(map(str, words)) + "\n")
+    samples = numpy.full((10, 10), 160, ">u2")
+    samples[0, :5] = 16
+    with open(out + ".pgm", "wb") as file:
+        file.write(b"P5\n10 10\n65535\n" + samples.tobytes())
+    return out, calibration, grid
+
+
+def page_of(driver, out, calibration):
+    name = out + ".html"
+    with open(name, "w", encoding="utf-8") as file:
+        file.write(survey_page.page("a <title> & more", survey_page.survey(out, calibration, None)))
+    return Page(driver, name)
+
+
+def region_of(name, grid_rows, grid_cols, base=0):
+    return {"name": name, "col": 0, "row": 0, "cols": grid_cols, "rows": grid_rows, "base": base}
+
+
+def try_warnings(driver, check, folder):
+    flat = numpy.full((20, 30), 1000)
+    region = region_of("ground", 20, 30)
+    found = page_of(driver, *write_survey(folder, "flat", flat, [region])[:2]).warnings()
+    check.equal("warnings of flat ground", len(found), 1)
+    check.has("the span", found, "5.0 % of the disparities are the least one, 10")
+    slope = flat + 20000 * numpy.arange(30)
+    found = page_of(driver, *write_survey(folder, "slope", slope, [region])[:2]).warnings()
+    check.has("a slope", found, "ground: the ground slopes: it rises by 0.600 m to the east and 0.000 m to the north")
+    # The same as a heap: only ground has to be flat.
+    heap = region_of("heap", 20, 30)
+    found = page_of(driver, *write_survey(folder, "heap", slope, [heap])[:2]).warnings()
+    check.equal("warnings of a heap that slopes", len(found), 1)
+    spike = flat.copy()
+    spike[7, 11] = 1800000
+    found = page_of(driver, *write_survey(folder, "spike", spike, [heap])[:2]).warnings()
+    check.has("a spike", found, "heap: the highest cell (column 11, row 7) stands 1.799 m above its neighbours")
+    holes = flat.copy()
+    holes[:, 3:6] = EMPTY
+    found = page_of(driver, *write_survey(folder, "holes", holes, [heap])[:2]).warnings()
+    check.has("holes", found, "heap: 10.0 % of the cells are empty (60 of 600): their volume is missing")
+    other = {"cells": 600, "empty": 0, "fill": 1, "cut": 0, "lowest": 1000, "highest": 1000}
+    found = page_of(driver, *write_survey(folder, "other", flat, [heap], other)[:2]).warnings()
+    check.has("another report", found, "heap: OUT.csv says something else than the cells of OUT.asc")
+
+
+def try_large_numbers(driver, check, folder):
+    """The highest and the lowest that can be, in cells of half a metre: sums far above 2^53."""
+    heights = numpy.full((40, 50), 1999999999)
+    heights[::2, ::3] = -1999999997
+    region = region_of("all", 40, 50, -2000000000)
+    out, calibration, grid = write_survey(folder, "large", heights, [region])
+    page = page_of(driver, out, calibration)
+    check.equal("title", (driver.title, page.driver.find_element("tag name", "h1").text), 2 * ("a <title> & more",))
+    line, mean = counted(grid, region, region["base"])
+    check.equal("large numbers", (page.shown(), page.exact("mean")), (line, mean))
+    page.element("digits").click()
+    text = page.element("fill").text
+    check.equal("every digit", text.split(" ")[0], sgm_files.decimal(line["fill"], 18))
+
+
+def try_reduced(driver, check, folder):
+    heights = numpy.arange(11 * 9).reshape(11, 9) * 1000
+    region = {"name": "a", "col": 4, "row": 2, "cols": 5, "rows": 9, "base": 0}
+    out, calibration, _ = write_survey(folder, "reduced", heights, [region])
+    most, survey_page.MOST_CELLS = survey_page.MOST_CELLS, 30
+    try:
+        page = page_of(driver, out, calibration)
+    finally:
+        survey_page.MOST_CELLS = most
+    check.has("reduced", [page.element("scale").text], "each cell here is the highest of 2 x 2")
+    wanted = {key: region[key] for key in ("col", "row", "cols", "rows")}
+    check.equal("its region", {key: page.region()[key] for key in wanted}, wanted)
+    page.draw((0, 0), (0, 0))
+    # The highest of rows 0 and 1, columns 0 and 1, is 10 * 1000.
+    check.equal("a block", (page.exact("highest"), page.region()["cols"]), (10000, 2))
+    page.draw((4, 5), (4, 5))
+    check.equal("the last block", (page.exact("highest"), page.region()["rows"]), (98000, 1))
+
+
+def run(screenshot, folder):
+    check = Checks()
+    with open(os.path.join(HEAP, "calibration.json")) as file:
+        calibration = json.load(file)
+    for ending in ("pgm", "asc", "csv"):
+        shutil.copy(os.path.join(HEAP, "expected", f"out.{ending}"), os.path.join(folder, f"heap.{ending}"))
+    out, left = os.path.join(folder, "heap"), os.path.join(HEAP, "left.pgm")
+    known = survey_page.survey(out, calibration, left)
+    with open(out + ".html", "w", encoding="utf-8") as file:
+        file.write(survey_page.page("The stockpile", known))
+    grid, report = sgm_files.read_grid(out + ".asc"), sgm_files.read_report(out + ".csv")
+    regions = calibration["regions"]
+    driver = browser()
+    try:
+        page = Page(driver, out + ".html")
+        check.equal("title", driver.title, "The stockpile")
+        # The whole picture, as it stands when it is opened.
+        driver.save_screenshot(screenshot)
+        try_names(page, check, regions, report)
+        try_mouse(page, check, grid, regions, report)
+        try_bases(page, check, grid, regions)
+        try_keys(page, check, grid)
+        check.equal("fetched", page.fetched(), [])
+        try_warnings(driver, check, folder)
+        try_large_numbers(driver, check, folder)
+        try_reduced(driver, check, folder)
+        check.equal("the browser's complaints", driver.get_log("browser"), [])
+    finally:
+        driver.quit()
+    return check
+
+
+def main():
+    epilog = "Example: tests/survey_page.py --screenshot /tmp/page.png"
+    parser = argparse.ArgumentParser(description=__doc__.split("\n\n")[0], epilog=epilog)
+    parser.add_argument("--screenshot", metavar="FILE.png", help="where the picture goes")
+    words = parser.parse_args()
+    sgm_files.need(numpy=numpy, PIL=sgm_files.Image, selenium=webdriver)
+    screenshot = words.screenshot
+    if screenshot is None:
+        made, screenshot = tempfile.mkstemp(prefix="sgm-survey_page.", suffix=".png")
+        os.close(made)
+    with tempfile.TemporaryDirectory(prefix="sgm-survey_page.") as folder:
+        check = run(os.path.abspath(screenshot), folder)
+    print(f"survey_page: {check.passed} passed, {check.failed} failed; {screenshot}")
+    return 1 if check.failed else 0
+
+
+if __name__ == "__main__":
+    sgm_files.run(main)

@@ -1,0 +1,52 @@
+#!/usr/bin/env python3
+"""Turns a photograph into the grey picture (binary PGM) that sgm reads.
+
+    tools/photo_to_pgm.py photo.jpg --out left.pgm [--shrink 2]
+
+Reads whatever Pillow does: JPEG, PNG, TIFF and more. The picture is turned as its EXIF says that it is to be
+seen, as tools/calibrate_pair.py does with those of the chessboard, so both are turned alike. --shrink N makes
+each square of N x N pixels one pixel, their mean: a photograph of more than 4096 pixels a side needs it, and
+the pictures of the chessboard then have to be shrunk alike, before calibrating. Needs numpy and Pillow.
+"""
+
+import argparse
+
+import sgm_files
+from sgm_files import Image, Wrong, numpy
+
+LONGEST_SIDE = 4096
+
+
+def shrunk(grey, times):
+    """Means of squares of times x times pixels, halves up; what is left over at the sides falls away."""
+    height, width = (side // times for side in grey.shape)
+    if not height or not width:
+        raise Wrong(f"--shrink {times} leaves nothing of {grey.shape[1]} x {grey.shape[0]} pixels")
+    squares = grey[: height * times, : width * times].reshape(height, times, width, times)
+    return ((2 * squares.sum(axis=(1, 3), dtype=numpy.int64) + times**2) // (2 * times**2)).astype(numpy.uint8)
+
+
+def write_pgm(name, grey):
+    height, width = grey.shape
+    with open(name, "wb") as file:
+        file.write(f"P5\n{width} {height}\n255\n".encode() + grey.tobytes())
+
+
+def main():
+    epilog = "Example: tools/photo_to_pgm.py photo.jpg --out left.pgm --shrink 2"
+    parser = argparse.ArgumentParser(description=__doc__.split("\n\n")[0], epilog=epilog)
+    parser.add_argument("file", metavar="PHOTO", help="the photograph")
+    parser.add_argument("--out", required=True, metavar="FILE.pgm", help="the grey picture")
+    parser.add_argument("--shrink", type=int, default=1, choices=range(1, 17), metavar="N", help="1 to 16 (1)")
+    words = parser.parse_args()
+    sgm_files.need(numpy=numpy, PIL=Image)
+    grey = shrunk(sgm_files.read_grey(words.file), words.shrink)
+    if max(grey.shape) > LONGEST_SIDE:
+        least = -(-max(grey.shape) * words.shrink // LONGEST_SIDE)
+        raise Wrong(f"{words.file}: sgm takes up to {LONGEST_SIDE} pixels a side: --shrink {least}")
+    write_pgm(words.out, grey)
+    print(f"{grey.shape[1]} x {grey.shape[0]}")
+
+
+if __name__ == "__main__":
+    sgm_files.run(main)

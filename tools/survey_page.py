@@ -1,0 +1,214 @@
+#!/usr/bin/env python3
+"""Writes a survey as one page for a browser, which needs no network: heights, regions, volumes and warnings.
+
+    tools/survey_page.py OUT --calib calibration.json [--left left.pgm] [--out FILE.html]
+
+Reads OUT.pgm, OUT.asc and, where the calibration has regions, OUT.csv, and writes OUT.html. A rectangle drawn
+on the heights shows its lowest, mean and highest height, its empty cells, and fill and cut against a base that
+is typed or taken from the mean of another rectangle, counted exactly, and gives the line for the calibration's
+`regions`. The page warns of what the guide says to check: many empty cells, a highest cell far above its
+neighbours, disparities at the ends of the span, ground that slopes (in regions whose name begins with `ground`
+and in rectangles taken for the base). A grid of more than four million cells is shown reduced, and the page
+says so. Needs numpy and Pillow.
+"""
+
+import argparse
+import base64
+import html
+import json
+import os
+
+import heights_picture
+import sgm_files
+import stretch
+from sgm_files import Image, Wrong, numpy
+
+TEMPLATE = os.path.join(os.path.dirname(os.path.abspath(__file__)), "survey_page.html")
+MOST_CELLS = 4_000_000
+LONGEST_SIDE = 1600
+EMPTY = -(2**31)
+
+
+# The calibration
+
+
+def whole(top, *keys):
+    """The whole number that stands at these keys."""
+    value = top
+    for key in keys:
+        value = value.get(key) if isinstance(value, dict) else None
+    if isinstance(value, bool) or not isinstance(value, int):
+        raise Wrong(f"the calibration has no whole number at {'.'.join(keys)}")
+    return value
+
+
+def regions_in(calibration):
+    listed = calibration.get("regions", [])
+    if not isinstance(listed, list):
+        raise Wrong("the calibration's regions aren't a list")
+    if not all(isinstance(region, dict) for region in listed):
+        raise Wrong("a region of the calibration isn't an object")
+    return listed
+
+
+def regions_of(calibration, report):
+    """The regions with their lines of the report."""
+    listed = regions_in(calibration)
+    if [region.get("name") for region in listed] != [line["region"] for line in report]:
+        raise Wrong("the regions of the calibration aren't those of the report: is it the calibration of this survey?")
+    made = []
+    for region, line in zip(listed, report):
+        numbers = {key: whole(region, key) for key in ("col", "row", "cols", "rows", "base")}
+        # As text, since a browser's numbers aren't exact above 2^53.
+        line = {**line, "fill": str(line["fill"]), "cut": str(line["cut"])}
+        made.append({"name": region["name"], **numbers, "report": line})
+    return made
+
+
+def check_grid(calibration, grid):
+    """Stops where the calibration's grid isn't that of the heights."""
+    rows, cols = grid.heights.shape
+    theirs = [whole(calibration, "grid", key) for key in ("west", "south", "cell", "cols", "rows")]
+    if theirs != [grid.west, grid.south, grid.cell, cols, rows]:
+        raise Wrong("the calibration's grid isn't that of the heights: is it the calibration of this survey?")
+    for region in regions_in(calibration):
+        col, row, across, down = (whole(region, key) for key in ("col", "row", "cols", "rows"))
+        if not (0 <= col < cols and 0 <= row < rows and 1 <= across <= cols - col and 1 <= down <= rows - row):
+            raise Wrong("a region of the calibration sticks out of the grid")
+
+
+# Heights
+
+
+def block_of(rows, cols):
+    """The least number of cells that are taken together, on either side, so that few enough are shown."""
+    block = 1
+    while -(-rows // block) * -(-cols // block) > MOST_CELLS:
+        block += 1
+    return block
+
+
+def reduced(grid, block):
+    """The grid of the highest cells of blocks, which begin at the north-west."""
+    if block == 1:
+        return grid
+    rows, cols = (-(-side // block) for side in grid.heights.shape)
+    heights = numpy.full((rows * block, cols * block), EMPTY, numpy.int64)
+    heights[: grid.heights.shape[0], : grid.heights.shape[1]] = numpy.where(grid.filled, grid.heights, EMPTY)
+    highest = heights.reshape(rows, block, cols, block).max(axis=(1, 3))
+    south = grid.south - grid.cell * (rows * block - grid.heights.shape[0])
+    return sgm_files.Grid(grid.west, south, grid.cell * block, highest, highest != EMPTY)
+
+
+def heights_text(grid):
+    """The heights as 32 bits each, the least byte first, in base 64."""
+    if grid.filled.any() and abs(grid.heights[grid.filled]).max() > 2**31 - 1:
+        raise Wrong("heights beyond what sgm writes")
+    return text_of(numpy.where(grid.filled, grid.heights, EMPTY).astype("<i4").tobytes())
+
+
+# Pictures
+
+
+def text_of(data):
+    return base64.b64encode(data).decode("ascii")
+
+
+def picture_text(pixels, palette=None):
+    return "data:image/png;base64," + text_of(sgm_files.png_bytes(pixels, palette))
+
+
+def thinned(pixels):
+    """Every second, third .. pixel, so that a picture isn't larger than a screen."""
+    step = -(-max(pixels.shape[:2]) // LONGEST_SIDE)
+    return numpy.ascontiguousarray(pixels[::step, ::step])
+
+
+def left_text(name):
+    samples, most = sgm_files.read_pgm(name)
+    # Dark pictures are spread over all greys.
+    brightest = max(1, min(most, int(samples.max())))
+    return picture_text(thinned((samples.astype(numpy.int64) * 255 // brightest).astype(numpy.uint8)))
+
+
+def span_of(calibration, values, filled):
+    """The span, and how many disparities are the least or the greatest of it."""
+    first, count = whole(calibration, "disparities", "first"), whole(calibration, "disparities", "count")
+    found = values[filled]
+    return {
+        "first": first,
+        "count": count,
+        "pixels": values.size,
+        "valid": int(filled.sum()),
+        "least": int((found <= 0).sum()),
+        "greatest": int((found >= 16 * (count - 1)).sum()),
+    }
+
+
+# The page
+
+
+def survey(out, calibration, left):
+    """Everything that the page knows."""
+    grid = sgm_files.read_grid(out + ".asc")
+    check_grid(calibration, grid)
+    report = sgm_files.read_report(out + ".csv") if "regions" in calibration else []
+    regions = regions_of(calibration, report)
+    values, filled = sgm_files.read_disparities(out + ".pgm")
+    sgm_files.progress("drawing")
+    numbers, _ = stretch.stretched(values, filled)
+    rows, cols = grid.heights.shape
+    block = block_of(rows, cols)
+    shown = reduced(grid, block)
+    colours, _ = heights_picture.shaded(shown)
+    return {
+        "gridCols": cols,
+        "gridRows": rows,
+        "block": block,
+        "west": shown.west,
+        "south": shown.south,
+        "cell": shown.cell,
+        "cols": shown.heights.shape[1],
+        "rows": shown.heights.shape[0],
+        "camera": {key: whole(calibration, "camera", key) for key in ("focal", "baseline", "mount")},
+        "disparities": span_of(calibration, values, filled),
+        "regions": regions,
+        "map": picture_text(colours),
+        "disparityMap": picture_text(thinned(numbers), stretch.PALETTE),
+        "left": left_text(left) if left else None,
+        "heights": heights_text(shown),
+    }
+
+
+def page(title, known):
+    """The page's text. No `<` stands in the data, so nothing there can end them."""
+    with open(TEMPLATE, encoding="utf-8") as file:
+        text = file.read()
+    data = json.dumps(known, separators=(",", ":")).replace("<", "\\u003c")
+    return text.replace("@TITLE@", html.escape(title)).replace("@SURVEY@", data)
+
+
+def main():
+    epilog = "Example: tools/survey_page.py /tmp/heap --calib calibration.json --left left.pgm"
+    parser = argparse.ArgumentParser(description=__doc__.split("\n\n")[0], epilog=epilog)
+    parser.add_argument("survey", metavar="OUT", help="the last word of the match")
+    parser.add_argument("--calib", required=True, metavar="FILE.json", help="the calibration of that match")
+    parser.add_argument("--left", metavar="FILE.pgm", help="the left picture, to be shown too")
+    parser.add_argument("--out", metavar="FILE.html", help="the page (OUT.html)")
+    parser.add_argument("--title", metavar="TEXT", help="the heading (the name of OUT)")
+    words = parser.parse_args()
+    sgm_files.need(numpy=numpy, PIL=Image)
+    known = survey(words.survey, sgm_files.read_json(words.calib), words.left)
+    title = words.title or f"Survey {os.path.basename(words.survey)}"
+    name = words.out or words.survey + ".html"
+    sgm_files.progress(f"writing {name}")
+    text = page(title, known)
+    with open(name, "w", encoding="utf-8") as file:
+        file.write(text)
+    if known["block"] > 1:
+        print(f"shown reduced: the highest of {known['block']} x {known['block']} cells each")
+    print(f"{name}: {len(text) // 1000 + 1} kB")
+
+
+if __name__ == "__main__":
+    sgm_files.run(main)
