@@ -87,7 +87,7 @@ fn paths_of_keys(rt: HostRuntime) {
         (26, "warp.right.nodes", ""),
         (43, "regions[", "]"),
         (49, "regions[", "].base"),
-        (50, "", ""),
+        (255, "", ""),
     ] {
         let key = numbered(number);
         assert_eq!(rt; (key.front(), key.back()), (front, back), "{number}");

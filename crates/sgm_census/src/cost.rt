@@ -13,7 +13,8 @@ const INDICES: usize = MAX_COUNT as usize;
 /// Replaces by `greatest` the costs where there is no code.
 fn mask(present: &[bool], greatest: u8, into: &mut [u8])
     requires { length present.now ≡ length into.old }
-    ensures { EachIndex into.new (λ k. slice_index into.new k ≡ (if slice_index_or present.now k false then slice_index into.old k else greatest)) }
+    ensures { EachIndex into.new (λ k.
+        slice_index into.new k ≡ (if slice_index_or present.now k false then slice_index into.old k else greatest)) }
 {
     for i in 0..into.len() {
         let cost = into[i];
@@ -63,7 +64,8 @@ fn cost_pixel(
     requires whole { length into.old ≡ span.count }
     ensures { (d : ℕ) → d < span.count → slice_index into.new d
         ≡ cost_between greatest (unpacked greatest left.entry.words.now left.entry.present.now place)
-        (option_and_then (unpacked greatest right.entry.words.now right.entry.present.now) (left_column (length left.entry.words.now) span.first place d)) }
+        (option_and_then (unpacked greatest right.entry.words.now right.entry.present.now)
+        (left_column (length left.entry.words.now) span.first place d)) }
 {
     if !left.present[place] {
         into.fill(greatest);

@@ -11,6 +11,3 @@ mod window;
 pub use code_plane::{CodePlane, codes};
 pub use cost::cost_row;
 pub use window::Window;
-
-#[cfg(test)]
-mod tests;

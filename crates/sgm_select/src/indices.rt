@@ -80,7 +80,8 @@ fn places(len: usize, count: usize, shift: i64) -> Overlap
 fn lower(keys: &mut [u32], sums: &[u16], skipped: usize)
     requires same_length { length sums.now ≡ length keys.old }
     requires indices { skipped + length sums.now ≤ MAX_COUNT }
-    ensures { EachIndex keys.new (λ k. slice_index keys.new k ≡ min (slice_index keys.old k) (key_of (slice_index sums.now k) (skipped + k))) }
+    ensures { EachIndex keys.new (λ k.
+        slice_index keys.new k ≡ min (slice_index keys.old k) (key_of (slice_index sums.now k) (skipped + k))) }
 {
     for k in 0..keys.len() {
         keys[k] = keys[k].min(key(sums[k], skipped + k));

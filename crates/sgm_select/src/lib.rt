@@ -11,8 +11,3 @@ mod maps;
 pub use check::{check_row, sixteenths};
 pub use indices::{base_row, match_row};
 pub use maps::{join_strips, select, select_strip};
-
-#[cfg(test)]
-mod tests;
-#[cfg(test)]
-mod tests_check;

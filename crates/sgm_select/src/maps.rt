@@ -62,8 +62,10 @@ fn select_at(
     requires matches_length { length matches.old ≡ left.now.width }
     requires sums_length { length sums.now ≡ left.now.width * span.count }
     requires inside { (place + 1) * left.now.width ≤ length into.old }
-    ensures { (g : Problem) (top : ℕ) → g.count ≡ span.count → SuitsPlane g left.now → y ≡ top + place → HoldsRow g y (path_sum g) sums.now
-        → HoldsFrom g left.now right.now span.first top place into.old → HoldsFrom g left.now right.now span.first top (place + 1) into.new }
+    ensures { (g : Problem) (top : ℕ) → g.count ≡ span.count → SuitsPlane g left.now → y ≡ top + place
+        → HoldsRow g y (path_sum g) sums.now
+        → HoldsFrom g left.now right.now span.first top place into.old
+        → HoldsFrom g left.now right.now span.first top (place + 1) into.new }
 {
     let width = left.size().width as usize;
     let (_, rest) = into.split_at_mut(place as usize * width);

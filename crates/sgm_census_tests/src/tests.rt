@@ -1,8 +1,7 @@
 ghost use Rattle.std.specs.Prelude.{◌≡◌, IfOk};
 
-use super::{CodePlane, Window, codes, cost_row};
-use crate::code_plane::CodeRow;
 use sgm_base::{Plane, Size, Span};
+use sgm_census::{CodePlane, Window, codes, cost_row};
 use std::alloc::Global;
 use std::test::Fail;
 
@@ -40,12 +39,15 @@ fn span_of(first: i32, count: u32) -> Result<Span, Fail>
     Ok(Span::make(first, count).ok_or("span")?)
 }
 
-/// The codes of the row `y` as they lie in memory.
-fn row_of(plane: &CodePlane, y: u32) -> Result<CodeRow<'_>, Fail> {
-    if y >= plane.size().height {
-        return Err("row")?;
+/// For each pixel of the row `y` the number of places in which the codes of two planes differ, or as many as a
+/// code has where one has none.
+fn differences(alloc: Global, one: &CodePlane, other: &CodePlane, y: u32) -> Result<Vec<u8>, Fail> {
+    if other.size() != one.size() || other.window() != one.window() || y >= one.size().height {
+        return Err("planes")?;
     }
-    Ok(plane.row(y))
+    let mut costs = vec![in alloc; 99u8; one.size().width as usize]?;
+    cost_row(one, other, span_of(0, 1)?, y, costs.as_mut_slice());
+    Ok(costs)
 }
 
 #[test]
@@ -69,11 +71,21 @@ fn greatest_costs(rt: HostRuntime) -> Result<(), Fail> {
 
 #[test]
 fn code_of_a_centre_and_eight_neighbours(rt: HostRuntime) -> Result<(), Fail> {
+    // The neighbours above and at the lower left are less than the centre.
+    let alloc = rt.alloc();
     let values = [5, 4, 6, 5, 5, 9, 1, 5, 5].map(|v: u16| Some(v));
-    let plane = codes_of(rt.alloc(), (3, 3), &values, (3, 3))?;
-    let row = row_of(&plane, 1)?;
-    assert!(rt; row.words == [0, 0b0100_0100, 0].as_slice());
-    assert!(rt; row.present == [false, true, false].as_slice());
+    let plane = codes_of(alloc, (3, 3), &values, (3, 3))?;
+    for (others, want) in [
+        ([7, 0, 7, 7, 7, 7, 0, 7, 7], 0),
+        ([7, 0, 7, 7, 7, 7, 7, 7, 7], 1),
+        ([7; 9], 2),
+        ([1, 5, 1, 1, 5, 1, 9, 1, 1], 8),
+    ] {
+        let others = others.map(|v: u16| Some(v));
+        let other = codes_of(alloc, (3, 3), &others, (3, 3))?;
+        let found = differences(alloc, &plane, &other, 1)?;
+        assert!(rt; found.as_slice() == [8, want, 8].as_slice());
+    }
     Ok(())
 }
 
@@ -129,26 +141,30 @@ fn columns_beyond_the_row_cost_the_most(rt: HostRuntime) -> Result<(), Fail> {
 
 #[test]
 fn void_pixels_have_no_code(rt: HostRuntime) -> Result<(), Fail> {
+    let alloc = rt.alloc();
     let mut values = [7; 15].map(|v: u16| Some(v));
+    let plane = codes_of(alloc, (5, 3), &values, (3, 3))?;
+    assert!(rt; differences(alloc, &plane, &plane, 1)?.as_slice() == [8, 0, 0, 0, 8].as_slice());
     // In the window of (1, 1) alone.
     values[0] = None;
-    let plane = codes_of(rt.alloc(), (5, 3), &values, (3, 3))?;
-    assert!(rt; row_of(&plane, 1)?.present == [false, true, true, false, false].as_slice());
+    let plane = codes_of(alloc, (5, 3), &values, (3, 3))?;
+    assert!(rt; differences(alloc, &plane, &plane, 1)?.as_slice() == [8, 8, 0, 0, 8].as_slice());
     // A void centre, in the windows of all three.
     values[0] = Some(7);
     values[7] = None;
-    let plane = codes_of(rt.alloc(), (5, 3), &values, (3, 3))?;
-    assert!(rt; row_of(&plane, 1)?.present == [false; 5].as_slice());
+    let plane = codes_of(alloc, (5, 3), &values, (3, 3))?;
+    assert!(rt; differences(alloc, &plane, &plane, 1)?.as_slice() == [8; 5].as_slice());
     Ok(())
 }
 
 #[test]
 fn a_window_larger_than_the_image(rt: HostRuntime) -> Result<(), Fail> {
+    let alloc = rt.alloc();
     let values = [7; 15].map(|v: u16| Some(v));
-    for window in [(7, 3), (3, 5), (9, 7)] {
-        let plane = codes_of(rt.alloc(), (5, 3), &values, window)?;
+    for (window, most) in [((7, 3), 20), ((3, 5), 14), ((9, 7), 62)] {
+        let plane = codes_of(alloc, (5, 3), &values, window)?;
         for y in 0..3 {
-            assert!(rt; row_of(&plane, y)?.present == [false; 5].as_slice());
+            assert!(rt; differences(alloc, &plane, &plane, y)?.as_slice() == [most; 5].as_slice());
         }
     }
     Ok(())
@@ -156,11 +172,19 @@ fn a_window_larger_than_the_image(rt: HostRuntime) -> Result<(), Fail> {
 
 #[test]
 fn a_window_wider_than_high(rt: HostRuntime) -> Result<(), Fail> {
-    // Only the middle pixel has a code of fourteen truth values; its centre is 5.
+    // Only the middle pixel has a code of fourteen truth values, 10001 01 10 00100; its centre is 5.
+    let alloc = rt.alloc();
     let values = [1, 9, 9, 9, 1, 9, 1, 5, 1, 9, 5, 5, 1, 5, 5].map(|v: u16| Some(v));
-    let plane = codes_of(rt.alloc(), (5, 3), &values, (5, 3))?;
-    let row = row_of(&plane, 1)?;
-    assert!(rt; row.words == [0, 0, 0b10001_0110_00100, 0, 0].as_slice());
-    assert!(rt; row.present == [false, false, true, false, false].as_slice());
+    let plane = codes_of(alloc, (5, 3), &values, (5, 3))?;
+    for (others, want) in [
+        ([0, 7, 7, 7, 0, 7, 0, 7, 0, 7, 7, 7, 0, 7, 7], 0),
+        ([7; 15], 5),
+        ([5, 1, 1, 1, 5, 1, 5, 3, 5, 1, 1, 1, 5, 1, 1], 14),
+    ] {
+        let others = others.map(|v: u16| Some(v));
+        let other = codes_of(alloc, (5, 3), &others, (5, 3))?;
+        let found = differences(alloc, &plane, &other, 1)?;
+        assert!(rt; found.as_slice() == [14, 14, want, 14, 14].as_slice());
+    }
     Ok(())
 }

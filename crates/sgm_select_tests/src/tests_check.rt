@@ -1,7 +1,7 @@
 ghost use Rattle.std.specs.Prelude.{◌≡◌, IfOk};
 
-use super::{base_row, check_row, sixteenths};
 use sgm_base::Span;
+use sgm_select::{base_row, check_row, sixteenths};
 use std::test::Fail;
 
 fn span_of(first: i32, count: u32) -> Result<Span, Fail>

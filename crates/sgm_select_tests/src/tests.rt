@@ -1,7 +1,7 @@
 ghost use Rattle.std.specs.Prelude.{◌≡◌, IfOk};
 
-use super::{base_row, match_row};
 use sgm_base::Span;
+use sgm_select::{base_row, match_row};
 use std::test::Fail;
 
 /// The sums of two rows of a worked pair: five columns, two indices each.
