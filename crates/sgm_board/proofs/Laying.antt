@@ -1,7 +1,8 @@
 -- The slots of a new board.
-use Rattle.std.proofs.Common.{◌≡◌, ℕ, zero, suc, ◌+◌, ◌<◌, false, List, [], ◌∷◌, ◌++◌, map, length, refl, ap, ◌∙◌, arith, length-append, get_or, All}
+use Rattle.std.proofs.Common.{◌≡◌, ℕ, zero, suc, ◌+◌, ◌<◌, false, List, [], ◌∷◌, ◌++◌, map, length, refl, sym, ap, append_assoc, ◌∙◌, arith, length-append, get_or, All}
 use mathlib.Core.Option.{some}
 use lib.ListN.{get_elem?, length-map}
+use Rattle.std.proofs.lemmas.List.{map-append}
 use Rattle.std.proofs.lemmas.Option.{slice_get_read}
 use Rattle.atomic_table.proofs.Lists.{at_map, at_longer}
 use Rattle.sgm_energy.specs.declared.dir.Dir.{Dir}
@@ -39,6 +40,17 @@ pub record AreLaid (about : About) (slots : List Slot) : Type 0 where
   pub count : length slots ≡ word_count about.cut.strips
   pub fronts : (dir : Dir) → is_level dir ≡ false → (front : FrontParts) × (get_elem? slots (dir_word dir) ≡ some (OfFront front)) × IsNewFrontAt about dir front
   pub parcels : (strip : ℕ) → strip < about.cut.strips → (parcel : ParcelParts) × (get_elem? slots (strip_word strip) ≡ some (OfStrip parcel)) × IsNewParcelAt about strip parcel
+
+-- one front more, and after the fronts one parcel more
+pub front_more : (fronts : List FrontParts) (front : FrontParts) (old new : List Slot) → new ≡ old ++ OfFront front ∷ [] → old ≡ map OfFront fronts → new ≡ map OfFront (fronts ++ front ∷ [])
+front_more fronts front old new items is = items ∙ (ap (λ (xs : List Slot). xs ++ OfFront front ∷ []) is ∙ sym (map-append OfFront fronts (front ∷ [])))
+
+pub parcel_more : (before : List Slot) (parcels : List ParcelParts) (parcel : ParcelParts) (old new : List Slot) → new ≡ old ++ OfStrip parcel ∷ [] → old ≡ before ++ map OfStrip parcels
+    → new ≡ before ++ map OfStrip (parcels ++ parcel ∷ [])
+parcel_more before parcels parcel old new items is =
+    items
+    ∙ (ap (λ (xs : List Slot). xs ++ OfStrip parcel ∷ []) is
+    ∙ (append_assoc before (map OfStrip parcels) (OfStrip parcel ∷ []) ∙ ap (λ (xs : List Slot). before ++ xs) (sym (map-append OfStrip parcels (parcel ∷ [])))))
 
 at_after : {A : Type 0} (xs ys : List A) (k : ℕ) (a : A) → get_elem? ys k ≡ some a → (i : ℕ) → i ≡ length xs + k → get_elem? (xs ++ ys) i ≡ some a
 at_after {A} [] ys k a h i e = let q : i ≡ k = omega arith in ap (λ (j : ℕ). get_elem? ys j) q ∙ h

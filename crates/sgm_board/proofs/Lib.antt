@@ -29,4 +29,3 @@ pub mod Ending
 pub mod Lawful
 pub mod Handing
 pub mod Crossing
-pub mod Settling

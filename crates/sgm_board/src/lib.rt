@@ -17,6 +17,3 @@ mod view;
 
 pub use board::Board;
 pub use pass::Pass;
-
-#[cfg(test)]
-mod tests;

@@ -20,6 +20,3 @@ pub use parcel::Parcel;
 pub use passing::pass;
 pub use row::Row;
 pub use scene::Scene;
-
-#[cfg(test)]
-mod tests;

@@ -6,4 +6,3 @@ pub mod Visiting
 pub mod Glancing
 pub mod Threads
 pub mod Crews
-pub mod Making

@@ -13,6 +13,3 @@ pub use gate::{Gate, OpenGate};
 pub use matching::{Matched, match_all};
 pub use scanning::scan;
 pub use working::work;
-
-#[cfg(test)]
-mod tests;

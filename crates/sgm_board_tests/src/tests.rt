@@ -1,0 +1,9 @@
+//! What no clause says of strips, boards and workers, by the worked example: three rows of five pixels.
+mod boards;
+mod gates;
+mod making;
+mod strips;
+mod sums;
+mod taking;
+mod workers;
+mod working;

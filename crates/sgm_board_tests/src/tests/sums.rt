@@ -1,0 +1,18 @@
+//! The sums of the worked example.
+use sgm_strip::Parcel;
+
+/// Whether all directions are done and each row has the sums of the worked example.
+pub(super) fn has_sums(parcel: &Parcel) -> bool {
+    let outer = [64, 65, 65, 65, 66, 65, 66, 64, 65, 64];
+    let inner = [64, 65, 49, 64, 49, 1, 49, 0, 65, 64];
+    let cut = parcel.cut();
+    let strip = parcel.strip();
+    let top = cut.first(strip);
+    for y in top..top + cut.rows(strip) {
+        let wanted = if y == 1 { inner } else { outer };
+        if parcel.sums_row(y) != wanted.as_slice() {
+            return false;
+        }
+    }
+    parcel.is_complete()
+}

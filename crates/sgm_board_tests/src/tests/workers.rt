@@ -1,0 +1,141 @@
+//! When the gate is called, that workers are at work at once, and what the caller finishes.
+ghost use Rattle.std.specs.Prelude.{◌≡◌, ◌≤◌};
+ghost use Rattle.sgm_base.specs.declared.limits.TheConstants.{MAX_STRIPS, MAX_WORKERS};
+ghost use Rattle.sgm_strip.specs.Cuts.{CutParts};
+ghost use Rattle.sgm_strip.specs.Scenes.{SceneParts, row_length};
+ghost use Rattle.sgm_board.specs.Settled.{AreSettled};
+
+use super::gates::{Meeting, Recorder};
+use super::making::{board_of, fronts_of, only_of, parcels_of, row_of, scene_of};
+use super::sums::has_sums;
+use sgm_strip::{Cut, Front, Parcel, Row, Visit};
+use sgm_work::{CALLER, Gate, Matched, OpenGate, finish, match_all, scan};
+use std::alloc::Global;
+use std::test::Fail;
+use std::thread::Threads;
+
+/// The example by so many strips and workers.
+fn matched<R: Threads + Sync, G: Gate + Sync>(
+    rt: &R,
+    alloc: Global,
+    strips: u32,
+    workers: u32,
+    gate: &G,
+) -> Result<Matched, Fail>
+    requires strips { (1 ≤ strips) × (strips ≤ MAX_STRIPS) }
+    requires workers { (1 ≤ workers) × (workers ≤ MAX_WORKERS) }
+{
+    let scene = scene_of(alloc)?;
+    let cut = Cut::even(scene.size().height, strips);
+    let parcels = parcels_of(alloc, &scene, cut)?;
+    let fronts = fronts_of(alloc, &scene, cut)?;
+    Ok(match_all(rt, alloc, parcels, fronts, workers, gate)?)
+}
+
+/// Whether the visits are those of all strips, in this order.
+fn goes_through(visits: &[Visit], strips: u32, down: bool) -> bool {
+    let mut next = 0;
+    for visit in visits {
+        if next >= strips {
+            return false;
+        }
+        let strip = if down { next } else { strips - 1 - next };
+        if visit.strip != strip {
+            return false;
+        }
+        next += 1;
+    }
+    next == strips
+}
+
+#[test]
+fn sums_are_the_same_whatever_the_strips_and_the_workers(rt: HostRuntime) -> Result<(), Fail> {
+    for (strips, workers) in [(1, 1), (2, 3), (3, 1), (3, 2), (3, 16)] {
+        let found = matched(&rt, rt.alloc(), strips, workers, &OpenGate)?;
+        assert_eq!(rt; found.parcels.len(), strips as usize);
+        assert!(rt;
+            found.parcels.iter().all(|parcel| has_sums(parcel)),
+            "{strips} strips, {workers} workers"
+        );
+        assert_eq!(rt; found.fronts.len(), 6);
+        for front in &found.fronts {
+            let down = front.dir().offset().1 > 0;
+            assert!(rt;
+                goes_through(front.visits(), strips, down),
+                "{strips} strips, {workers} workers"
+            );
+        }
+    }
+    Ok(())
+}
+
+// The first scan passes on all fronts that go down through all strips, and each that goes up through the last
+// one; each scan after it, these through one strip more.
+#[test]
+fn one_worker_by_board(rt: HostRuntime) -> Result<(), Fail> {
+    let recorder = Recorder::new();
+    let found = matched(&rt, rt.alloc(), 3, 1, &recorder)?;
+    assert_eq!(rt; recorder.count(), 9);
+    for call in 0..9 {
+        assert_eq!(rt; recorder.call(call), (0, call % 3));
+    }
+    for front in &found.fronts {
+        assert!(rt; front.visits().iter().all(|visit| visit.worker == 0));
+    }
+    Ok(())
+}
+
+#[test]
+fn two_workers_overlap(rt: HostRuntime) -> Result<(), Fail> {
+    let meeting = Meeting::new();
+    let found = matched(&rt, rt.alloc(), 2, 2, &meeting)?;
+    assert!(rt; meeting.has_called(0) && meeting.has_called(1));
+    assert!(rt; !meeting.has_ended());
+    let mut shared = false;
+    for front in &found.fronts {
+        for visit in front.visits() {
+            if visit.worker < 2 {
+                assert!(rt; meeting.has_come(visit.worker, visit.strip));
+                shared = true;
+            }
+        }
+    }
+    assert!(rt; shared);
+    assert!(rt; found.parcels.iter().all(|parcel| has_sums(parcel)));
+    Ok(())
+}
+
+/// The parcels and the fronts, once the caller has handed on what is left.
+pub(super) fn finish_all(
+    mut parcels: Vec<Parcel>,
+    mut fronts: Vec<Front>,
+    spare: &mut Row,
+) -> (Vec<Parcel>, Vec<Front>)
+    requires settled { (scene : SceneParts) × (cut : CutParts) × (spare.old ≡ row_length scene)
+        × AreSettled scene cut parcels.items fronts.items }
+{
+    finish(parcels.as_mut_slice(), fronts.as_mut_slice(), spare);
+    (parcels, fronts)
+}
+
+// One scan takes the fronts that go down through all three strips, and those that go up through the last one alone.
+#[test]
+fn finish_goes_on_where_a_scan_ended(rt: HostRuntime) -> Result<(), Fail> {
+    let alloc = rt.alloc();
+    let scene = scene_of(alloc)?;
+    let (board, passes) = board_of(alloc, &scene, 3, 1)?;
+    let mut pass = only_of(&board, passes)?;
+    let mut spare = row_of(alloc, &scene)?;
+    assert_eq!(rt; scan(&board, &mut pass, &mut spare, &OpenGate), 12);
+    let (parcels, fronts) = board.close(pass);
+    let (parcels, fronts) = finish_all(parcels, fronts, &mut spare);
+    assert!(rt; parcels.iter().all(|parcel| has_sums(parcel)));
+    assert_eq!(rt; fronts.len(), 6);
+    for front in &fronts {
+        let down = front.dir().offset().1 > 0;
+        assert!(rt; goes_through(front.visits(), 3, down));
+        let caller = front.visits().iter().filter(|visit| visit.worker == CALLER);
+        assert_eq!(rt; caller.count(), if down { 0 } else { 2 });
+    }
+    Ok(())
+}

@@ -1,0 +1,151 @@
+//! What a worker does, by the calls on a board alone.
+ghost use Rattle.std.specs.Prelude.{◌≡◌, ◌<◌, ◌||◌, ℕ, true, false, None, IfOk};
+ghost use Rattle.sgm_energy.specs.Dirs.{is_level};
+ghost use Rattle.sgm_strip.specs.Parcels.{ParcelParts};
+ghost use Rattle.sgm_strip.specs.Scenes.{row_length};
+ghost use Rattle.sgm_board.specs.Settled.{AreSettled};
+ghost use Rattle.sgm_board.specs.Boards.{parts_of, scene_of, cut_of, strips_of, passes_of, IsPassOf, IsIdle, IsHeld};
+
+use super::making::dir_of;
+use sgm_board::{Board, Pass};
+use sgm_energy::Dir;
+use sgm_strip::{Front, Parcel, Row, pass as pass_on};
+use std::thread::{Threads, join, yield_now};
+
+/// Tries a front once, and passes it on if it comes.
+pub(super) fn hand_on(
+    board: &Board,
+    pass: &mut Pass,
+    parcel: &mut Parcel,
+    spare: &mut Row,
+    dir: Dir,
+) -> bool
+    requires own { IsPassOf board.now pass.old }
+    requires bare { (parts_of pass.old).front ≡ None }
+    requires held { IsHeld board.now (parts_of pass.old) parcel.old }
+    requires spare { spare.old ≡ row_length (scene_of board.now) }
+    requires across { is_level dir ≡ false }
+    ensures own { IsPassOf board.now pass.new }
+    ensures bare { (parts_of pass.new).front ≡ None }
+    ensures held { IsHeld board.now (parts_of pass.new) parcel.new }
+    ensures spare { spare.new ≡ spare.old }
+    ensures gathered { (parts_of pass.new).gathered ≡ (parts_of pass.old).gathered }
+{
+    let Some(mut front) = board.try_take(pass, parcel, dir) else {
+        return false;
+    };
+    let worker = pass.number();
+    pass_on(parcel, &mut front, spare, worker);
+    board.put(pass, parcel, front);
+    true
+}
+
+/// Tries each front at a strip that is held, and gives the strip back.
+fn serve(board: &Board, pass: &mut Pass, mut parcel: Parcel, spare: &mut Row)
+    requires own { IsPassOf board.now pass.old }
+    requires bare { (parts_of pass.old).front ≡ None }
+    requires held { IsHeld board.now (parts_of pass.old) parcel }
+    requires spare { spare.old ≡ row_length (scene_of board.now) }
+    ensures own { IsPassOf board.now pass.new }
+    ensures idle { IsIdle (parts_of pass.new) }
+    ensures spare { spare.new ≡ spare.old }
+    ensures gathered { (parts_of pass.new).gathered ≡ (parts_of pass.old).gathered }
+{
+    for number in 0..6 {
+        if let Some(dir) = dir_of(number) {
+            hand_on(board, pass, &mut parcel, spare, dir);
+        }
+    }
+    board.give_back(pass, parcel);
+}
+
+/// Tries a strip once, and each front if it is claimed.
+fn visit(board: &Board, pass: &mut Pass, strip: u32, spare: &mut Row)
+    requires own { IsPassOf board.now pass.old }
+    requires idle { IsIdle (parts_of pass.old) }
+    requires strip { strip < strips_of board.now }
+    requires spare { spare.old ≡ row_length (scene_of board.now) }
+    ensures own { IsPassOf board.now pass.new }
+    ensures idle { IsIdle (parts_of pass.new) }
+    ensures spare { spare.new ≡ spare.old }
+    ensures gathered { (parts_of pass.new).gathered ≡ (parts_of pass.old).gathered }
+{
+    match board.try_claim(pass, strip) {
+        Some(parcel) => serve(board, pass, parcel, spare),
+        None => {}
+    }
+}
+
+/// Whether the pass sees that each front has passed all strips.
+fn is_over(board: &Board, pass: &mut Pass) -> bool
+    requires own { IsPassOf board.now pass.old }
+    requires idle { IsIdle (parts_of pass.old) }
+    ensures own { IsPassOf board.now pass.new }
+    ensures idle { IsIdle (parts_of pass.new) }
+    ensures gathered { (parts_of pass.new).gathered ≡ (parts_of pass.old).gathered }
+{
+    for number in 0..6 {
+        if let Some(dir) = dir_of(number) {
+            if board.passed(pass, dir) < board.strips() {
+                return false;
+            }
+        }
+    }
+    true
+}
+
+/// Tries strip after strip, of three at most a million times, until all fronts have passed all strips.
+pub(super) fn work(board: &Board, mut pass: Pass, mut spare: Row) -> Pass
+    requires own { IsPassOf board.now pass }
+    requires idle { IsIdle (parts_of pass) }
+    requires spare { spare ≡ row_length (scene_of board.now) }
+    ensures own { IsPassOf board.now result }
+    ensures idle { IsIdle (parts_of result) }
+    ensures gathered { (parts_of result).gathered ≡ (parts_of pass).gathered }
+{
+    let strips = board.strips();
+    for _ in 0..333_333 {
+        for strip in 0..strips {
+            visit(board, &mut pass, strip, &mut spare);
+        }
+        if is_over(board, &mut pass) {
+            return pass;
+        }
+        yield_now();
+    }
+    pass
+}
+
+/// Two threads work on a board, with a pass each. What they leave is closed.
+pub(super) fn work_both<R: Threads + Sync>(
+    rt: &R,
+    board: Board,
+    first: (Pass, Row),
+    second: (Pass, Row),
+) -> (Vec<Parcel>, Vec<Front>)
+    requires first { IsPassOf board first.0 × IsIdle (parts_of first.0) × (first.1 ≡ row_length (scene_of board)) }
+    requires second { IsPassOf board second.0 × IsIdle (parts_of second.0) × (second.1 ≡ row_length (scene_of board)) }
+    requires all { (k : ℕ) → k < passes_of board
+        → ((parts_of first.0).gathered k || (parts_of second.0).gathered k) ≡ true }
+    ensures { AreSettled (scene_of board) (cut_of board) result.0.items result.1.items }
+{
+    let shared = &board;
+    let (one, spare) = first;
+    let (other, other_spare) = second;
+    let (mut one, other) = join(
+        rt,
+        move || -> Pass
+            requires { IsPassOf shared.now one × IsIdle (parts_of one) × (spare ≡ row_length (scene_of shared.now)) }
+            ensures own { IsPassOf shared.entry.now result × IsIdle (parts_of result) }
+            ensures same { (parts_of result).gathered ≡ (parts_of one).gathered }
+        { work(shared, one, spare) },
+        move || -> Pass
+            requires { IsPassOf shared.now other × IsIdle (parts_of other)
+                × (other_spare ≡ row_length (scene_of shared.now)) }
+            ensures own { IsPassOf shared.entry.now result × IsIdle (parts_of result) }
+            ensures same { (parts_of result).gathered ≡ (parts_of other).gathered }
+        { work(shared, other, other_spare) },
+    );
+    board.join(&mut one, other);
+    board.close(one)
+}
