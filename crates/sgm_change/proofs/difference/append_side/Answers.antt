@@ -1,0 +1,13 @@
+use Rattle.std.proofs.Common.{◌≡◌, to_z, of_z, w64, arith, codes, refl}
+use Rattle.std.specs.Fmt.{signed_decimal}
+use Rattle.std.proofs.lemmas.Int.{ints}
+use Rattle.sgm_grid.proofs.Rows.{two_lines}
+use Rattle.sgm_change.proofs.difference.append_side.Goals as goal
+
+pub returns-clause-ok : goal.returns-clause-ok
+returns-clause-ok c =
+    let cell : to_z w64 (of_z w64 c.args.spec.cell) ≡ c.args.spec.cell = omega (arith, ints) in
+    let first : c.as_bytes.result.now ≡ signed_decimal c.args.spec.cell = cc in
+    two_lines c.append_line-2.result c.args.into.now.items c.append_line.new.into.items c.append_line-2.new.into.items
+    (codes "cellsize ") c.as_bytes.result.now (codes "NODATA_value ") (codes "-9999999999") (signed_decimal c.args.spec.cell) (codes "-9999999999")
+    c.in_ok-append_line.ensures.ok first refl c.append_line-2.ensures.ok

@@ -1,0 +1,13 @@
+//! What changed between two surveys of the same ground, from their grids of heights.
+#![tactic(auto)]
+
+mod compare;
+mod difference;
+mod volumes;
+
+pub use compare::{Changed, change};
+pub use difference::write_difference;
+pub use volumes::write_volumes;
+
+#[cfg(test)]
+mod tests;
