@@ -8,7 +8,7 @@ ghost use Rattle.sgm_energy.specs.declared.dir.Dir.{Dir};
 ghost use Rattle.sgm_energy.specs.Dirs.{number_of, is_level, front_of, dir_of_front, position_of, strip_at};
 ghost use Rattle.sgm_energy.specs.Pens.{Penalties};
 ghost use Rattle.sgm_energy.specs.Rays.{Pixel, Problem, IsInside, IsRay, guided_problem, predecessor, ray, before};
-ghost use Rattle.sgm_energy.specs.Energies.{sequences, least_of_all, least_ending, path_value, least_value, sum_done, path_sum, IsWithin};
+ghost use Rattle.sgm_energy.specs.Energies.{sequences, jump, energy, least_of_all, least_ending, path_value, least_value, sum_done, path_sum, IsWithin};
 
 /// No two directions have one number. A direction that is not level has a front, and no other has
 /// the same.
@@ -50,6 +50,19 @@ pub fn recurrence()
         → path_value g dir p d ≡ g.cost p d }
     ensures next { (g : Problem) (dir : Dir) (p q : Pixel) (d : ℕ) → d < g.count → g.p1 ≤ g.far q p → predecessor g dir p ≡ Some q
         → IsStepped (path_value g dir q) g.count g.p1 (g.far q p) (least_value g dir q) (g.cost p d) d (path_value g dir p d) }
+{}
+
+/// The least energy of the sequences along a ray that end in an index. Along one pixel it is the index's cost.
+/// One pixel further, it is the least that an index at the pixel before has, with the cost and the penalty of the
+/// change: none gives less, and one gives it. The energy of each sequence grows by just these two.
+pub fn least_energies()
+    ensures first { (g : Problem) (p : Pixel) (d : ℕ) → d < g.count → least_ending g (p ∷ []) d ≡ g.cost p d }
+    ensures low { (g : Problem) (ps : List Pixel) (q p : Pixel) (a d : ℕ) → a < g.count → d < g.count
+        → least_ending g ((ps ++ q ∷ []) ++ p ∷ []) d ≤ least_ending g (ps ++ q ∷ []) a + (g.cost p d + jump g q p a d) }
+    ensures reached { (g : Problem) (ps : List Pixel) (q p : Pixel) (d : ℕ) → d < g.count
+        → (a : ℕ) × (a < g.count) × (least_ending g (ps ++ q ∷ []) a + (g.cost p d + jump g q p a d) ≤ least_ending g ((ps ++ q ∷ []) ++ p ∷ []) d) }
+    ensures each { (g : Problem) (ps : List Pixel) (s : List ℕ) (q p : Pixel) (a d : ℕ) → length s ≡ length ps
+        → energy g ((ps ++ q ∷ []) ++ p ∷ []) ((s ++ a ∷ []) ++ d ∷ []) ≡ energy g (ps ++ q ∷ []) (s ++ a ∷ []) + (g.cost p d + jump g q p a d) }
 {}
 
 /// No path value is below 0: what is subtracted is never greater. None is above the greatest cost and
