@@ -8,4 +8,4 @@ returns-clause-within c = matching-within
 pub returns-clause-kept : goal.returns-clause-kept
 returns-clause-kept c =
     λ left right span penalties guide k ordered limited.
-        within-keeps (matching_problem left right span penalties guide) (matching-within left right span penalties guide k ordered limited)
+    within-keeps (matching_problem left right span penalties guide) (matching-within left right span penalties guide k ordered limited)
