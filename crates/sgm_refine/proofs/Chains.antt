@@ -140,12 +140,12 @@ count_more f g [] h = inl (λ x c _. absurd (omega (arith, c.1)))
 count_more f g (x ∷ xs) h = elim (count_more f g xs h) [
   | inr l ↦ inr (omega (arith, counted f x xs, counted g x xs, one_least (f x) (g x) (h x), l))
   | inl same ↦ elim (one_more (f x) (g x) (h x)) [
-      | inr l ↦ inr (omega (arith, counted f x xs, counted g x xs, l, count_least f g xs h))
-      | inl here ↦ inl (λ y c. elim (in_cases x xs y c) [
-          | inl e ↦ subst (λ v. g v ≡ true → f v ≡ true) e here
-          | inr d ↦ same y d
-        ])
-    ]
+    | inr l ↦ inr (omega (arith, counted f x xs, counted g x xs, l, count_least f g xs h))
+    | inl here ↦ inl (λ y c. elim (in_cases x xs y c) [
+      | inl e ↦ subst (λ v. g v ≡ true → f v ≡ true) e here
+      | inr d ↦ same y d
+    ])
+  ]
 ]
 
 -- one link more reaches nothing more
@@ -167,9 +167,9 @@ unfolding reaching
 stable_or_more w es k n = elim (count_more (λ j. goes w es n j k) (λ j. goes w es (suc n) j k) (places es) (λ j. goes_more w es n j k)) [
   | inr l ↦ inr l
   | inl same ↦ inl (λ j t. elim (goes_cases w es n j k t) [
-      | inl e ↦ goes_self w es n j k e
-      | inr there ↦ same j (in_below (length es) j (linked_inside w es there.0 j (linked_sym w es j there.0 there.1))) t
-    ])
+    | inl e ↦ goes_self w es n j k e
+    | inr there ↦ same j (in_below (length es) j (linked_inside w es there.0 j (linked_sym w es j there.0 there.1))) t
+  ])
 ]
 
 stable_or_many : (w : ℕ) (es : List (Option ℕ)) (k n : ℕ) → Stable w es k n ⊎ (n ≤ reaching w es k n)
@@ -240,5 +240,6 @@ goes_of w es j (i ∷ rest) k h = goes_step w es (length rest) j i k h.0 (goes_o
 pub chains : (w : ℕ) (es : List (Option ℕ)) (p k : ℕ) → k < length es → Contains (segment w es p) k ↔ ((rest : List ℕ) × IsChain w es p rest k)
 unfolding segment
 chains w es p k l = (
-    (λ c. chain_of w es (length es) p k (from_filter (goes w es (length es) p) (places es) k c).1),
-    (λ r. in_filter (goes w es (length es) p) (places es) k (in_below (length es) k l) (goes_enough w es (length r.0) p k (goes_of w es p r.0 k r.1))))
+  (λ c. chain_of w es (length es) p k (from_filter (goes w es (length es) p) (places es) k c).1),
+  (λ r. in_filter (goes w es (length es) p) (places es) k (in_below (length es) k l) (goes_enough w es (length r.0) p k (goes_of w es p r.0 k r.1))),
+)

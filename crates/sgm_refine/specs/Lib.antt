@@ -1,3 +1,4 @@
 pub mod Filling
 pub mod Refining
 pub mod Segments
+pub mod Refined

@@ -1,6 +1,7 @@
 //! Refinement of a map of disparities: small segments are removed, and pixels without a disparity are filled.
 #![tactic(auto)]
 
+pub mod laws;
 mod peaks;
 mod refine;
 
