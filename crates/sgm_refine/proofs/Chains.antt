@@ -8,7 +8,7 @@ use Rattle.std.proofs.lemmas.List.Folds.{list_any_at}
 use Rattle.std.proofs.lemmas.List.FromFn.{length-range_with_len, get_or-range_with_len}
 use Rattle.std.proofs.lemmas.List.Sums.{count_by-le-length, sum_by-cons}
 use Rattle.sgm_energy.proofs.Members.{in_cases, in_below, from_below, in_filter, from_filter}
-use Rattle.sgm_refine.specs.declared.peaks.TheConstants.{LINK_DISTANCE}
+use Rattle.sgm_refine.specs.declared.segments.TheConstants.{LINK_DISTANCE}
 use Rattle.sgm_refine.specs.Segments.{places, value_of, comes_after, are_neighbours, are_close, is_linked, IsChain, goes, segment}
 
 -- ---- links

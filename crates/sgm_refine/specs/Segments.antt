@@ -3,7 +3,7 @@
 use Rattle.std.specs.Prelude.{◌≡◌, ℕ, ◌+◌, ◌/◌, Bool, true, false, ◌&&◌, ◌||◌, ◌==◌, nat_le, if◌then◌else◌, List, [], ◌∷◌, length, map, filter, Option, Some, None, slice_index_or, zero, suc}
 use Rattle.std.specs.List.{list_any, range_with_len}
 use Rattle.sgm_base.specs.Values.{Values, values_of}
-use Rattle.sgm_refine.specs.declared.peaks.TheConstants.{LINK_DISTANCE}
+use Rattle.sgm_refine.specs.declared.segments.TheConstants.{LINK_DISTANCE}
 
 -- all pixels of a map
 abbrev pub places : List (Option ℕ) → List ℕ

@@ -2,8 +2,9 @@
 #![tactic(auto)]
 
 pub mod laws;
-mod peaks;
-mod refine;
 
-pub use peaks::LINK_DISTANCE;
+mod refine;
+mod segments;
+
+pub use segments::{LINK_DISTANCE, peaks};
 pub use refine::{MAX_PEAK, Refine};
