@@ -1,8 +1,10 @@
 //! Refinement of a map of disparities: small segments are removed, and pixels without a disparity are filled.
 #![tactic(auto)]
 
-mod peaks;
-mod refine;
+pub mod laws;
 
-pub use peaks::LINK_DISTANCE;
+mod refine;
+mod segments;
+
+pub use segments::{LINK_DISTANCE, peaks};
 pub use refine::{MAX_PEAK, Refine};
