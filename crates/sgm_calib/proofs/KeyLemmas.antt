@@ -17,9 +17,10 @@ use Rattle.sgm_calib.specs.declared.place.TheConstants.{PLAIN}
 use Rattle.sgm_calib.specs.Rows.{Row, key_at}
 use Rattle.sgm_calib.specs.Table as table
 use Rattle.sgm_calib.specs.Table.{rows_in}
+use Rattle.sgm_calib.specs.declared.sort.Sort.{Sort}
 use Rattle.sgm_calib.specs.Checks.{typed_in, or_out_of_range, text_in, key_fault, keys_fault}
 use Rattle.sgm_calib.specs.WarpKeys.{rows_of_kind, mesh_fault}
-use Rattle.sgm_calib.specs.Judge.{itself_fault, held_fault, section_fault}
+use Rattle.sgm_calib.specs.Judge.{sort_of, itself_fault, held_fault, section_fault}
 
 -- a key that is wrong is the first fault of it and later keys; one that is right leaves the first fault to those
 pub fault-here : (place : Place) (d : Data) (row : Row) (rows : List Row) (fault : CalibFault)
@@ -32,18 +33,18 @@ fault-later place d row rows right = ap (λ found. option_or found (keys_fault p
 
 -- an object of the value that is right itself has the first fault of its keys
 pub section_fault-held : (top : Data) (row : Row) (rows : List Row) (found : Option (Bor Value)) (object : Bor Value)
-    → itself_fault top row ≡ None → option_map (λ v. view v.now) found ≡ get row.name top → found ≡ Some object → rows_in row ≡ rows
+    → itself_fault top row ≡ None → option_map (λ v. view v.now) found ≡ get row.name top → found ≡ Some object → rows_in row (sort_of top) ≡ rows
     → section_fault top row ≡ keys_fault PLAIN (view object.now) rows
 unfolding section_fault
 section_fault-held top row rows found object right there is_found are =
-    ap (λ fault. option_or fault (held_fault row (get row.name top))) right
-    ∙ ap (held_fault row) (sym there ∙ ap (option_map (λ v. view v.now)) is_found)
+    ap (λ fault. option_or fault (held_fault row (sort_of top) (get row.name top))) right
+    ∙ ap (held_fault row (sort_of top)) (sym there ∙ ap (option_map (λ v. view v.now)) is_found)
     ∙ ap (keys_fault PLAIN (view object.now)) are
 
 -- one that is wrong itself has that fault
 pub section_fault-itself : (top : Data) (row : Row) (fault : CalibFault) → itself_fault top row ≡ Some fault → section_fault top row ≡ Some fault
 unfolding section_fault
-section_fault-itself top row fault wrong = ap (λ found. option_or found (held_fault row (get row.name top))) wrong
+section_fault-itself top row fault wrong = ap (λ found. option_or found (held_fault row (sort_of top) (get row.name top))) wrong
 
 -- what is wrong with a text that is there, by its test
 if-result : {A : Type 0} (b : Bool) (a : A) (fault : CalibFault) → result_err (if b then Ok a else Err fault) ≡ (if b then None else Some fault)

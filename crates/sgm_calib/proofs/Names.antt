@@ -7,21 +7,22 @@ use Rattle.serde_json.specs.Find.{as_object}
 use Rattle.serde_json.specs.View.{members_view}
 use Rattle.serde_json.specs.declared.value.Value.{Value}
 use Rattle.sgm_calib.specs.declared.place.Place.{Place}
+use Rattle.sgm_calib.specs.declared.sort.Sort.{Sort}
 use Rattle.sgm_calib.specs.Rows.{Row, key_at}
 use Rattle.sgm_calib.specs.Table.{is_known}
 use Rattle.sgm_calib.specs.Checks.{has_only, members_fault, object_fault, unknown_fault}
 
-list_all-keys : (object : Row) (kind : List ℕ) (ms : List (String Global × Value))
-    → list_all (λ name. is_known object kind (string_bytes name)) (map (λ m. m.0) ms) ≡ has_only object kind (members_view ms)
-list_all-keys object kind [] = refl
-list_all-keys object kind (m ∷ ms) = ap (λ b. is_known object kind (string_bytes m.0) && b) (list_all-keys object kind ms)
+list_all-keys : (object : Row) (sort : Sort) (ms : List (String Global × Value))
+    → list_all (λ name. is_known object sort (string_bytes name)) (map (λ m. m.0) ms) ≡ has_only object sort (members_view ms)
+list_all-keys object sort [] = refl
+list_all-keys object sort (m ∷ ms) = ap (λ b. is_known object sort (string_bytes m.0) && b) (list_all-keys object sort ms)
 
 -- the check of an object by the keys of its map
-pub object_fault-keys : (place : Place) (object : Row) (kind : List ℕ) (d : Data) (ms : List (String Global × Value)) (known : Bool)
+pub object_fault-keys : (place : Place) (object : Row) (sort : Sort) (d : Data) (ms : List (String Global × Value)) (known : Bool)
     → Some (members_view ms) ≡ as_object d
-    → known ≡ list_all (λ name. is_known object kind (string_bytes name)) (map (λ m. m.0) ms)
-    → object_fault place object kind d ≡ unknown_fault (key_at place object) known
+    → known ≡ list_all (λ name. is_known object sort (string_bytes name)) (map (λ m. m.0) ms)
+    → object_fault place object sort d ≡ unknown_fault (key_at place object) known
 unfolding object_fault
-object_fault-keys place object kind d ms known is_object tested =
-    ap (members_fault (key_at place object) object kind) (sym is_object)
-    ∙ ap (unknown_fault (key_at place object)) (sym (tested ∙ list_all-keys object kind ms))
+object_fault-keys place object sort d ms known is_object tested =
+    ap (members_fault (key_at place object) object sort) (sym is_object)
+    ∙ ap (unknown_fault (key_at place object)) (sym (tested ∙ list_all-keys object sort ms))

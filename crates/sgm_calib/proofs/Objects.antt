@@ -1,24 +1,25 @@
--- The keys of each object of whole numbers are those that name it as their object.
-use Rattle.std.proofs.Common.{◌≡◌, refl}
+-- The keys that each object without objects is given are those that name it as their object and that its sort is given.
+use Rattle.std.proofs.Common.{◌≡◌, [], ◌∷◌, refl}
+use Rattle.sgm_calib.specs.declared.sort.Sort.{Sort}
 use Rattle.sgm_calib.specs.Table as table
-use Rattle.sgm_calib.specs.Table.{keys, rows_in}
+use Rattle.sgm_calib.specs.Table.{keys, given_rows, rows_in}
 
-pub rows_in-disparities : rows_in table.disparities ≡ table.disparities_keys
+pub rows_in-disparities : (sort : Sort) → rows_in table.disparities sort ≡ table.disparities_keys
 unfolding rows_in keys
-rows_in-disparities = refl
+rows_in-disparities sort = refl
 
-pub rows_in-census : rows_in table.census ≡ table.census_keys
+pub rows_in-census : (sort : Sort) → rows_in table.census sort ≡ table.census_keys
 unfolding rows_in keys
-rows_in-census = refl
+rows_in-census sort = refl
 
-pub rows_in-penalties : rows_in table.penalties ≡ table.penalties_keys
+pub rows_in-penalties : (sort : Sort) → rows_in table.penalties sort ≡ table.p1 ∷ table.p2 ∷ given_rows sort (table.adapt ∷ [])
 unfolding rows_in keys
-rows_in-penalties = refl
+rows_in-penalties sort = refl
 
-pub rows_in-camera : rows_in table.camera ≡ table.camera_keys
+pub rows_in-camera : (sort : Sort) → rows_in table.camera sort ≡ table.camera_keys
 unfolding rows_in keys
-rows_in-camera = refl
+rows_in-camera sort = refl
 
-pub rows_in-grid : rows_in table.grid ≡ table.grid_keys
+pub rows_in-grid : (sort : Sort) → rows_in table.grid sort ≡ table.grid_keys
 unfolding rows_in keys
-rows_in-grid = refl
+rows_in-grid sort = refl

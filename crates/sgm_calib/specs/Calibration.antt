@@ -1,8 +1,9 @@
 -- What contracts see of a calibration, and what every calibration keeps.
-use Rattle.std.specs.Prelude.{ℕ, ◌≤◌, pos, List, All, Option, None, IfSome, is_some, IsTrue, length}
+use Rattle.std.specs.Prelude.{◌≤◌, pos, false, List, All, Option, None, IfSome, is_some, IsTrue, length}
 use Rattle.sgm_base.specs.Disparities.{Disparities}
 use Rattle.sgm_base.specs.declared.limits.TheConstants.{MAX_REGIONS}
 use Rattle.sgm_census.specs.Windows.{WindowSides}
+use Rattle.sgm_energy.specs.Pens.{Penalties}
 use Rattle.sgm_rectify.specs.declared.warp.Warp.{Warp}
 use Rattle.sgm_rectify.specs.declared.warp.Warp.TheVariants.{Identity}
 use Rattle.sgm_rectify.specs.Warps.{IsWarp}
@@ -11,11 +12,6 @@ use Rattle.sgm_height.specs.Camera.{IsCamera}
 use Rattle.sgm_grid.specs.declared.grid_spec.GridSpec.{GridSpec}
 use Rattle.sgm_grid.specs.Cells.{IsGridSpec}
 use Rattle.sgm_report.specs.Areas.{Area, IsArea}
-
--- the penalties of a change of the index by one, and by more
-pub record Penalties : Type 0 where
-  pub p1 : ℕ
-  pub p2 : ℕ
 
 pub record Calibration : Type 0 where
   pub span : Disparities
@@ -27,11 +23,11 @@ pub record Calibration : Type 0 where
   pub grid : Option GridSpec
   pub regions : Option (List Area)
 
-abbrev pub settings : Disparities → WindowSides → ℕ → ℕ → Warp → Warp → Option Camera → Option GridSpec → Option (List Area) → Calibration
-settings span window p1 p2 left right camera grid regions = record {
+abbrev pub settings : Disparities → WindowSides → Penalties → Warp → Warp → Option Camera → Option GridSpec → Option (List Area) → Calibration
+settings span window penalties left right camera grid regions = record {
   span = span;
   window = window;
-  penalties = record { p1 = p1; p2 = p2 };
+  penalties = penalties;
   left = left;
   right = right;
   camera = camera;
@@ -41,7 +37,8 @@ settings span window p1 p2 left right camera grid regions = record {
 
 -- the settings for the word `-`
 abbrev pub plain : Calibration
-plain = settings (record { first = pos 0; count = 64 }) (record { width = 9; height = 7 }) 10 120 Identity Identity None None None
+plain =
+    settings (record { first = pos 0; count = 64 }) (record { width = 9; height = 7 }) (record { p1 = 10; p2 = 120; adaptive = false }) Identity Identity None None None
 
 -- the ranges of warps, camera and grid; a camera where there is a grid; a grid where there are regions, and each of them in it
 pub record IsCalibration (calib : Calibration) : Type 0 where

@@ -5,15 +5,16 @@ use Rattle.std.specs.List.{list_all}
 use Rattle.std.specs.Option.{option_or}
 use Rattle.std.specs.Result.{result_err}
 use Rattle.serde_json.specs.Data.{Data, null, Items, no_items, item, Members, no_members, member}
-use Rattle.serde_json.specs.Find.{get, as_array, as_object, as_str}
+use Rattle.serde_json.specs.Find.{get, as_array, as_bool, as_object, as_str}
 use Rattle.sgm_calib.specs.declared.keys.Key.{Key}
 use Rattle.sgm_calib.specs.declared.keys.CalibFault.{CalibFault}
 use Rattle.sgm_calib.specs.declared.keys.CalibFault.TheVariants.{Missing, Unknown, Type_, Range}
 use Rattle.sgm_calib.specs.declared.keys.CalibError.{CalibError}
 use Rattle.sgm_calib.specs.declared.keys.CalibError.TheVariants.{Fault, NoMemory}
 use Rattle.sgm_calib.specs.declared.place.Place.{Place}
+use Rattle.sgm_calib.specs.declared.sort.Sort.{Sort}
 use Rattle.sgm_calib.specs.Kinds.{is_kind}
-use Rattle.sgm_calib.specs.Rows.{Row, Form, object as object_form, warps, kind, name as name_form, regions, matrix, nodes, key_at, whole, count_of, is_in_range}
+use Rattle.sgm_calib.specs.Rows.{Row, Form, object as object_form, warps, kind, name as name_form, truth, regions, matrix, nodes, key_at, whole, count_of, is_in_range}
 use Rattle.sgm_report.specs.Areas.{is_region_name}
 use Rattle.sgm_calib.specs.Table.{is_known, mesh_cols, mesh_rows}
 
@@ -53,22 +54,22 @@ number_in place holder row =
 
 -- ---- objects
 
--- whether an object of that kind has no name but those that the table gives it
-abbrev pub has_only : Row → List ℕ → Members → Bool
-has_only holder word no_members = true
-has_only holder word (member key d ms) = is_known holder word key && has_only holder word ms
+-- whether an object of that sort has no name but those that the table gives it
+abbrev pub has_only : Row → Sort → Members → Bool
+has_only holder sort no_members = true
+has_only holder sort (member key d ms) = is_known holder sort key && has_only holder sort ms
 
 abbrev pub unknown_fault : Key → Bool → Option CalibFault
 unknown_fault key true = None
 unknown_fault key false = Some (Unknown key)
 
-abbrev pub members_fault : Key → Row → List ℕ → Option Members → Option CalibFault
-members_fault key holder word None = Some (Type_ key)
-members_fault key holder word (Some ms) = unknown_fault key (has_only holder word ms)
+abbrev pub members_fault : Key → Row → Sort → Option Members → Option CalibFault
+members_fault key holder sort None = Some (Type_ key)
+members_fault key holder sort (Some ms) = unknown_fault key (has_only holder sort ms)
 
--- what is wrong with an object itself: its type, or a name that the table doesn't give an object of that kind
-unfoldable pub object_fault : Place → Row → List ℕ → Data → Option CalibFault
-object_fault place holder word d = members_fault (key_at place holder) holder word (as_object d)
+-- what is wrong with an object itself: its type, or a name that the table doesn't give an object of that sort
+unfoldable pub object_fault : Place → Row → Sort → Data → Option CalibFault
+object_fault place holder sort d = members_fault (key_at place holder) holder sort (as_object d)
 
 abbrev pub type_fault : {A : Type 0} → Key → Option A → Option CalibFault
 type_fault key None = Some (Type_ key)
@@ -128,6 +129,7 @@ key_fault_of warps place holder row = None
 key_fault_of regions place holder row = None
 key_fault_of kind place holder row = result_err (text_in is_kind place holder row)
 key_fault_of name_form place holder row = result_err (text_in is_region_name place holder row)
+key_fault_of truth place holder row = result_err (typed_in as_bool place holder row)
 key_fault_of (matrix low high) place holder row = numbers_fault place holder row 9
 key_fault_of (nodes low high) place holder row = numbers_fault place holder row (node_numbers holder)
 key_fault_of _ place holder row = result_err (number_in place holder row)

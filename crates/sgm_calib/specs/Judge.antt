@@ -10,10 +10,12 @@ use Rattle.sgm_grid.specs.declared.grid_spec.GridSpec.{GridSpec}
 use Rattle.sgm_calib.specs.declared.keys.CalibFault.{CalibFault}
 use Rattle.sgm_calib.specs.declared.keys.CalibFault.TheVariants.{Version, Missing}
 use Rattle.sgm_calib.specs.declared.place.TheConstants.{PLAIN}
+use Rattle.sgm_calib.specs.declared.sort.Sort.{Sort}
+use Rattle.sgm_calib.specs.declared.sort.Sort.TheVariants as sort
 use Rattle.sgm_calib.specs.Calibration.{Calibration}
 use Rattle.sgm_calib.specs.Table as table
 use Rattle.sgm_calib.specs.Table.{rows_in, span_of, window_of, penalties_of, camera_of, grid_of}
-use Rattle.sgm_calib.specs.Rows.{Row, Form, object, warps, regions, key_at, whole, is_in_range, is_required}
+use Rattle.sgm_calib.specs.Rows.{Row, Form, object, warps, regions, key_at, whole, count_of, is_in_range, is_required}
 use Rattle.sgm_calib.specs.Checks.{first_of, typed_in, or_out_of_range, object_fault, type_fault, keys_fault, value_of}
 use Rattle.sgm_calib.specs.WarpKeys.{warps_fault, warp_in}
 use Rattle.sgm_calib.specs.RegionKeys.{regions_fault, regions_in}
@@ -22,21 +24,25 @@ use Rattle.sgm_calib.specs.RegionKeys.{regions_fault, regions_in}
 unfoldable pub version_fault : Data → Option CalibFault
 version_fault top = result_err (or_out_of_range Version (is_in_range table.version.form PLAIN top) (typed_in whole PLAIN top table.version))
 
-abbrev pub itself_fault_of : Row → Bool → Option Data → Option CalibFault
-itself_fault_of row required None = if required then Some (Missing (key_at PLAIN row)) else None
-itself_fault_of row required (Some d) = object_fault PLAIN row [] d
+-- the objects of a value go by its version
+unfoldable pub sort_of : Data → Sort
+sort_of top = sort.Version (count_of table.version top)
+
+abbrev pub itself_fault_of : Row → Sort → Bool → Option Data → Option CalibFault
+itself_fault_of row sort required None = if required then Some (Missing (key_at PLAIN row)) else None
+itself_fault_of row sort required (Some d) = object_fault PLAIN row sort d
 
 -- what is wrong with an object of the value itself: it is missing and must be there, its type, or an unknown name
 unfoldable pub itself_fault : Data → Row → Option CalibFault
-itself_fault top row = itself_fault_of row (is_required row.presence top) (get row.name top)
+itself_fault top row = itself_fault_of row (sort_of top) (is_required row.presence top) (get row.name top)
 
-abbrev pub held_fault : Row → Option Data → Option CalibFault
-held_fault row None = None
-held_fault row (Some d) = keys_fault PLAIN d (rows_in row)
+abbrev pub held_fault : Row → Sort → Option Data → Option CalibFault
+held_fault row sort None = None
+held_fault row sort (Some d) = keys_fault PLAIN d (rows_in row sort)
 
--- what is wrong with an object of whole numbers: the object itself, its keys
+-- what is wrong with an object that holds no other: the object itself, its keys
 unfoldable pub section_fault : Data → Row → Option CalibFault
-section_fault top row = option_or (itself_fault top row) (held_fault row (get row.name top))
+section_fault top row = option_or (itself_fault top row) (held_fault row (sort_of top) (get row.name top))
 
 abbrev pub entry_fault_of : Form → Data → Row → Option CalibFault
 entry_fault_of object top row = section_fault top row
@@ -52,7 +58,7 @@ entry_fault top row = entry_fault_of row.form top row
 
 -- what is wrong with the value itself: its type, its version, an unknown name
 unfoldable pub top_fault : Data → Option CalibFault
-top_fault top = first_of (type_fault (key_at PLAIN table.top) (as_object top) ∷ version_fault top ∷ object_fault PLAIN table.top [] top ∷ [])
+top_fault top = first_of (type_fault (key_at PLAIN table.top) (as_object top) ∷ version_fault top ∷ object_fault PLAIN table.top sort.Plain top ∷ [])
 
 -- what is wrong with what stands in it
 unfoldable pub entries_fault : Data → Option CalibFault

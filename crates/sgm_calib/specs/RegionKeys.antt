@@ -9,6 +9,7 @@ use Rattle.sgm_calib.specs.declared.keys.CalibFault.TheVariants.{Range}
 use Rattle.sgm_calib.specs.declared.place.Place.{Place}
 use Rattle.sgm_calib.specs.declared.place.TheConstants.{PLAIN}
 use Rattle.sgm_calib.specs.declared.regions.RegionNumbers.{RegionNumbers}
+use Rattle.sgm_calib.specs.declared.sort.Sort.TheVariants.{Plain}
 use Rattle.sgm_calib.specs.Table as table
 use Rattle.sgm_calib.specs.Rows.{key_at, number_of, count_of}
 use Rattle.sgm_calib.specs.Checks.{first_of, object_fault, type_fault, keys_fault, elements, value_of, text_of}
@@ -19,7 +20,7 @@ region_place cols rows index = record { shift = 0; index = index; cols = cols; r
 
 -- what is wrong with a region: its type, an unknown name, its keys
 unfoldable pub region_fault : Place → Data → Option CalibFault
-region_fault place d = first_of (object_fault place table.region [] d ∷ keys_fault place d table.region_keys ∷ [])
+region_fault place d = first_of (object_fault place table.region Plain d ∷ keys_fault place d table.region_keys ∷ [])
 
 -- what is wrong with the regions from that place of the list on
 abbrev pub region_faults : ℕ → ℕ → ℕ → List Data → List (Option CalibFault)

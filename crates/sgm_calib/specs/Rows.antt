@@ -2,9 +2,12 @@
 use Rattle.std.specs.Prelude.{ℕ, ◌+◌, ◌%◌, ◌==◌, ℤ, pos, ◌-ℤ◌, unsigned_abs, int_le, Bool, true, false, ◌&&◌, List, Option, option_and_then, unwrap_or, is_some}
 use Rattle.std.specs.Str.{bytes_eq}
 use Rattle.serde_json.specs.Data.{Data}
-use Rattle.serde_json.specs.Find.{get, as_number, as_i64}
+use Rattle.serde_json.specs.Find.{get, as_bool, as_number, as_i64}
 use Rattle.sgm_calib.specs.declared.keys.Key.{Key}
 use Rattle.sgm_calib.specs.declared.place.Place.{Place}
+use Rattle.sgm_calib.specs.declared.sort.Sort.{Sort}
+use Rattle.sgm_calib.specs.declared.sort.Sort.TheVariants.{Side, Version}
+use Rattle.sgm_calib.specs.Kinds.{kind_name}
 use Rattle.sgm_calib.specs.declared.table.Row.{Row as CodeRow}
 use Rattle.sgm_calib.specs.declared.table.Form.{Form as CodeForm}
 use Rattle.sgm_calib.specs.declared.table.Form.TheVariants as code
@@ -12,7 +15,7 @@ use Rattle.sgm_calib.specs.declared.table.Presence.{Presence as CodePresence}
 use Rattle.sgm_calib.specs.declared.table.Presence.TheVariants as code_presence
 
 -- What the value of a key is, and which numbers are in range: an object; the object of the warps; the name of a kind of warp,
--- or of a region; the list of the regions; a whole number, which is between two, odd and between two, from that of another key
+-- or of a region; a truth value; the list of the regions; a whole number, which is between two, odd and between two, from that of another key
 -- of the object on, a column or a row of the grid, or so many of them as are left from another key's on; nine numbers, or two
 -- for each node of a mesh, each between two.
 pub data Form : Type 0 where
@@ -20,6 +23,7 @@ pub data Form : Type 0 where
   warps : Form
   kind : Form
   name : Form
+  truth : Form
   regions : Form
   between : ℤ → ℤ → Form
   odd : ℤ → ℤ → Form
@@ -31,13 +35,14 @@ pub data Form : Type 0 where
   matrix : ℤ → ℤ → Form
   nodes : ℤ → ℤ → Form
 
--- whether a key has to be there: always, never, where another key stands in the object, or in the sides of one kind alone,
--- to which alone it is given
+-- whether a key has to be there: always, never, where another key stands in the object, or in the sides of one kind alone or
+-- the objects of one version alone, to which alone it is given
 pub data Presence : Type 0 where
   required : Presence
   optional : Presence
   with : List ℕ → Presence
   of_kind : List ℕ → Presence
+  of_version : ℕ → Presence
 
 -- a key's number, the number of the object that has it, its name there, its path as it is printed (of a region's what
 -- follows the place in the list), and what is asked of it
@@ -54,6 +59,7 @@ form_meant code.Object = object
 form_meant code.Warps = warps
 form_meant code.Kind = kind
 form_meant code.Name = name
+form_meant code.Truth = truth
 form_meant code.Regions = regions
 form_meant (code.Between low high) = between low high
 form_meant (code.Odd low high) = odd low high
@@ -70,6 +76,7 @@ presence_meant code_presence.Required = required
 presence_meant code_presence.Optional = optional
 presence_meant (code_presence.With key) = with key.now
 presence_meant (code_presence.OfKind key) = of_kind key.now
+presence_meant (code_presence.OfVersion number) = of_version number
 
 -- the row that a row of the code is
 abbrev pub meant : CodeRow → Row
@@ -103,6 +110,14 @@ number_of row d = whole_at row.name d
 -- the number of a key that isn't negative
 abbrev pub count_of : Row → Data → ℕ
 count_of row d = unsigned_abs (number_of row d)
+
+-- the truth value under a name of an object, and false where there is none
+abbrev pub truth_at : List ℕ → Data → Bool
+truth_at key d = unwrap_or (option_and_then as_bool (get key d)) false
+
+-- the truth value of a key in its object
+abbrev pub truth_of : Row → Data → Bool
+truth_of row d = truth_at row.name d
 
 -- ---- ranges of numbers; some rest on the object that has the key
 
@@ -143,8 +158,18 @@ is_required required d = true
 is_required optional d = false
 is_required (with key) d = is_some (get key d)
 is_required (of_kind key) d = true
+is_required (of_version number) d = true
 
--- whether an object of that kind is given the key; only a side of the warps has a kind
-abbrev pub is_given : Presence → List ℕ → Bool
-is_given (of_kind key) word = bytes_eq key word
-is_given _ word = true
+abbrev pub is_side_of : List ℕ → Sort → Bool
+is_side_of key (Side side) = bytes_eq key (kind_name side)
+is_side_of key _ = false
+
+abbrev pub is_in_version : ℕ → Sort → Bool
+is_in_version number (Version other) = number == other
+is_in_version number _ = false
+
+-- whether an object of that sort is given the key
+abbrev pub is_given : Presence → Sort → Bool
+is_given (of_kind key) sort = is_side_of key sort
+is_given (of_version number) sort = is_in_version number sort
+is_given _ sort = true

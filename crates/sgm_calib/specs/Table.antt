@@ -1,5 +1,5 @@
 -- The key table of calibration files: a row for each key, in the order of the checks. The names of an object, the keys' paths
--- and the order of the checks follow from it. Behind it stands what the keys of an object of whole numbers become.
+-- and the order of the checks follow from it. Behind it stands what the keys of an object become that holds no other.
 use Rattle.std.specs.Prelude.{ℕ, ◌+◌, ◌==◌, ℤ, pos, neg_ℤ, Bool, ◌&&◌, List, [], ◌∷◌, ◌++◌, codes, filter, map}
 use Rattle.std.specs.List.{list_any, range_with_len}
 use Rattle.std.specs.Str.{bytes_eq}
@@ -7,13 +7,14 @@ use Rattle.serde_json.specs.Data.{Data}
 use Rattle.sgm_base.specs.Disparities.{Disparities}
 use Rattle.sgm_base.specs.declared.limits.TheConstants.{MAX_COUNT, MAX_FIRST, MAX_GRID_LINES, MAX_PENALTY, MAX_WINDOW_HEIGHT, MAX_WINDOW_WIDTH, MIN_FIRST, MIN_WINDOW_SIDE}
 use Rattle.sgm_census.specs.Windows.{WindowSides}
+use Rattle.sgm_energy.specs.Pens.{Penalties}
+use Rattle.sgm_calib.specs.declared.sort.Sort.{Sort}
 use Rattle.sgm_grid.specs.declared.grid_spec.GridSpec.{GridSpec}
 use Rattle.sgm_grid.specs.declared.limits.TheConstants.{MAX_CELL, MAX_HEIGHT, MAX_PLACE}
 use Rattle.sgm_height.specs.declared.camera.Camera.{Camera}
 use Rattle.sgm_height.specs.declared.limits.TheConstants.{MAX_BASELINE, MAX_DEPTH, MAX_FOCAL, MAX_MOUNT, MAX_OFFSET}
 use Rattle.sgm_rectify.specs.declared.limits.TheConstants.{MAX_ENTRY, MAX_NODE, MAX_NODE_COUNT, MAX_STEP, MIN_ENTRY, MIN_NODE, MIN_NODE_COUNT, MIN_STEP}
-use Rattle.sgm_calib.specs.Calibration.{Penalties}
-use Rattle.sgm_calib.specs.Rows.{Form, object, warps, kind, name, regions, between, odd, from, column, line, columns_from, lines_from, matrix, nodes, Presence, required, optional, with, of_kind, Row, is_given, number_of, count_of}
+use Rattle.sgm_calib.specs.Rows.{Form, object, warps, kind, name, truth, regions, between, odd, from, column, line, columns_from, lines_from, matrix, nodes, Presence, required, optional, with, of_kind, of_version, Row, is_given, number_of, count_of, truth_of}
 
 -- the row of a key of the value itself, and of a key of an object
 abbrev pub entry : ℕ → List ℕ → Form → Presence → Row
@@ -40,7 +41,7 @@ abbrev pub top : Row
 top = record { number = 1; object = 0; name = codes "top"; path = codes "top"; form = object; presence = required }
 
 abbrev pub version : Row
-version = entry 2 (codes "version") (between (pos 1) (pos 1)) required
+version = entry 2 (codes "version") (between (pos 1) (pos 2)) required
 
 abbrev pub disparities : Row
 disparities = entry 3 (codes "disparities") object required
@@ -68,6 +69,9 @@ p1 = key_of penalties 10 (codes "p1") (between (pos 1) (pos MAX_PENALTY))
 
 abbrev pub p2 : Row
 p2 = key_of penalties 11 (codes "p2") (from (codes "p1") (pos MAX_PENALTY))
+
+abbrev pub adapt : Row
+adapt = given penalties 50 (codes "adapt") truth (of_version 2)
 
 abbrev pub warp : Row
 warp = entry 12 (codes "warp") warps optional
@@ -180,7 +184,7 @@ abbrev pub census_keys : List Row
 census_keys = width ∷ height ∷ []
 
 abbrev pub penalties_keys : List Row
-penalties_keys = p1 ∷ p2 ∷ []
+penalties_keys = p1 ∷ p2 ∷ adapt ∷ []
 
 abbrev pub side_keys : List Row
 side_keys = side_kind ∷ side_matrix ∷ mesh_step ∷ mesh_cols ∷ mesh_rows ∷ mesh_nodes ∷ []
@@ -209,19 +213,23 @@ keys =
     ++ (region_list ∷ [])
     ++ (region ∷ region_keys)
 
--- their numbers in that order: 49, from 1 on
+-- their numbers in that order: from 1 to 49, with 50 behind 11
 abbrev pub order : List ℕ
-order = range_with_len 1 49
+order = range_with_len 1 11 ++ 50 ∷ range_with_len 12 38
 
--- the keys of an object, in the order of their checks
-unfoldable pub rows_in : Row → List Row
-rows_in holder = filter (λ row. row.object == holder.number) keys
+-- those of some keys that an object of that sort is given
+abbrev pub given_rows : Sort → List Row → List Row
+given_rows sort rows = filter (λ row. is_given row.presence sort) rows
 
--- whether the table gives an object of that kind the name
-unfoldable pub is_known : Row → List ℕ → List ℕ → Bool
-is_known holder word key = list_any (λ row. (row.object == holder.number) && is_given row.presence word && bytes_eq row.name key) keys
+-- the keys that an object of that sort is given, in the order of their checks
+unfoldable pub rows_in : Row → Sort → List Row
+rows_in holder sort = given_rows sort (filter (λ row. row.object == holder.number) keys)
 
--- ---- what an object of whole numbers is
+-- whether the table gives an object of that sort the name
+unfoldable pub is_known : Row → Sort → List ℕ → Bool
+is_known holder sort key = list_any (λ row. (row.object == holder.number) && is_given row.presence sort && bytes_eq row.name key) keys
+
+-- ---- what an object without objects is
 
 -- the disparities, the window and the penalties that an object is
 abbrev pub span_of : Data → Disparities
@@ -231,7 +239,7 @@ abbrev pub window_of : Data → WindowSides
 window_of d = record { width = count_of width d; height = count_of height d }
 
 abbrev pub penalties_of : Data → Penalties
-penalties_of d = record { p1 = count_of p1 d; p2 = count_of p2 d }
+penalties_of d = record { p1 = count_of p1 d; p2 = count_of p2 d; adaptive = truth_of adapt d }
 
 -- the camera that an object is
 unfoldable pub camera_of : Data → Camera

@@ -11,6 +11,7 @@ use Rattle.sgm_calib.specs.declared.kind.Kind.TheVariants.{Identity, Projective,
 use Rattle.sgm_calib.specs.declared.keys.CalibFault.{CalibFault}
 use Rattle.sgm_calib.specs.declared.keys.CalibFault.TheVariants.{Missing}
 use Rattle.sgm_calib.specs.declared.place.Place.{Place}
+use Rattle.sgm_calib.specs.declared.sort.Sort.TheVariants.{Plain, Side}
 use Rattle.sgm_calib.specs.declared.place.TheConstants.{PLAIN, RIGHT_SIDE}
 use Rattle.sgm_calib.specs.Kinds.{kind_name, kind_named}
 use Rattle.sgm_calib.specs.Table as table
@@ -44,7 +45,7 @@ abbrev pub side_checks : Place → Data → List (Option CalibFault)
 side_checks place side =
     type_fault (key_at place table.left) (as_object side)
     ∷ key_fault place side table.side_kind
-    ∷ object_fault place table.left (kind_name (kind_of side)) side
+    ∷ object_fault place table.left (Side (kind_of side)) side
     ∷ keys_fault place side (rows_of_kind (kind_of side))
     ∷ []
 
@@ -60,7 +61,7 @@ abbrev pub warps_fault_of : Option Data → Option CalibFault
 warps_fault_of None = None
 warps_fault_of (Some d) =
     first_of (
-    object_fault PLAIN table.warp [] d
+    object_fault PLAIN table.warp Plain d
     ∷ side_fault PLAIN table.left.name d
     ∷ side_fault RIGHT_SIDE table.right.name d
     ∷ [])

@@ -1,6 +1,6 @@
 ghost use Rattle.std.specs.Prelude.{◌≡◌, option_map};
 ghost use Rattle.sgm_rectify.specs.Warps.{IsWarp};
-ghost use Rattle.sgm_energy.specs.Pens.{p1_of, p2_of};
+ghost use Rattle.sgm_energy.specs.Pens.{penalties_of};
 ghost use Rattle.sgm_calib.specs.Calibration.{plain, IsCalibration};
 
 use sgm_base::Span;
@@ -29,21 +29,21 @@ pub struct Calib {
 impl Model for Calib {
     ghost use Rattle.std.specs.Prelude.{option_map};
     ghost use Rattle.sgm_calib.specs.Calibration.{Calibration, IsCalibration, settings};
-    ghost use Rattle.sgm_energy.specs.Pens.{p1_of, p2_of};
+    ghost use Rattle.sgm_energy.specs.Pens.{penalties_of};
 
     ghost Value = { Calibration };
 
-    ghost view = { λ c. settings c.span c.window (p1_of c.pen) (p2_of c.pen) c.left c.right c.camera c.grid
+    ghost view = { λ c. settings c.span c.window (penalties_of c.pen) c.left c.right c.camera c.grid
         (option_map (λ v. v.items) c.regions) };
 
     ghost invariant = { λ c. IsCalibration
-        (settings c.span c.window (p1_of c.pen) (p2_of c.pen) c.left c.right c.camera c.grid
+        (settings c.span c.window (penalties_of c.pen) c.left c.right c.camera c.grid
         (option_map (λ v. v.items) c.regions)) };
 }
 
 impl Calib {
     /// The settings where no file is named: 64 disparities from 0 on, a window of 9 x 7 pixels, the
-    /// penalties 10 and 120, no warp, and neither camera nor grid nor regions. Takes no memory.
+    /// penalties 10 and 120 everywhere, no warp, and neither camera nor grid nor regions. Takes no memory.
     pub fn plain() -> Calib
         ensures { result ≡ plain }
     {
@@ -84,8 +84,7 @@ impl Calib {
 
     /// The penalties of a change of the disparity.
     pub fn pen(&self) -> Pen
-        ensures p1 { p1_of result ≡ self.now.penalties.p1 }
-        ensures p2 { p2_of result ≡ self.now.penalties.p2 }
+        ensures { penalties_of result ≡ self.now.penalties }
     {
         self.pen
     }

@@ -5,15 +5,16 @@ ghost use Rattle.std.specs.BTreeMap.{keys};
 ghost use Rattle.std.specs.List.{list_all, list_any};
 ghost use Rattle.std.specs.Str.{bytes_eq};
 ghost use Rattle.serde_json.specs.View.{view};
-ghost use Rattle.serde_json.specs.Find.{as_str, get};
+ghost use Rattle.serde_json.specs.Find.{as_bool, as_str, get};
 ghost use Rattle.sgm_calib.specs.Table as table;
 ghost use Rattle.sgm_calib.specs.Table.{is_known};
-ghost use Rattle.sgm_calib.specs.Rows.{key_at, whole, whole_at, number_of, least, greatest, has_parity, is_in_range, is_required, is_given, meant, form_meant, presence_meant};
+ghost use Rattle.sgm_calib.specs.Rows.{key_at, whole, whole_at, number_of, least, greatest, has_parity, is_in_range, is_required, is_given, truth_at, meant, form_meant, presence_meant};
 ghost use Rattle.sgm_calib.specs.Checks.{number_in, typed_in, object_fault, text_of};
-ghost use Rattle.sgm_calib.specs.Judge.{version_fault, top_fault, itself_fault};
+ghost use Rattle.sgm_calib.specs.Judge.{sort_of, version_fault, top_fault, itself_fault};
 
 use crate::keys::{CalibFault, Key};
 use crate::place::{PLAIN, Place};
+use crate::sort::Sort;
 use crate::table::{Form, Presence, Row, TOP, VERSION, rows};
 use serde_json::{Map, Value};
 
@@ -144,52 +145,87 @@ pub fn text<'a>(object: &'a Value, row: &Row, place: Place) -> Result<&'a str, C
     }
 }
 
-/// Whether an object of that kind is given the key.
-fn is_given(row: &Row, kind: &str) -> bool
-    ensures { result ≡ is_given (presence_meant row.now.presence) kind.now }
+/// The truth value of a key, or what is wrong: it is missing, or its type.
+pub fn truth(object: &Value, row: &Row, place: Place) -> Result<bool, CalibFault>
+    requires { row.now.number + place.shift < 256 }
+    ensures { result ≡ typed_in as_bool place (view object.now) (meant row.now) }
 {
-    match row.presence {
-        Presence::OfKind(name) => name == kind,
+    match object.get(row.name) {
+        None => Err(CalibFault::Missing(key_at(row, place))),
+        Some(value) => match value.as_bool() {
+            None => Err(CalibFault::Type_(key_at(row, place))),
+            Some(truth) => Ok(truth),
+        },
+    }
+}
+
+/// The truth value under a name of an object, and false where there is none.
+pub fn truth_at(object: &Value, name: &str) -> bool
+    ensures { result ≡ truth_at name.now (view object.now) }
+{
+    match object.get(name) {
+        None => false,
+        Some(value) => value.as_bool().unwrap_or(false),
+    }
+}
+
+/// Whether an object of that sort is given the key.
+pub fn is_given(row: &Row, sort: Sort) -> bool
+    ensures { result ≡ is_given (presence_meant row.now.presence) sort }
+{
+    match (row.presence, sort) {
+        (Presence::OfKind(name), Sort::Side(kind)) => name == kind.name(),
+        (Presence::OfKind(_), _) => false,
+        (Presence::OfVersion(number), Sort::Version(other)) => number == other,
+        (Presence::OfVersion(_), _) => false,
         _ => true,
     }
 }
 
-/// Whether one of the rows gives an object of that kind the name.
-fn gives_name(rows: &[Row], object: &Row, kind: &str, name: &str) -> bool
+/// Whether one of the rows gives an object of that sort the name.
+fn gives_name(rows: &[Row], object: &Row, sort: Sort, name: &str) -> bool
     ensures { result ≡ list_any
-        (λ row. (row.object == object.now.number) && is_given (presence_meant row.presence) kind.now
+        (λ row. (row.object == object.now.number) && is_given (presence_meant row.presence) sort
         && bytes_eq row.name.now name.now) rows.now }
 {
-    rows.iter().any(|row| row.object == object.number && is_given(row, kind) && row.name == name)
+    rows.iter().any(|row| row.object == object.number && is_given(row, sort) && row.name == name)
 }
 
-/// Whether the table gives an object of that kind the name.
-fn is_known(object: &Row, kind: &str, name: &str) -> bool
-    ensures { result ≡ is_known (meant object.now) kind.now name.now }
+/// Whether the table gives an object of that sort the name.
+fn is_known(object: &Row, sort: Sort, name: &str) -> bool
+    ensures { result ≡ is_known (meant object.now) sort name.now }
 {
-    gives_name(rows(), object, kind, name)
+    gives_name(rows(), object, sort, name)
 }
 
-fn has_only(members: &Map<String, Value>, object: &Row, kind: &str) -> bool
-    ensures { result ≡ list_all (λ name. is_known (meant object.now) kind.now (string_bytes name)) (keys members.now) }
+fn has_only(members: &Map<String, Value>, object: &Row, sort: Sort) -> bool
+    ensures { result ≡ list_all (λ name. is_known (meant object.now) sort (string_bytes name)) (keys members.now) }
 {
     members
         .keys()
-        .all(|name| is_known(object, kind, name.as_str()))
+        .all(|name| is_known(object, sort, name.as_str()))
 }
 
-/// Checks that a value is an object, and that it has no name but those of an object of that kind.
+/// Checks that a value is an object, and that it has no name but those of an object of that sort.
 #[tactic(auto, unfolding(crate::specs::Checks::object_fault))]
-pub fn check_object(value: &Value, object: &Row, place: Place, kind: &str) -> Result<(), CalibFault>
+pub fn check_object(value: &Value, object: &Row, place: Place, sort: Sort) -> Result<(), CalibFault>
     requires { object.now.number + place.shift < 256 }
-    ensures ok { OnOk result (object_fault place (meant object.now) kind.now (view value.now) ≡ None) }
-    ensures fault { IfErr result (λ f. object_fault place (meant object.now) kind.now (view value.now) ≡ Some f) }
+    ensures ok { OnOk result (object_fault place (meant object.now) sort (view value.now) ≡ None) }
+    ensures fault { IfErr result (λ f. object_fault place (meant object.now) sort (view value.now) ≡ Some f) }
 {
     match value.as_object() {
         None => Err(CalibFault::Type_(key_at(object, place))),
-        Some(members) if has_only(members, object, kind) => Ok(()),
+        Some(members) if has_only(members, object, sort) => Ok(()),
         Some(_) => Err(CalibFault::Unknown(key_at(object, place))),
     }
+}
+
+/// The sort of the objects that a value holds: they go by its version.
+#[tactic(auto, unfolding(crate::specs::Judge::sort_of))]
+pub fn sort_of(top: &Value) -> Sort
+    ensures { result ≡ sort_of (view top.now) }
+{
+    Sort::Version(number_at(top, VERSION.name).unsigned_abs())
 }
 
 /// Whether a key has to be there.
@@ -217,7 +253,7 @@ pub fn object_in<'a>(top: &'a Value, row: &Row) -> Result<Option<&'a Value>, Cal
         None if is_required(row, top) => Err(CalibFault::Missing(key_at(row, PLAIN))),
         None => Ok(None),
         Some(object) => {
-            check_object(object, row, PLAIN, "")?;
+            check_object(object, row, PLAIN, sort_of(top))?;
             Ok(Some(object))
         }
     }
@@ -246,5 +282,5 @@ pub fn check_top(top: &Value) -> Result<(), CalibFault>
         return Err(CalibFault::Type_(key_at(&TOP, PLAIN)));
     };
     check_version(top)?;
-    check_object(top, &TOP, PLAIN, "")
+    check_object(top, &TOP, PLAIN, Sort::Plain)
 }

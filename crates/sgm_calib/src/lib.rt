@@ -12,6 +12,7 @@ mod place;
 mod reading;
 mod regions;
 mod sections;
+mod sort;
 mod table;
 mod warps;
 

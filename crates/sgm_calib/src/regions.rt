@@ -13,6 +13,7 @@ use crate::checks::{check_object, key_at, text, whole};
 use crate::keys::{CalibError, CalibFault};
 use crate::lists::elements;
 use crate::place::{PLAIN, Place};
+use crate::sort::Sort;
 use crate::table::{
     REGION, REGION_BASE, REGION_COL, REGION_COLS, REGION_NAME, REGION_ROW, REGION_ROWS, REGIONS,
 };
@@ -101,7 +102,7 @@ fn region_parts<'a>(object: &'a Value, place: Place) -> Result<(&'a str, RegionN
     ensures based { IfOk result (λ parts. IsBase parts.1.base) }
     ensures fault { IfErr result (λ f. region_fault place (view object.now) ≡ Some f) }
 {
-    check_object(object, &REGION, place, "")?;
+    check_object(object, &REGION, place, Sort::Plain)?;
     let name = region_name(object, place)?;
     let numbers = region_numbers(object, place)?;
     Ok((name, numbers))

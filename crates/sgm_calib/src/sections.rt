@@ -1,6 +1,6 @@
-//! The objects of whole numbers that stand in a calibration file.
+//! The objects that stand in a calibration file and hold no other.
 
-ghost use Rattle.std.specs.Prelude.{◌≡◌, ◌≤ℤ◌, ◌%◌, ◌==◌, pos, neg_ℤ, unsigned_abs};
+ghost use Rattle.std.specs.Prelude.{◌≡◌, [], ◌∷◌, ◌≤ℤ◌, ◌%◌, ◌==◌, pos, neg_ℤ, unsigned_abs};
 ghost use Rattle.std.specs.Prelude.{IsTrue, IfOk, OnOk, IfErr, IfSome, Some, None, is_some};
 ghost use Rattle.serde_json.specs.View.{view};
 ghost use Rattle.serde_json.specs.Find.{get};
@@ -11,19 +11,20 @@ ghost use Rattle.sgm_base.specs.declared.limits.TheConstants.{MAX_WINDOW_HEIGHT}
 ghost use Rattle.sgm_height.specs.Camera.{IsCamera};
 ghost use Rattle.sgm_grid.specs.Cells.{IsGridSpec};
 ghost use Rattle.sgm_grid.specs.declared.limits.TheConstants.{MAX_CELL, MAX_PLACE};
-ghost use Rattle.sgm_energy.specs.Pens.{p1_of, p2_of};
+ghost use Rattle.sgm_energy.specs.Pens.{penalties_of as seen};
 ghost use Rattle.sgm_calib.specs.Table as table;
 ghost use Rattle.sgm_calib.specs.Rows.{number_of, count_of, meant, form_meant, presence_meant};
 ghost use Rattle.sgm_calib.specs.Checks.{keys_fault, value_of};
-ghost use Rattle.sgm_calib.specs.Table.{span_of, window_of, penalties_of, camera_of, grid_of};
+ghost use Rattle.sgm_calib.specs.Table.{given_rows, rows_in, span_of, window_of, penalties_of, camera_of, grid_of};
 ghost use Rattle.sgm_calib.specs.Judge.{section_fault, camera_in, grid_in};
 
-use crate::checks::{object_in, odd_or_whole, whole};
+use crate::checks::{is_given, object_in, odd_or_whole, sort_of, truth, truth_at, whole};
 use crate::keys::CalibFault;
 use crate::place::PLAIN;
+use crate::sort::Sort;
 use crate::table::{
-    BASELINE, CAMERA, CELL, CENSUS, COUNT, CX, CY, DISPARITIES, DOFFS, FAR, FIRST, FOCAL, GRID,
-    GRID_COLS, GRID_ROWS, HEIGHT, MOUNT, NEAR, P1, P2, PENALTIES, SOUTH, WEST, WIDTH,
+    ADAPT, BASELINE, CAMERA, CELL, CENSUS, COUNT, CX, CY, DISPARITIES, DOFFS, FAR, FIRST, FOCAL,
+    GRID, GRID_COLS, GRID_ROWS, HEIGHT, MOUNT, NEAR, P1, P2, PENALTIES, SOUTH, WEST, WIDTH,
 };
 use serde_json::Value;
 use sgm_base::Span;
@@ -109,42 +110,55 @@ pub fn census(top: &Value) -> Result<Window, CalibFault>
 }
 
 #[tactic(auto, using(std::proofs::lemmas::Int::ints))]
-fn pen(p1: i64, p2: i64) -> Pen
+fn pen(p1: i64, p2: i64, adaptive: bool) -> Pen
     requires low { pos 1 ≤ℤ p1 }
     requires ordered { p1 ≤ℤ p2 }
     requires high { p2 ≤ℤ pos MAX_PENALTY }
-    ensures p1 { p1_of result ≡ unsigned_abs p1 }
-    ensures p2 { p2_of result ≡ unsigned_abs p2 }
+    ensures { seen result ≡ record { p1 = unsigned_abs p1; p2 = unsigned_abs p2; adaptive = adaptive } }
 {
-    let Some(pen) = Pen::make(p1 as u16, p2 as u16) else {
-        unreachable!()
+    let (p1, p2) = (p1 as u16, p2 as u16);
+    let made = if adaptive {
+        Pen::adaptive(p1, p2)
+    } else {
+        Pen::make(p1, p2)
     };
+    let Some(pen) = made else { unreachable!() };
     pen
 }
 
-/// The penalties that an object is, once its names are known.
-fn pen_of(object: &Value) -> Result<Pen, CalibFault>
-    ensures ok { OnOk result (keys_fault PLAIN (view object.now) table.penalties_keys ≡ None) }
-    ensures p1 { IfOk result (λ pen. p1_of pen ≡ (penalties_of (view object.now)).p1) }
-    ensures p2 { IfOk result (λ pen. p2_of pen ≡ (penalties_of (view object.now)).p2) }
-    ensures fault { IfErr result (λ f. keys_fault PLAIN (view object.now) table.penalties_keys ≡ Some f) }
+/// Checks the key that says whether P2 follows the image, where penalties of that sort are given it.
+fn check_adapt(object: &Value, sort: Sort) -> Result<(), CalibFault>
+    ensures ok { OnOk result (keys_fault PLAIN (view object.now) (given_rows sort (table.adapt ∷ [])) ≡ None) }
+    ensures fault { IfErr result (λ f. keys_fault PLAIN (view object.now) (given_rows sort (table.adapt ∷ [])) ≡ Some f) }
+{
+    if is_given(&ADAPT, sort) {
+        truth(object, &ADAPT, PLAIN)?;
+    }
+    Ok(())
+}
+
+/// The penalties that an object of that sort is, once its names are known.
+fn pen_of(object: &Value, sort: Sort) -> Result<Pen, CalibFault>
+    ensures ok { OnOk result (keys_fault PLAIN (view object.now) (rows_in table.penalties sort) ≡ None) }
+    ensures value { IfOk result (λ pen. seen pen ≡ penalties_of (view object.now)) }
+    ensures fault { IfErr result (λ f. keys_fault PLAIN (view object.now) (rows_in table.penalties sort) ≡ Some f) }
 {
     let p1 = whole(object, &P1, PLAIN)?;
     let p2 = whole(object, &P2, PLAIN)?;
-    Ok(pen(p1, p2))
+    check_adapt(object, sort)?;
+    Ok(pen(p1, p2, truth_at(object, ADAPT.name)))
 }
 
 /// The penalties of a change of the disparity.
 #[tactic(auto, unfolding(crate::specs::Judge::section_fault))]
 pub fn penalties(top: &Value) -> Result<Pen, CalibFault>
     ensures ok { OnOk result (section_fault (view top.now) table.penalties ≡ None) }
-    ensures p1 { IfOk result (λ pen. p1_of pen ≡ (penalties_of (value_of table.penalties (view top.now))).p1) }
-    ensures p2 { IfOk result (λ pen. p2_of pen ≡ (penalties_of (value_of table.penalties (view top.now))).p2) }
+    ensures value { IfOk result (λ pen. seen pen ≡ penalties_of (value_of table.penalties (view top.now))) }
     ensures fault { IfErr result (λ f. section_fault (view top.now) table.penalties ≡ Some f) }
 {
     let found = object_in(top, &PENALTIES)?;
     let Some(object) = found else { unreachable!() };
-    pen_of(object)
+    pen_of(object, sort_of(top))
 }
 
 /// The camera that an object is, once its names are known.

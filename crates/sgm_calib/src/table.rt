@@ -26,6 +26,8 @@ pub enum Form {
     Kind,
     /// The text that names a region.
     Name,
+    /// A truth value.
+    Truth,
     /// A list of regions.
     Regions,
     /// A whole number from the first to the second.
@@ -57,6 +59,8 @@ pub enum Presence {
     With(&'static str),
     /// Required by that kind of warp, and an unknown name to the others.
     OfKind(&'static str),
+    /// Required in that version, and an unknown name in the others.
+    OfVersion(u64),
 }
 
 /// A row of the table.
@@ -118,7 +122,7 @@ const OF_MESH: Presence = Presence::OfKind("mesh");
 
 pub const TOP: Row = key_row!(1 in 0 "" "top": Form::Object);
 
-pub const VERSION: Row = key_row!(2 in 1 "" "version": Form::Between(1, 1));
+pub const VERSION: Row = key_row!(2 in 1 "" "version": Form::Between(1, 2));
 
 pub const DISPARITIES: Row = key_row!(3 in 1 "" "disparities": Form::Object);
 
@@ -137,6 +141,8 @@ pub const PENALTIES: Row = key_row!(9 in 1 "" "penalties": Form::Object);
 pub const P1: Row = key_row!(10 in 9 "penalties." "p1": Form::Between(1, MAX_PENALTY as i64));
 
 pub const P2: Row = key_row!(11 in 9 "penalties." "p2": Form::From("p1", MAX_PENALTY as i64));
+
+pub const ADAPT: Row = key_row!(50 in 9 "penalties." "adapt": Form::Truth, Presence::OfVersion(2));
 
 pub const WARP: Row = key_row!(12 in 1 "" "warp": Form::Warps, Presence::Optional);
 
@@ -216,7 +222,7 @@ pub const REGION_ROWS: Row = key_row!(48 in 43 "]." "rows": Form::LinesFrom("row
 pub const REGION_BASE: Row = key_row!(49 in 43 "]." "base": BASES);
 
 /// The table, in the order of the checks.
-static KEYS: [Row; 49] = [
+static KEYS: [Row; 50] = [
     TOP,
     VERSION,
     DISPARITIES,
@@ -228,6 +234,7 @@ static KEYS: [Row; 49] = [
     PENALTIES,
     P1,
     P2,
+    ADAPT,
     WARP,
     LEFT,
     KIND,

@@ -7,7 +7,6 @@ ghost use Rattle.sgm_rectify.specs.declared.limits.TheConstants.{MIN_STEP, MAX_S
 ghost use Rattle.sgm_calib.specs.declared.kind.Kind.TheVariants.{Mesh};
 ghost use Rattle.sgm_calib.specs.Table as table;
 ghost use Rattle.sgm_calib.specs.Rows.{whole, count_of, meant, form_meant, presence_meant};
-ghost use Rattle.sgm_calib.specs.Kinds.{kind_name};
 ghost use Rattle.sgm_calib.specs.Checks.{object_fault, key_fault, keys_fault, numbers_fault, value_of, IsFaultOf};
 ghost use Rattle.sgm_calib.specs.WarpKeys.{kind_of, rows_of_kind, shape_keys, mesh_fault, matrix_in, pairs, side_fault, side_warp, warp_of_kind, warps_fault, warp_in};
 
@@ -16,6 +15,7 @@ use crate::keys::{CalibError, CalibFault};
 use crate::kind::{Kind, kind_named};
 use crate::lists::{number, numbers};
 use crate::place::{PLAIN, Place, RIGHT_SIDE};
+use crate::sort::Sort;
 use crate::table::{KIND, LEFT, MATRIX, MESH_COLS, MESH_ROWS, NODES, RIGHT, Row, STEP, WARP};
 use serde_json::Value;
 use sgm_rectify::{Nodes, Warp};
@@ -171,7 +171,7 @@ fn side(alloc: Global, warp: &Value, row: &Row, place: Place) -> Result<Warp, Ca
         return Err(CalibError::Fault(CalibFault::Type_(key_at(&LEFT, place))));
     };
     let kind = side_kind(side, place)?;
-    check_object(side, &LEFT, place, kind.name())?;
+    check_object(side, &LEFT, place, Sort::Side(kind))?;
     warp_of_kind(alloc, side, place, kind)
 }
 
@@ -189,7 +189,7 @@ pub fn warps(alloc: Global, top: &Value) -> Result<(Warp, Warp), CalibError>
     let Some(warp) = top.get(WARP.name) else {
         return Ok((Warp::Identity, Warp::Identity));
     };
-    check_object(warp, &WARP, PLAIN, "")?;
+    check_object(warp, &WARP, PLAIN, Sort::Plain)?;
     let left = side(alloc, warp, &LEFT, PLAIN)?;
     let right = side(alloc, warp, &RIGHT, RIGHT_SIDE)?;
     Ok((left, right))

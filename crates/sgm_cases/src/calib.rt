@@ -1,7 +1,7 @@
 //! `calib TEXT`: the calibration that the text is, or its first fault.
 //!
-//! The answer is `ok`, the least disparity and their number, the window's sides, the penalties, and then
-//! each warp, the camera, the grid and the regions with their names and numbers, where they are there, the
+//! The answer is `ok`, the least disparity and their number, the window's sides, the penalties, `adapt` where
+//! they follow the image, and then each warp, the camera, the grid and the regions with their names and numbers, where they are there, the
 //! camera and the grid field by field; or the fault with its key's number, index and path. Of more than
 //! eight nodes or regions the last alone stands there, after their number.
 
@@ -95,6 +95,9 @@ fn push_calib(text: &mut String, calib: &Calib) -> Result<(), AllocError> {
     let (first, count, width, height) = (span.first, span.count, window.width, window.height);
     let (p1, p2) = (pen.p1(), pen.p2());
     write!(text, "ok {first} {count} {width} {height} {p1} {p2}")?;
+    if pen.is_adaptive() {
+        text.push_str(" adapt")?;
+    }
     push_warp(text, calib.left())?;
     push_warp(text, calib.right())?;
     if let Some(camera) = calib.camera() {

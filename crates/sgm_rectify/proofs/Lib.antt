@@ -1,3 +1,4 @@
+pub mod Bounds
 pub mod Corners
 pub mod Means
 pub mod Rows

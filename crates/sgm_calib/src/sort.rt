@@ -1,0 +1,12 @@
+use crate::kind::Kind;
+
+/// What tells which keys an object is given, where its row of the table alone doesn't.
+#[derive(Clone, Copy)]
+pub enum Sort {
+    /// The row alone does.
+    Plain,
+    /// A side of the warps goes by its kind.
+    Side(Kind),
+    /// An object that the value itself holds goes by the version.
+    Version(u64),
+}

@@ -1,0 +1,68 @@
+-- How the pixels without a disparity are filled from those around them.
+use Rattle.std.specs.Prelude.{ℕ, ◌+◌, ◌-◌, ◌*◌, ◌/◌, min, Bool, false, nat_eq, nat_le, if◌then◌else◌, List, [], ◌∷◌, map, length, slice_get, Option, Some, None, option_and_then, ℤ}
+use Rattle.std.specs.List.{flat_map, list_any}
+use Rattle.std.specs.Option.{option_eq, option_map_or, option_or, option_to_list}
+use Rattle.sgm_base.specs.Columns.{right_column}
+use Rattle.sgm_base.specs.Values.{Values, value_at, values_of, row_by_row}
+use Rattle.sgm_energy.specs.declared.dir.Dir.{Dir}
+use Rattle.sgm_energy.specs.Dirs.{directions}
+use Rattle.sgm_energy.specs.Energies.{below}
+use Rattle.sgm_energy.specs.Rays.{Pixel, pixel_at, Problem, fixed_problem, before}
+
+-- the pixels of a map, for the rays through them, on which costs have no bearing
+abbrev pub pixels_of : Values → Problem
+pixels_of disparities = fixed_problem disparities.width disparities.height 0 (λ _ _. 0) 0 0
+
+-- the value at the last of these pixels that has one
+unfoldable pub last_value : Values → List Pixel → Option ℕ
+last_value disparities [] = None
+last_value disparities (p ∷ ps) = option_or (last_value disparities ps) (value_at disparities p.x p.y)
+
+-- The value at the first of the pixels p less one offset, two, three and so on that lies in the image and has one: on
+-- the ray that comes to p, the last before p.
+unfoldable pub met_from : Values → Pixel → Dir → Option ℕ
+met_from disparities p dir = last_value disparities (before (pixels_of disparities) dir p)
+
+-- x at its place among numbers that ascend
+abbrev pub placed : ℕ → List ℕ → List ℕ
+placed x [] = x ∷ []
+placed x (y ∷ ys) = if nat_le x y then x ∷ y ∷ ys else y ∷ placed x ys
+
+-- the numbers of a list, the least first
+abbrev pub ascending : List ℕ → List ℕ
+ascending [] = []
+ascending (x ∷ xs) = placed x (ascending xs)
+
+-- the values that are met from p in the eight directions, the least first
+unfoldable pub met : Values → Pixel → List ℕ
+met disparities p = ascending (flat_map option_to_list (map (met_from disparities p) directions))
+
+-- whether the index d gives p a pixel of the right image whose match is d. The matches are in sixteenths.
+abbrev pub is_matched : Values → ℤ → Pixel → ℕ → Bool
+is_matched matches first p d =
+    option_map_or (λ q. option_eq nat_eq (value_at matches q p.y) (Some (16 * d))) (right_column matches.width first p.x d) false
+
+-- whether p is mismatched: some index gives it a pixel of the right image whose match is that index. Otherwise it is occluded.
+unfoldable pub is_mismatched : Values → ℤ → ℕ → Pixel → Bool
+is_mismatched matches first count p = list_any (is_matched matches first p) (below count)
+
+-- of n values, the least first, the number of the one that is taken: that in the middle, the lower one of two, where p is
+-- mismatched; the second, or the only one, where it is occluded
+abbrev pub entry_taken : Bool → ℕ → ℕ
+entry_taken mismatched n = if mismatched then (n - 1) / 2 else min 1 (n - 1)
+
+-- the value with which p is filled, where any is met
+unfoldable pub filling : Values → Values → ℤ → ℕ → Pixel → Option ℕ
+filling disparities matches first count p =
+    let values = met disparities p in slice_get values (entry_taken (is_mismatched matches first count p) (length values))
+
+-- the value of p; where it has none, that with which it is filled, but none where p is void on the left
+unfoldable pub filled_value : Values → Values → Values → ℤ → ℕ → Pixel → Option ℕ
+filled_value disparities matches left first count p =
+    option_or (value_at disparities p.x p.y) (option_and_then (λ _. filling disparities matches first count p) (value_at left p.x p.y))
+
+-- the map of these values: the disparities filled, with the matches of the right image and the left plane
+abbrev pub filled : Values → Values → Values → ℤ → ℕ → Values
+filled disparities matches left first count =
+    values_of disparities.width disparities.height
+    (row_by_row disparities.width disparities.height (λ x y. filled_value disparities matches left first count (pixel_at x y)))

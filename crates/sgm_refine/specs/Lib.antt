@@ -1,0 +1,5 @@
+pub mod Filling
+pub mod Flooding
+pub mod Refined
+pub mod Refining
+pub mod Segments
