@@ -4,6 +4,7 @@ use Rattle.std.specs.List.{filter_map}
 use Rattle.std.specs.Option.{option_or}
 use Rattle.std.specs.Str.{bytes_eq}
 use Rattle.sgm_base.specs.declared.limits.TheConstants.{MAX_STRIPS, MAX_WORKERS}
+use Rattle.sgm_refine.specs.declared.refine.TheConstants.{MAX_PEAK}
 use Rattle.sgm_words.specs.Numbers.{number_within}
 use Rattle.sgm_words.specs.declared.option_table.Setting.{Setting}
 
@@ -22,6 +23,8 @@ abbrev pub option_table : List OptionEntry
 option_table =
     option_entry (codes "strips=") 1 MAX_STRIPS 1
     ∷ option_entry (codes "workers=") 1 MAX_WORKERS 1
+    ∷ option_entry (codes "peak=") 0 MAX_PEAK 0
+    ∷ option_entry (codes "fill=") 0 1 0
     ∷ []
 
 -- the value that a word gives to an option: its name and then a number in its range

@@ -14,12 +14,12 @@ IsStrips n = (1 ≤ n) × (n ≤ MAX_STRIPS)
 abbrev pub IsWorkers : ℕ → Type 0
 IsWorkers n = (1 ≤ n) × (n ≤ MAX_WORKERS)
 
--- the options are in their ranges
+-- the options are in their ranges; that of `peak` belongs to its type
 abbrev pub AreInRange : Options → Type 0
-AreInRange (Match strips workers) = IsStrips strips × IsWorkers workers
-AreInRange (Demo number strips workers) = IsStrips strips × IsWorkers workers
+AreInRange (Match strips workers refine) = IsStrips strips × IsWorkers workers
+AreInRange (Demo number strips workers refine) = IsStrips strips × IsWorkers workers
 
 -- how many operands go with the options
 abbrev pub operand_count : Options → ℕ
-operand_count (Match strips workers) = (entry_of command.Match).operands
-operand_count (Demo number strips workers) = (entry_of command.Demo).operands
+operand_count (Match strips workers refine) = (entry_of command.Match).operands
+operand_count (Demo number strips workers refine) = (entry_of command.Demo).operands

@@ -1,5 +1,6 @@
 -- What the words ask for.
-use Rattle.std.specs.Prelude.{ℕ, List, [], ◌∷◌, Option, None, Some, unwrap_or, Result, Ok, Err, drop}
+use Rattle.std.specs.Prelude.{ℕ, List, [], ◌∷◌, ◌==◌, Option, None, Some, unwrap_or, Result, Ok, Err, drop}
+use Rattle.sgm_refine.specs.Refining.{Refining}
 use Rattle.sgm_words.specs.Commands.{command_named}
 use Rattle.sgm_words.specs.Faults.{options_at, fault_of}
 use Rattle.sgm_words.specs.Numbers.{number_of}
@@ -7,20 +8,24 @@ use Rattle.sgm_words.specs.Operands.{word}
 use Rattle.sgm_words.specs.OptionTable.{setting_of}
 use Rattle.sgm_words.specs.declared.commands.Command.{Command}
 use Rattle.sgm_words.specs.declared.commands.Command.TheVariants as command
-use Rattle.sgm_words.specs.declared.option_table.TheConstants.{STRIPS, WORKERS}
+use Rattle.sgm_words.specs.declared.option_table.TheConstants.{STRIPS, WORKERS, PEAK, FILL}
 use Rattle.sgm_words.specs.declared.options.Options.{Options}
 use Rattle.sgm_words.specs.declared.options.Options.TheVariants.{Match, Demo}
 use Rattle.sgm_words.specs.declared.usage.UsageFault.{UsageFault}
 use Rattle.sgm_words.specs.declared.usage.UsageFault.TheVariants.{NoCommand, UnknownCommand}
 
+-- how the map is to be refined, where these words are the options
+abbrev pub refine_of : List (List ℕ) → Refining
+refine_of later = record { peak = setting_of PEAK later; fill = setting_of FILL later == 1 }
+
 -- what a command's words ask for, where they have no fault
 abbrev pub asked_of : Command → List (List ℕ) → Options
 asked_of command.Match words =
     let later = drop (options_at command.Match) words in
-    Match (setting_of STRIPS later) (setting_of WORKERS later)
+    Match (setting_of STRIPS later) (setting_of WORKERS later) (refine_of later)
 asked_of command.Demo words =
     let later = drop (options_at command.Demo) words in
-    Demo (unwrap_or (number_of (word words 1)) 0) (setting_of STRIPS later) (setting_of WORKERS later)
+    Demo (unwrap_or (number_of (word words 1)) 0) (setting_of STRIPS later) (setting_of WORKERS later) (refine_of later)
 
 -- these options, unless there is a fault
 abbrev pub unless_fault : Option UsageFault → Options → Result Options UsageFault

@@ -4,6 +4,7 @@ ghost use Rattle.sgm_words.specs.OptionTable.{value_for, set_by, entry_at};
 
 use crate::numbers::number_within;
 use sgm_base::{MAX_STRIPS, MAX_WORKERS};
+use sgm_refine::MAX_PEAK;
 
 /// An option: its name with the sign, its least and greatest value, and what a missing one is.
 pub struct OptionRow {
@@ -14,12 +15,16 @@ pub struct OptionRow {
 }
 
 /// How many options there are.
-pub const OPTION_COUNT: usize = 2;
+pub const OPTION_COUNT: usize = 4;
 
 /// The places of the options in the table.
 pub const STRIPS: usize = 0;
 
 pub const WORKERS: usize = 1;
+
+pub const PEAK: usize = 2;
+
+pub const FILL: usize = 3;
 
 const OPTION_TABLE: [OptionRow; OPTION_COUNT] = [
     OptionRow {
@@ -33,6 +38,18 @@ const OPTION_TABLE: [OptionRow; OPTION_COUNT] = [
         least: 1,
         greatest: MAX_WORKERS,
         missing: 1,
+    },
+    OptionRow {
+        name: b"peak=",
+        least: 0,
+        greatest: MAX_PEAK,
+        missing: 0,
+    },
+    OptionRow {
+        name: b"fill=",
+        least: 0,
+        greatest: 1,
+        missing: 0,
     },
 ];
 

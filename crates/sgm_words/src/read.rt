@@ -10,9 +10,10 @@ use crate::commands::Command;
 use crate::faults::{operand_fault, overwrite_fault};
 use crate::numbers::number;
 use crate::operands::word_at;
-use crate::option_table::{STRIPS, WORKERS};
+use crate::option_table::{FILL, PEAK, STRIPS, WORKERS};
 use crate::settings::{Settings, read_settings, value_at};
 use crate::{Options, UsageFault};
+use sgm_refine::Refine;
 
 // What the words of a command ask for that sets its options to this.
 fn asked(command: Command, words: &[String], settings: &Settings) -> Options
@@ -23,12 +24,23 @@ fn asked(command: Command, words: &[String], settings: &Settings) -> Options
 {
     let strips = value_at(settings, STRIPS);
     let workers = value_at(settings, WORKERS);
+    let peak = value_at(settings, PEAK);
+    let fill = value_at(settings, FILL);
+    let refine = Refine {
+        peak,
+        fill: fill == 1,
+    };
     match command {
-        Command::Match => Options::Match { strips, workers },
+        Command::Match => Options::Match {
+            strips,
+            workers,
+            refine,
+        },
         Command::Demo => Options::Demo {
             number: number(word_at(words, 1)).unwrap_or(0),
             strips,
             workers,
+            refine,
         },
     }
 }

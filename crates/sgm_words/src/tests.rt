@@ -1,6 +1,7 @@
 //! The words, one check after the other.
 
 use crate::{Input, OperandWords, Options, Output, UsageFault, read_words};
+use sgm_refine::Refine;
 use std::alloc::{AllocError, Global};
 use std::test::Fail;
 
@@ -29,8 +30,13 @@ fn each_fault_is_the_first_that_stands(rt: HostRuntime) -> Result<(), Fail> {
             UsageFault::BadOption { position: 5 },
         ),
         (
-            "match a b - o strips=2 strips=2",
-            UsageFault::RepeatedOption { position: 6 },
+            "match a b - o peak=16777217",
+            UsageFault::BadOption { position: 5 },
+        ),
+        ("demo 7 fill=2", UsageFault::BadOption { position: 2 }),
+        (
+            "match a b - o peak=0 strips=2 peak=0",
+            UsageFault::RepeatedOption { position: 7 },
         ),
         (
             "match o.pgm b - o",
@@ -47,10 +53,14 @@ fn options_stand_in_any_order(rt: HostRuntime) -> Result<(), Fail> {
     let alloc = rt.alloc();
     for (line, options) in [
         (
-            "match a b - o workers=16 strips=064",
+            "match a b - o fill=01 workers=16 peak=16777216 strips=064",
             Options::Match {
                 strips: 64,
                 workers: 16,
+                refine: Refine {
+                    peak: 16_777_216,
+                    fill: true,
+                },
             },
         ),
         (
@@ -59,6 +69,10 @@ fn options_stand_in_any_order(rt: HostRuntime) -> Result<(), Fail> {
                 number: 7,
                 strips: 2,
                 workers: 1,
+                refine: Refine {
+                    peak: 0,
+                    fill: false,
+                },
             },
         ),
     ] {
