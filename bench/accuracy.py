@@ -288,6 +288,14 @@ def figures(found, truth, both):
 HEADS = ("Matching", "Has a value", "Wrong by > 1", "> 2", "Median error", "Right, seen by both", "Right, hidden from one")
 
 
+def print_rival():
+    if cv2 is None:
+        print("no OpenCV: `import cv2` fails")
+        return
+    bare, filtered = (", ".join(f"{name} {value}" for name, value in made.items()) for made in (BARE, FILTERED))
+    print(f"OpenCV {cv2.__version__}, StereoSGBM, MODE_HH; bare: {bare}; filtered: {filtered}")
+
+
 def compare(title, folder, left, right, calibration, truth, both, words):
     """Prints the table of a pair."""
     span, known = calibration["disparities"], numpy.isfinite(truth)
@@ -323,6 +331,7 @@ def write_pgm(name, samples):
 
 
 def compare_scenes(words, folder):
+    print_rival()
     for number, (name, (make, wrong)) in enumerate(SCENES.items()):
         if words.only and name not in words.only:
             continue
@@ -344,6 +353,7 @@ def compare_pair(words, folder):
         both = sgm_files.read_grey(words.mask) == 255
     if both.shape != truth.shape:
         raise Wrong(f"{words.mask}: its size isn't that of {truth_name}")
+    print_rival()
     compare(os.path.basename(left), folder, left, right, calibration, truth, both, words)
 
 
@@ -394,12 +404,6 @@ def main():
     words = words_of()
     sgm_files.need(numpy=numpy)
     with tempfile.TemporaryDirectory(prefix="sgm-accuracy.") as folder:
-        if cv2 is None:
-            print("no OpenCV: `import cv2` fails")
-        else:
-            said = ", ".join(f"{name} {value}" for name, value in FILTERED.items())
-            bare = ", ".join(f"{name} {value}" for name, value in BARE.items())
-            print(f"OpenCV {cv2.__version__}, StereoSGBM, MODE_HH; bare: {bare}; filtered: {said}")
         (compare_scenes if words.scenes else compare_pair)(words, folder)
 
 
