@@ -34,6 +34,8 @@ heights_picture     pictures    tools/test_heights_picture.py
 photo_to_pgm        pictures    tools/test_photo_to_pgm.py
 opencv_calibration  opencv      tools/test_opencv_calibration.py
 calibrate_pair      opencv      tools/test_calibrate_pair.py
+middlebury          -           tools/test_middlebury_calibration.py
+accuracy            opencv      bench/test_accuracy.py
 survey_page_files   pictures    tools/test_survey_page.py
 survey_page         browser     tests/survey_page.py
 ends                program     tests/ends.sh

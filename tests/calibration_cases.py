@@ -3,8 +3,9 @@
 
     tests/calibration_cases.py FOLDER
 
-writes NAME.json and NAME.line for each. They go over the keys of all objects: each one missing, of a wrong type, just outside its range on either side, and beside a name that
-isn't known; and over the order of the faults where several stand together. `BOUNDS` are calibrations at
+writes NAME.json and NAME.line for each. They go over the keys of all objects: each one missing, of a wrong type,
+just outside its range on either side, and beside a name that isn't known; over the key that version 2 alone has;
+and over the order of the faults where several stand together. `BOUNDS` are calibrations at
 the very ends of the ranges, which have no fault. The pictures are those of 5 x 3 pixels of ends.sh.
 """
 
@@ -83,6 +84,11 @@ def changed(base, *changes):
     return made
 
 
+def second(*changes):
+    """The same in version 2, with its key."""
+    return changed(WHOLE, ("version", 2), ("penalties.adapt", True), *changes)
+
+
 def printed(path):
     """The path as the program prints it: an element of a list by its index in brackets."""
     return "".join(f"[{word}]" if word.isdigit() else "." + word for word in path.split("."))[1:]
@@ -100,6 +106,50 @@ def number_faults():
         for value in (low - 1, high + 1):
             line = OUTSIDE.get((path, value), printed(path) + " is out of range")
             yield path, changed(WHOLE, (path, value)), line
+
+
+def version_faults():
+    yield "version", changed(WHOLE, ("version", MISSING)), "version is missing"
+    for wrong in ("1", 1.0, None, True, [2], 2.0):
+        yield "version", changed(WHOLE, ("version", wrong)), "version has the wrong type"
+    for wrong in (0, 3, -1, -2, 258, 4294967297, 4294967298):
+        yield "version", changed(WHOLE, ("version", wrong)), "unknown version"
+    # The version comes before the names that aren't known.
+    yield "version", changed(WHOLE, ("version", 3), ("a", 0)), "unknown version"
+    yield "version", second(("a", 0)), "top has an unknown name"
+    yield "version", second(("adapt", True)), "top has an unknown name"
+    yield "version", second(("census.adapt", True)), "census has an unknown name"
+
+
+def adapt_faults():
+    unknown, missing, wrong_type = (f"penalties{what}" for what in (" has an unknown name", ".adapt is missing", ".adapt has the wrong type"))
+    yield "adapt", second(("penalties.adapt", MISSING)), missing
+    for wrong in (0, 1, 0.0, "true", "", None, [True], {}, {"adapt": True}):
+        yield "adapt", second(("penalties.adapt", wrong)), wrong_type
+    for value in (True, False, 0, None):
+        yield "adapt", changed(WHOLE, ("penalties.adapt", value)), unknown
+    yield "adapt", second(("version", 1), ("penalties.p1", 0)), unknown
+    yield "adapt", second(("penalties.Adapt", True)), unknown
+    yield "adapt", second(("penalties.adapts", True), ("penalties.adapt", MISSING)), unknown
+    # It stands behind the two penalties and before all sections that come later.
+    for changes, line in [
+        ((("penalties.p1", MISSING),), "penalties.p1 is missing"),
+        ((("penalties.p2", MISSING),), "penalties.p2 is missing"),
+        ((("penalties.p2", True),), "penalties.p2 has the wrong type"),
+        ((("penalties.p1", 0),), "penalties.p1 is out of range"),
+        ((("penalties.p2", 4001),), "penalties.p2 is out of range"),
+        ((("penalties.p1", 4),), "penalties.p2 is out of range"),
+    ]:
+        yield "adapt", second(*changes), line
+        for wrong in (0, MISSING):
+            yield "adapt", second(*changes, ("penalties.adapt", wrong)), line
+    yield "adapt", second(("penalties", {})), "penalties.p1 is missing"
+    yield "adapt", second(("penalties", {"adapt": True})), "penalties.p1 is missing"
+    yield "adapt", second(("penalties", [])), "penalties has the wrong type"
+    yield "adapt", second(("census.height", 4), ("penalties.adapt", 0)), "census.height is out of range"
+    for path, wrong in (("warp", 0), ("camera", 0), ("grid.west", 0.5), ("regions", {}), ("camera", MISSING)):
+        yield "adapt", second(("penalties.adapt", MISSING), (path, wrong)), missing
+        yield "adapt", second(("penalties.adapt", 1), (path, wrong)), wrong_type
 
 
 def warp_faults():
@@ -193,7 +243,7 @@ def order_faults():
 
 def faults():
     """Triples of a name, a calibration and its line."""
-    parts = (warp_faults, section_faults, number_faults, region_faults, order_faults)
+    parts = (version_faults, adapt_faults, warp_faults, section_faults, number_faults, region_faults, order_faults)
     numbered = {}
     for name, made, line in itertools.chain.from_iterable(part() for part in parts):
         name = name.replace(".", "-")
@@ -208,6 +258,11 @@ def bounds():
             # The least grid here has 4 x 3 cells, which is WHOLE itself, and the greatest would be long.
             if path not in ("grid.cols", "grid.rows"):
                 yield f"bound-{path.replace('.', '-')}-{value}", changed(WHOLE, (path, value))
+    for is_adaptive in (True, False):
+        for p1, p2 in ((1, 1), (1, 4000), (4000, 4000), (10, 400)):
+            changes = (("penalties.p1", p1), ("penalties.p2", p2), ("penalties.adapt", is_adaptive))
+            yield f"bound-adapt-{'yes' if is_adaptive else 'no'}-{p1}-{p2}", second(*changes)
+    yield "bound-adapt-alone", {**PLAIN, "version": 2, "penalties": {**PLAIN["penalties"], "adapt": True}}
     yield "bound-near-and-far", changed(WHOLE, ("camera.near", 2000000000), ("camera.far", 2000000000))
     yield "bound-grid-long", changed(WHOLE, ("grid.cols", 4096))
     yield "bound-grid-one", changed(WHOLE, ("grid.cols", 1), ("grid.rows", 1), ("regions", MISSING))

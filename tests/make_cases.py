@@ -5,7 +5,7 @@
 
 A case has the file `words`, one word a line, and the files that the words name. The pictures are
 small and drawn from fixed numbers, so the cases are the same each time. They go over sizes, spans,
-windows, penalties, options, warps, cameras, grids, regions, and the refusals. The last case is the
+windows, penalties, both versions, options, peaks and filling, warps, cameras, grids, regions, and the refusals. The last case is the
 example with the heap.
 """
 
@@ -15,6 +15,7 @@ import os
 import sys
 
 import calibration_cases
+import random_inputs
 
 HEAP = os.path.join(os.path.dirname(os.path.abspath(__file__)), "..", "examples", "stockpile")
 
@@ -49,6 +50,18 @@ def scene(width, height, maxval, first, deepest, seed):
     return pgm(width, height, maxval, left), pgm(width, height, maxval, right)
 
 
+def shapes(width, height, maxval, first, deepest, seed):
+    """A pair of shapes, each of its own grey and at its own disparity, so that edges of both lie together."""
+    both = random_inputs.layered(random_inputs.Draw(seed), width, height, maxval, first, deepest)
+    return [pgm(width, height, maxval, samples) for samples in both]
+
+
+def second(is_adaptive, **more):
+    """The same in version 2."""
+    first = calibration(**more)
+    return {**first, "version": 2, "penalties": {**first["penalties"], "adapt": is_adaptive}}
+
+
 def calibration(first=0, count=8, window=(5, 5), penalties=(4, 30), **more):
     plain = calibration_cases.PLAIN
     return {
@@ -64,8 +77,8 @@ def cases():
     """Pairs of a name and the files of the case."""
     plain = {"first": 0, "deepest": 6, "seed": 1}
 
-    def good(name, width, height, maxval, settings, options="", **kind):
-        left, right = scene(width, height, maxval, **{**plain, **kind})
+    def good(name, width, height, maxval, settings, options="", make=scene, **kind):
+        left, right = make(width, height, maxval, **{**plain, **kind})
         words = "match l.pgm r.pgm c.json o " + options
         return name, {"words": words, "l.pgm": left, "r.pgm": right, "c.json": json.dumps(settings)}
 
@@ -90,6 +103,8 @@ def cases():
     for name, (first, sections) in surveyed().items():
         yield good("survey-" + name, 40, 30, 255, calibration(first=first, **sections), first=first, deepest=7)
     yield good("everything", 40, 30, 255, everything(), "strips=5 workers=3", first=2, deepest=7)
+    for name, (maxval, seed, settings, options) in second_versions().items():
+        yield good(name, 40, 30, maxval, settings, options, make=shapes, deepest=8, seed=seed)
     yield from refusals(left, right)
     yield from calibrations()
     yield heap()
@@ -220,6 +235,31 @@ def everything():
     warps = {"left": tilted(40, 30, 6, 7), "right": projective(1000, 3, -900, -2, 1001, 700, 0, 1, 990)}
     regions = [region("all", 0, 0, 20, 16, 6000000), region("middle", 6, 5, 9, 7, -1), region("corner", 19, 0, 1, 1, 0)]
     return calibration(first=2, warp=warps, camera=camera(doffs=-9), grid=grid(), regions=regions)
+
+
+def second_versions():
+    """Names, each with the greatest sample, the number of a scene of shapes, the calibration and the options."""
+    small, warps = (3, 3), {"left": tilted(40, 30, 6, 9), "right": shifted(40, 30, 256)}
+    last = {"left": shifted(-300, 256 * 20, 256), "right": {"kind": "identity"}}
+    made = {
+        "second-version-fixed": (255, 2, second(False, penalties=(4, 90)), ""),
+        "adapt-far-penalty-near-first": (255, 2, second(True, penalties=(30, 30)), ""),
+        "adapt-greatest-penalties": (255, 3, second(True, penalties=(15, 4000)), ""),
+        "adapt-everything": (255, 4, {**everything(), **second(True, window=small, penalties=(2, 60))}, "peak=6 fill=1"),
+        "peak-above-all": (255, 5, calibration(window=small), "peak=16777216 fill=1"),
+        "peak-of-all": (255, 5, calibration(count=1, window=small), "peak=1200 fill=0"),
+        "fill-with-voids": (255, 6, calibration(window=small, warp=warps), "fill=1"),
+        "fill-beside-voids": (255, 6, second(True, window=small, penalties=(2, 50), warp=last), "fill=1 peak=3"),
+        "fill-of-negative-disparities": (255, 7, calibration(first=-6, count=12, window=small), "peak=2 fill=1"),
+    }
+    for number, maxval in enumerate((1, 7, 100, 255, 256, 4095, 65535)):
+        made[f"adapt-of-{maxval}"] = (maxval, 10 + number, second(True, window=small, penalties=(2, 50)), "")
+        made[f"adapt-of-{maxval}-warped"] = (maxval, 20 + number, second(True, penalties=(3, 60), warp=warps), "")
+    for number, peak in enumerate((1, 2, 4, 9, 25, 60)):
+        for fill in (0, 1):
+            options = f"peak={peak} fill={fill}" if fill else f"peak={peak}"
+            made[f"peak-of-{peak}-fill-of-{fill}"] = (255, 30 + number, calibration(window=small, penalties=(2, 9)), options)
+    return made
 
 
 def calibrations():

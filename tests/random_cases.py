@@ -12,6 +12,8 @@ that stands in the folder afterwards. The kinds of cases take turns:
     calibrations  a key missing, of another type, at the ends of its range and beyond, doubled, moved,
                   nested, in another order or spelling, and texts with bytes changed;
     surveys       pairs from 1 x 1 on with voids, warps, grids and regions, strips and workers;
+    scenes        pairs of shapes at several disparities, mostly with penalties that follow the image, with peaks
+                  and filling;
     places        inputs and outputs that are absent, folders, links or devices.
 
 A case is made from the seed and its number alone, so --case runs it again. What differs is printed, and

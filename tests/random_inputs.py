@@ -98,6 +98,35 @@ def textured(draw, width, height, maxval, shift):
     return left, right
 
 
+def layered(draw, width, height, maxval, first, count):
+    """The samples of two pictures of rectangles before a ground, each of its own grey and at its own disparity.
+
+    Edges of grey lie where disparities jump, some pixels of the one picture have no partner in the other, and some
+    pixels are changed: so there is something for penalties that follow the image, for peaks and for filling.
+    """
+    grain = draw.of([0, 1, 1 + maxval // 60, 1 + maxval // 12])
+    shapes = [(0, 0, width, height)]
+    for _ in range(draw.between(1, 4)):
+        x, y = draw.below(width), draw.below(height)
+        shapes.append((x, y, x + draw.between(1, 1 + width // 2), y + draw.between(1, 1 + height // 2)))
+    # The nearer a shape, the later it is laid down.
+    indices = sorted(draw.below(count) for _ in shapes)
+    left = [draw.below(maxval + 1) for _ in range(width * height)]
+    right = list(left)
+    for (x_0, y_0, x_1, y_1), index in zip(shapes, indices):
+        grey = draw.below(maxval + 1)
+        for y in range(y_0, min(y_1, height)):
+            for x in range(x_0, min(x_1, width)):
+                sample = min(maxval, grey + draw.below(grain + 1))
+                left[y * width + x] = sample
+                if 0 <= x - first - index < width:
+                    right[y * width + x - first - index] = sample
+    for samples in (left, right):
+        for _ in range(draw.below(1 + width * height // 12)):
+            samples[draw.below(width * height)] = draw.below(maxval + 1)
+    return left, right
+
+
 def gap(draw):
     """White bytes and comments as they may stand between the numbers of a header."""
     parts = [draw.of([b" ", b"\n", b"\t", b"\v", b"\f", b"\r"])] if draw.chance(80) else []
@@ -186,19 +215,22 @@ ODD_VALUES = [
 ODD_NUMBERS = [*map(str, [2**63 - 1, 2**63, -(2**63), -(2**63) - 1]), "1.0", "-0", "1e0", "0.0"]
 # The names of all keys, and some that are none.
 NAMES = sorted({name for path in reference_inputs.RANGES for name in path.split(".")})
-NAMES += "warp left right kind matrix nodes regions name top x".split()
+NAMES += "adapt warp left right kind matrix nodes regions name top x".split()
 
 
 def settings(draw, first, count, **sections):
     made = Pairs()
-    made.put("version", 1)
+    version = draw.of([1, 2])
+    made.put("version", version)
     made.put("disparities", completed(draw, "disparities", [("first", first), ("count", count)]))
     # Small windows more often: a large one has no code anywhere in a small picture.
     sides = [("width", draw.of([3, 3, 3, 5, 7, 9])), ("height", draw.of([3, 3, 3, 5, 7]))]
     made.put("census", completed(draw, "census", sides))
     p1 = draw.of([1, 2, 7, 60, 4000, draw.between(1, 4000)])
     p2 = draw.of([p1, min(4000, 3 * p1), 4000, draw.between(p1, 4000)])
-    made.put("penalties", completed(draw, "penalties", [("p1", p1), ("p2", p2)]))
+    # In version 2 the penalties mostly follow the image.
+    adapt = [("adapt", draw.chance(75))] if version == 2 else []
+    made.put("penalties", completed(draw, "penalties", [("p1", p1), ("p2", p2), *adapt]))
     for name, section in sections.items():
         if section is not None:
             made.put(name, section)
@@ -455,6 +487,9 @@ ODD_WORDS = [
     "Strips=1", "strips=+1", "strips=-1", "strips=1e0", "strips=0x1", "strips=1=1", "strips=\uff11", "strips=\u0663",
     "strips=99999999999999999999999999", "strips=1\n", "workers=", "workers=0", "workers=1", "workers=4", "workers=16",
     "workers=17", "workers=016", "workers=4294967297", "workers=18446744073709551617", "workers=1,2", "worker=1", "=", "=1",
+    "peak", "peak=", "peak=0", "peak=1", "peak=2", "peak=020", "peak=16777216", "peak=16777217", "peak=-1", "peak=0x2",
+    "peak=4294967296", "peak=4294967298", "peak=18446744073709551616", "peak=1.0", "peak=\u0662", "Peak=2", "peaks=2", "peak=fill=1",
+    "fill", "fill=", "fill=0", "fill=1", "fill=2", "fill=01", "fill=-0", "fill=true", "fill=yes", "fill=4294967297", "Fill=1", "fill=1 ",
     "\udcff", "strips=\udcff", "\udcc3\udca4", "\u00e4", "a b", "a\nb",
 ]  # fmt: skip
 
@@ -466,11 +501,15 @@ def options(draw):
         made.append("strips=" + draw.of(["1", "2", "3", "5", "7", "16", "63", "64", "007"]))
     if draw.chance(40):
         made.append("workers=" + draw.of(["1", "2", "3", "4", "8", "16", "02"]))
+    if draw.chance(40):
+        made.append("peak=" + draw.of(["0", "1", "2", "2", "3", "4", "6", "10", "25", "005", "16777216"]))
+    if draw.chance(40):
+        made.append("fill=" + draw.of(["0", "1", "1", "1", "01"]))
     return draw.shuffled(made)
 
 
 def odd_option(draw):
-    name, most = draw.of([("strips", 64), ("workers", 16)])
+    name, (_, most) = draw.of(list(reference_inputs.OPTIONS.items()))
     return f"{name}={draw.of(['', '0', '00', '1', most - 1, most, most + 1, f'0{most}', f'0{most + 1}', 10 * most, -1])}"
 
 
@@ -575,6 +614,26 @@ def survey_case(draw):
     return words, files_of(pair, calibration.encode())
 
 
+def scene_case(draw):
+    """A picture of shapes, and settings by which the penalties, peaks and filling change something more often."""
+    width, height = draw.between(9, 28), draw.between(6, 18)
+    first, count = draw.between(-3, 4), draw.between(3, max(3, 4000 // (width * height)))
+    maxval = draw.of([7, 100, 255, 255, 256, 1023, 65535])
+    pair = [pgm(draw, width, height, maxval, samples) for samples in layered(draw, width, height, maxval, first, count)]
+    sections = sections_of(draw, width, height)
+    whole = settings(draw, first, count, **sections)
+    p1 = draw.of([1, 1, 2, 3, 5])
+    penalties = [("p1", p1), ("p2", p1 * draw.of([2, 5, 10, 25, 60, 400]))]
+    tuned = {
+        "version": 2,
+        "census": Pairs([("width", draw.of([3, 3, 5])), ("height", draw.of([3, 3, 5]))]),
+        "penalties": Pairs([*penalties, ("adapt", draw.chance(80))]),
+    }
+    whole[:] = [(name, tuned.get(name, value)) for name, value in whole]
+    words = GOOD_WORDS + options(draw)
+    return words, files_of(pair, json_text(draw, whole, False).encode())
+
+
 def place_case(draw):
     """Inputs and outputs that aren't plain files of their own."""
     width, height = sides_of(draw, 60)
@@ -613,12 +672,13 @@ def place_case(draw):
 
 KINDS = {
     "surveys": survey_case,
+    "scenes": scene_case,
     "calibrations": calibration_case,
     "pictures": picture_case,
     "words": words_case,
     "places": place_case,
 }
-TURNS = "surveys calibrations words calibrations pictures surveys calibrations places words calibrations pictures surveys"
+TURNS = "surveys calibrations words scenes pictures surveys calibrations places words scenes pictures calibrations scenes surveys"
 TURNS = TURNS.split()
 
 

@@ -111,14 +111,14 @@ def judged(left_data, right_data, calibration_data):
     return left, right, calibration
 
 
-def match(left_name, right_name, calibration_name, out):
+def match(left_name, right_name, calibration_name, out, **refine):
     left = fetch(left_name, LONGEST_IMAGE, "left")
     right = fetch(right_name, LONGEST_IMAGE, "right")
     calibration = None
     if calibration_name != "-":
         calibration = fetch(calibration_name, LONGEST_CALIBRATION, "calibration")
     left, right, calibration = judged(left, right, calibration)
-    found, cells, tallies = survey(left, right, calibration)
+    found, cells, tallies = survey(left, right, calibration, **refine)
     write(out + ".pgm", disparity_text(found), "disparity")
     if cells is not None:
         write(out + ".asc", grid_text(calibration.grid, cells), "heights")
@@ -127,8 +127,8 @@ def match(left_name, right_name, calibration_name, out):
     say(summary_text(found))
 
 
-def demo(number):
-    found, _, _ = survey(*generated_pair(256, 192, int(number)), Calibration())
+def demo(number, **refine):
+    found, _, _ = survey(*generated_pair(256, 192, int(number)), Calibration(), **refine)
     say(summary_text(found) + f"sum {sum(disparity_samples(found))}\n")
 
 
@@ -137,8 +137,9 @@ def main(words):
     if any("\udc80" <= letter <= "\udcff" for word in words for letter in word):
         return 1
     try:
-        operands = read_words(words)
-        match(*operands) if words[0] == "match" else demo(*operands)
+        operands, options = read_words(words)
+        call = match if words[0] == "match" else demo
+        call(*operands, peak=options["peak"], fill=options["fill"])
     except Ended as end:
         try:
             os.write(2, (end.line + "\n").encode())

@@ -3,7 +3,7 @@
 A plain reading of the formats, apart from the program's own: each fault is raised as Ended,
 with the status and the line that the program owes. Where several faults stand together, the
 first one is raised: words from left to right, a picture's header before its raster, and the
-calibration's keys in the order of their table.
+calibration's keys in the order of their checks.
 """
 
 import json
@@ -28,11 +28,12 @@ class Ended(Exception):
 # Words
 
 NEEDED = {"match": 4, "demo": 1}
-MOST = {"strips": 64, "workers": 16}
+# The options, each with its least and its greatest value; where one isn't given, it is its least.
+OPTIONS = {"strips": (1, 64), "workers": (1, 16), "peak": (0, 16777216), "fill": (0, 1)}
 
 
 def read_words(words):
-    """Gives the operands, or ends. Strips and workers have no part in the answer, so they are only checked."""
+    """Gives the operands and the options by their names, or ends. Strips and workers have no part in the answer."""
 
     def wrong(text):
         raise Ended(USAGE, "sgm: " + text)
@@ -51,20 +52,20 @@ def read_words(words):
                 wrong(f"word {position} is empty")
     elif not number_up_to(operands[0], 0, 4294967295):
         wrong("word 1 is not a number in range")
-    seen = set()
+    asked = {}
     for position, word in enumerate(options, 1 + need):
         name, equals, digits = word.partition("=")
-        if not equals or name not in MOST or not number_up_to(digits, 1, MOST[name]):
+        if not equals or name not in OPTIONS or not number_up_to(digits, *OPTIONS[name]):
             wrong(f"word {position} is not an option")
-        if name in seen:
+        if name in asked:
             wrong(f"word {position} repeats an option")
-        seen.add(name)
+        asked[name] = int(digits)
     if words[0] == "match":
         outputs = [operands[3] + ending for ending in (".pgm", ".asc", ".csv")]
         for position, word in enumerate(operands[:3], 1):
             if word in outputs:
                 wrong(f"word {position} is also an output")
-    return operands
+    return operands, {name: least for name, (least, _) in OPTIONS.items()} | asked
 
 
 def number_up_to(word, least, most):
@@ -133,7 +134,7 @@ def read_pgm(data, side):
 # the order of their checks. A side of the warp and a region stand once; what other keys leave of a range is said where
 # they are read.
 RANGES = {
-    "version": (1, 1),
+    "version": (1, 2),
     "disparities.first": (-1024, 1024),
     "disparities.count": (1, 256),
     "census.width": (3, 9),
@@ -178,6 +179,7 @@ class Calibration:
     first, count = 0, 64
     window = (9, 7)
     p1, p2 = 10, 120
+    is_adaptive = False
     left = right = {"kind": "identity"}
     camera = grid = regions = None
 
@@ -265,9 +267,9 @@ def read_calibration(data):
             in_range(key not in ODD or made[name] % 2 == 1, f"{path}.{name}")
         return made
 
-    def section(parent, name):
-        """An object of whole numbers alone."""
-        return numbers(known(get(parent, name, dict), name, " ".join(keys_of(name))), name, name)
+    def section(parent, name, more=""):
+        """The whole numbers of an object that has no other keys than them and those that are named besides."""
+        return numbers(known(get(parent, name, dict), name, " ".join(keys_of(name)) + more), name, name)
 
     def warp(parent, path):
         side = get(parent, path, dict)
@@ -300,7 +302,8 @@ def read_calibration(data):
     except (ValueError, RecursionError):
         refused("not JSON")
     kind_of(top, dict, "top")
-    if get(top, "version", int) != 1:
+    version = get(top, "version", int)
+    if not RANGES["version"][0] <= version <= RANGES["version"][1]:
         refused("unknown version")
     known(top, "top", "version disparities census penalties warp camera grid regions")
     made = Calibration()
@@ -308,8 +311,11 @@ def read_calibration(data):
     made.first, made.count = disparities["first"], disparities["count"]
     census = section(top, "census")
     made.window = (census["width"], census["height"])
-    penalties = section(top, "penalties")
+    # Whether the penalties follow the image is a key of version 2, and an unknown name in version 1.
+    has_adapt = version == 2
+    penalties = section(top, "penalties", " adapt" if has_adapt else "")
     made.p1, made.p2 = penalties["p1"], penalties["p2"]
+    made.is_adaptive = has_adapt and get(top["penalties"], "penalties.adapt", bool)
     if "warp" in top:
         both = known(get(top, "warp", dict), "warp", "left right")
         made.left, made.right = warp(both, "warp.left"), warp(both, "warp.right")

@@ -106,8 +106,20 @@ def costs_of(left, right, first, count, greatest):
 # Paths
 
 
+def guide_of(plane, maxval):
+    """The left plane on the scale from 0 to 255, whatever the picture's greatest value is; None where it has no value."""
+    return [[None if value is None else 255 * value // maxval for value in row] for row in plane]
+
+
+def far(p1, p2, here, before):
+    """What a larger jump costs between two pixels of the guide: less, the more they differ, and never less than P1."""
+    if here is None or before is None:
+        return p2
+    return max(p1, p2 // max(1, abs(here - before)))
+
+
 def next_path_values(costs, before, p1, p2):
-    """The path values of a pixel from those of the pixel before it on the ray."""
+    """The path values of a pixel from those of the pixel before it on the ray. Here P2 is that of these two pixels."""
     low, last = min(before), len(before) - 1
     values = []
     for d, cost in enumerate(costs):
@@ -120,22 +132,29 @@ def next_path_values(costs, before, p1, p2):
     return values
 
 
-def path_values(costs, direction, p1, p2):
-    """The path values of every pixel in one direction. The first pixel of a ray has its costs."""
+def path_values(costs, direction, p1, p2, guide=None):
+    """The path values of every pixel in one direction. The first pixel of a ray has its costs.
+
+    P2 is the same everywhere where no guide is given, else it follows the guide.
+    """
     (dx, dy), height, width = direction, len(costs), len(costs[0])
     values = [[None] * width for _ in range(height)]
     for y in range(height) if dy >= 0 else reversed(range(height)):
         for x in range(width) if dx >= 0 else reversed(range(width)):
-            is_first = not (0 <= x - dx < width and 0 <= y - dy < height)
-            values[y][x] = costs[y][x] if is_first else next_path_values(costs[y][x], values[y - dy][x - dx], p1, p2)
+            i, j = x - dx, y - dy
+            if not (0 <= i < width and 0 <= j < height):
+                values[y][x] = costs[y][x]
+                continue
+            larger = p2 if guide is None else far(p1, p2, guide[y][x], guide[j][i])
+            values[y][x] = next_path_values(costs[y][x], values[j][i], p1, larger)
     return values
 
 
-def sums_of(costs, p1, p2):
+def sums_of(costs, p1, p2, guide=None):
     """For each pixel and index the sum of its path values over the eight directions."""
     sums = [[[0] * len(costs[0][0]) for _ in row] for row in costs]
     for direction in DIRECTIONS:
-        for sums_row, values_row in zip(sums, path_values(costs, direction, p1, p2)):
+        for sums_row, values_row in zip(sums, path_values(costs, direction, p1, p2, guide)):
             for x, values in enumerate(values_row):
                 sums_row[x] = [a + b for a, b in zip(sums_row[x], values)]
     return sums
@@ -188,6 +207,76 @@ def disparities(sums, left, right, first):
     return found
 
 
+# Peaks and filling
+
+
+def segment(found, x, y):
+    """The pixels that a chain of links leads to from (x, y), itself among them, where it has a disparity.
+
+    Two neighbours in a row or a column are linked where both have a disparity and these differ by at most 16.
+    """
+    members, to_visit = {(x, y)}, [(x, y)]
+    while to_visit:
+        x, y = to_visit.pop()
+        for i, j in ((x - 1, y), (x + 1, y), (x, y - 1), (x, y + 1)):
+            if (i, j) in members or not (0 <= j < len(found) and 0 <= i < len(found[0])) or found[j][i] is None:
+                continue
+            if abs(found[j][i] - found[y][x]) <= 16:
+                members.add((i, j))
+                to_visit.append((i, j))
+    return members
+
+
+def kept(found, least):
+    """The map without the disparities whose segment has fewer than `least` pixels."""
+    made, judged = [list(row) for row in found], set()
+    for y, row in enumerate(found):
+        for x, value in enumerate(row):
+            if value is None or (x, y) in judged:
+                continue
+            members = segment(found, x, y)
+            judged |= members
+            if len(members) < least:
+                for i, j in members:
+                    made[j][i] = None
+    return made
+
+
+def met(found, x, y):
+    """The first disparity against each of the eight directions, where there is one before the picture's end, sorted."""
+    values = []
+    for dx, dy in DIRECTIONS:
+        i, j = x - dx, y - dy
+        while 0 <= j < len(found) and 0 <= i < len(found[0]) and found[j][i] is None:
+            i, j = i - dx, j - dy
+        if 0 <= j < len(found) and 0 <= i < len(found[0]):
+            values.append(found[j][i])
+    return sorted(values)
+
+
+def is_mismatched(matched_row, x, first, count):
+    """Whether a pixel of the right picture would have met this one. Else no one would: it is occluded."""
+    partners = [(x - first - d, d) for d in range(count)]
+    return any(0 <= q < len(matched_row) and matched_row[q] == d for q, d in partners)
+
+
+def filled(found, matched, left, first, count):
+    """The map with a value where it has none, from those met around: of a mismatched pixel the middle one, of an
+    occluded one the second. None stays where the left plane is None and where nothing is met."""
+
+    def value_for(x, y):
+        values = met(found, x, y)
+        if left[y][x] is None or not values:
+            return None
+        if is_mismatched(matched[y], x, first, count):
+            return values[(len(values) - 1) // 2]
+        return values[min(1, len(values) - 1)]
+
+    return [
+        [value_for(x, y) if value is None else value for x, value in enumerate(row)] for y, row in enumerate(found)
+    ]
+
+
 # Heights and volumes
 
 
@@ -234,8 +323,8 @@ def tally(cells, cell, region):
 # The whole survey
 
 
-def survey(left_image, right_image, calibration):
-    """The map of disparities, the grid's cells or None, and the regions' tallies or None."""
+def survey(left_image, right_image, calibration, peak=0, fill=0):
+    """The final map of disparities, the grid's cells or None, and the regions' tallies or None."""
     left = rectify(left_image, calibration.left)
     right = rectify(right_image, calibration.right)
     greatest = calibration.window[0] * calibration.window[1] - 1
@@ -246,7 +335,12 @@ def survey(left_image, right_image, calibration):
         calibration.count,
         greatest,
     )
-    found = disparities(sums_of(costs, calibration.p1, calibration.p2), left, right, calibration.first)
+    guide = guide_of(left, left_image.maxval) if calibration.is_adaptive else None
+    sums = sums_of(costs, calibration.p1, calibration.p2, guide)
+    found = kept(disparities(sums, left, right, calibration.first), peak)
+    if fill:
+        matched = [[match_of(row, q, calibration.first) for q in range(len(row))] for row in sums]
+        found = filled(found, matched, left, calibration.first, calibration.count)
     if calibration.grid is None:
         return found, None, None
     points = [

@@ -29,6 +29,8 @@ READERS = {
     "tools/photo_to_pgm.py": "FILE --out made.pgm",
     "tools/survey_page.py": "FILE --calib FILE --out made.html",
     "tools/calibrate_pair.py": "--left FILE --right FILE --board 9x6 --square 1 --out made.json",
+    "tools/middlebury_calibration.py": "FILE --out made.json",
+    "bench/accuracy.py": "FILE FILE FILE FILE",
     "examples/stockpile/compare_truth.py": "FILE",
 }
 WRITERS = ["tests/make_cases.py", "tests/calibration_cases.py", "tests/definitions.py"]
@@ -44,7 +46,10 @@ MAKERS = {
     "tools/photo_to_pgm.py": f"{HEAP}/left.png --out OUT",
     "tools/survey_page.py": f"{HEAP}/expected/out --calib {HEAP}/calibration.json --out OUT",
     "tools/opencv_calibration.py": "cameras.json --unit m --near 2000000 --far 4000000 --mount 4000000 --out OUT",
+    "tools/middlebury_calibration.py": "calib.txt --out OUT",
 }
+# What some of them read, by its name.
+CALIB = "cam0=[128 0 50; 0 128 30; 0 0 1]\ndoffs=0\nbaseline=500\nndisp=40\n"
 CAMERAS = """{"imageSize": [100, 60], "M1": [128, 0, 50, 0, 128, 30, 0, 0, 1], "D1": [0, 0, 0, 0],
  "M2": [128, 0, 50, 0, 128, 30, 0, 0, 1], "D2": [0, 0, 0, 0], "R": [1, 0, 0, 0, 1, 0, 0, 0, 1], "T": [-0.5, 0, 0]}"""
 
@@ -71,6 +76,12 @@ def run(path, *words, folder=None):
     command = [os.path.join(TOP, path), *words]
     done = subprocess.run(command, cwd=folder or TOP, stdin=subprocess.DEVNULL, capture_output=True, text=True, timeout=60)
     return done.returncode, done.stdout, done.stderr
+
+
+def write_inputs(folder):
+    for name, text in (("cameras.json", CAMERAS), ("calib.txt", CALIB)):
+        with open(os.path.join(folder, name), "w") as file:
+            file.write(text)
 
 
 class Manners(unittest.TestCase):
@@ -124,13 +135,12 @@ class Manners(unittest.TestCase):
         """Each makes its output and writes nothing else; where that can't be, one line says so."""
         for path, words in MAKERS.items():
             with tempfile.TemporaryDirectory() as folder:
-                with open(os.path.join(folder, "cameras.json"), "w") as file:
-                    file.write(CAMERAS)
+                write_inputs(folder)
                 self.has_one_line(path, run(path, *words.replace("OUT", "none/made").split(), folder=folder))
                 self.has_one_line(path, run(path, *words.replace("OUT", "/dev/full").split(), folder=folder))
                 status, _, err = run(path, *words.replace("OUT", "made").split(), folder=folder)
                 self.assertEqual((status, err), (0, ""), path)
-                self.assertEqual(sorted(os.listdir(folder)), ["cameras.json", "made"], path)
+                self.assertEqual(sorted(os.listdir(folder)), ["calib.txt", "cameras.json", "made"], path)
 
     def test_progress(self):
         """What goes on is shown on a terminal, and taken away again."""
@@ -138,8 +148,7 @@ class Manners(unittest.TestCase):
             if path == "tools/cubic_metres.py":
                 continue
             with tempfile.TemporaryDirectory() as folder:
-                with open(os.path.join(folder, "cameras.json"), "w") as file:
-                    file.write(CAMERAS)
+                write_inputs(folder)
                 mine, theirs = pty.openpty()
                 command = [os.path.join(TOP, path), *words.replace("OUT", "made").split()]
                 subprocess.run(command, cwd=folder, stdout=subprocess.DEVNULL, stderr=theirs, timeout=60, check=True)

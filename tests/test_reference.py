@@ -28,6 +28,7 @@ def members(*names):
 
 
 PLAIN = "{" + members("version", "disparities", "census", "penalties")
+SECOND = PLAIN.replace('"version":1', '"version":2')
 CAMERA, GRID, REGIONS = ("," + members(name) for name in ("camera", "grid", "regions"))
 WORKED = {
     "l.pgm": b"P5\n5 3\n255\n" + 3 * bytes([90, 10, 50, 20, 40]),
@@ -40,6 +41,11 @@ GRID_TEXT = (
     + 3 * b"50000 50000 50000 -2147483648\n"
 )
 TABLE_TEXT = b"region,cells,empty,fill,cut,lowest,highest\nall,9,3,90000000000,0,50000,50000\neast,0,1,0,0,,\n"
+
+
+def with_adapt(value):
+    """The worked example's settings in version 2, with that text as the key's value."""
+    return SECOND.replace('"p2":3', '"p2":3,"adapt":' + value)
 
 
 def run(files, words):
@@ -88,6 +94,23 @@ class WorkedPair(unittest.TestCase):
         self.assertEqual([matching.match_of(sums[1], q, 0) for q in range(5)], [0, 1, 1, 0, 0])
         self.assertEqual([matching.match_of(sums[0], q, 0) for q in range(5)], [0, 0, 1, 1, 0])
 
+    def test_second_version(self):
+        """Two indices never differ by more than 1, so a penalty that follows the image changes nothing here."""
+        made = {"o.asc": GRID_TEXT, "o.csv": TABLE_TEXT, "o.pgm": DISPARITY_TEXT}
+        for adapt in ("false", "true"):
+            text = with_adapt(adapt) + CAMERA + GRID + REGIONS + "}"
+            answer = run({**WORKED, "c.json": text.encode()}, "match l.pgm r.pgm c.json o")
+            self.assertEqual(answer, (0, "valid 15 of 15\n", "", made))
+
+    def test_peaks_and_filling(self):
+        """Row by row the disparities are 0 0 1 1 1, which are linked, so the 15 pixels are one segment."""
+        for options, valid in (("peak=15", 15), ("peak=16", 0), ("fill=1 peak=16", 0), ("peak=16777216 fill=0", 0), ("fill=1", 15)):
+            status, out, _, made = run(WORKED, "match l.pgm r.pgm c.json o " + options)
+            self.assertEqual((status, out), (0, f"valid {valid} of 15\n"), options)
+            self.assertEqual(made["o.pgm"], DISPARITY_TEXT if valid else b"P5\n5 3\n65535\n" + bytes(30))
+            self.assertEqual(made["o.asc"] == GRID_TEXT, valid == 15)
+            self.assertEqual(made["o.csv"] == TABLE_TEXT, valid == 15)
+
     def test_fewer_outputs(self):
         without = {"o.asc": GRID_TEXT, "o.pgm": DISPARITY_TEXT}
         files = {**WORKED, "c.json": (PLAIN + CAMERA + GRID + "}").encode()}
@@ -131,8 +154,24 @@ class Words(unittest.TestCase):
             (["demo", "x"], "word 1 is not a number in range"),
             (["demo", "4294967296"], "word 1 is not a number in range"),
             (["demo", "0004294967295", "x"], "word 2 is not an option"),
+            (["match", "a", "b", "-", "o", "peak=16777216", "fill=1"], None),
+            (["match", "a", "b", "-", "o", "peak=16777217"], "word 5 is not an option"),
+            (["match", "a", "b", "-", "o", "fill=2"], "word 5 is not an option"),
+            (["match", "a", "b", "-", "o", "fill="], "word 5 is not an option"),
+            (["demo", "1", "fill=0", "peak=0", "fill=1"], "word 4 repeats an option"),
+            (["demo", "1", "fill=0", "peak=0", "strips=0"], "word 4 is not an option"),
         ]:
             self.assertEqual(line_of(inputs.read_words, words), line, words)
+
+    def test_options(self):
+        plain = {"strips": 1, "workers": 1, "peak": 0, "fill": 0}
+        for options, given in [
+            ([], {}),
+            (["peak=00020", "fill=1"], {"peak": 20, "fill": 1}),
+            (["workers=2", "fill=00", "strips=64"], {"workers": 2, "strips": 64}),
+        ]:
+            operands, asked = inputs.read_words(["demo", "7", *options])
+            self.assertEqual((operands, asked), (["7"], {**plain, **given}))
 
 
 class Pictures(unittest.TestCase):
@@ -187,6 +226,15 @@ class Calibrations(unittest.TestCase):
             ("[]", "top has the wrong type"),
             ("{}", "version is missing"),
             ('{"version":3}', "unknown version"),
+            ('{"version":0,"x":0}', "unknown version"),
+            ('{"version":2}', "disparities is missing"),
+            ('{"version":2.0}', "version has the wrong type"),
+            (SECOND + "}", "penalties.adapt is missing"),
+            (with_adapt("1") + "}", "penalties.adapt has the wrong type"),
+            (with_adapt('"true"') + ',"warp":0}', "penalties.adapt has the wrong type"),
+            (with_adapt("null").replace('"p2":3', '"p2":0') + "}", "penalties.p2 is out of range"),
+            (with_adapt("true").replace('"version":2', '"version":1') + "}", "penalties has an unknown name"),
+            (with_adapt("true").replace("adapt", "adapts") + "}", "penalties has an unknown name"),
             ('{"version":1.0}', "version has the wrong type"),
             ('{"version":-0}', "version has the wrong type"),
             ('{"version":true}', "version has the wrong type"),
@@ -213,6 +261,13 @@ class Calibrations(unittest.TestCase):
         for name, made in calibration_cases.bounds():
             self.assertIsNone(line_of(inputs.read_calibration, json.dumps(made).encode()), name)
 
+    def test_second_version(self):
+        for adapt, is_adaptive in (("true", True), ("false", False)):
+            made = inputs.read_calibration((with_adapt(adapt) + "}").encode())
+            self.assertEqual((made.p1, made.p2, made.is_adaptive), (1, 3, is_adaptive))
+        self.assertFalse(inputs.read_calibration((PLAIN + "}").encode()).is_adaptive)
+        self.assertFalse(inputs.Calibration().is_adaptive)
+
     def test_last_of_equal_names_counts(self):
         text = PLAIN.replace('"first":0', '"first":0.5,"first":-7') + "}"
         self.assertEqual(inputs.read_calibration(text.encode()).first, -7)
@@ -227,9 +282,31 @@ class Definitions(unittest.TestCase):
         costs = [[[0, 5], [5, 0], [0, 5]]]
         self.assertEqual(matching.path_values(costs, (1, 0), 1, 3), [[[0, 5], [5, 1], [1, 5]]])
 
+    def test_guide(self):
+        self.assertEqual(matching.guide_of([[0, 1, None, 254, 255]], 255), [[0, 1, None, 254, 255]])
+        self.assertEqual(matching.guide_of([[0, 1, 2, 3]], 3), [[0, 85, 170, 255]])
+        self.assertEqual(matching.guide_of([[0, 1]], 1), [[0, 255]])
+        # 255 / 65535 is 1 / 257, rounded down.
+        self.assertEqual(matching.guide_of([[256, 257, 65534, 65535]], 65535), [[0, 1, 254, 255]])
+
+    def test_far(self):
+        for here, before, answer in [(100, 100, 120), (100, 103, 40), (100, 120, 10), (None, 5, 120)]:
+            self.assertEqual(matching.far(10, 120, here, before), answer)
+        for here, before, answer in [(103, 100, 40), (101, 100, 120), (7, None, 120), (None, None, 120), (0, 7, 17), (0, 255, 10)]:
+            self.assertEqual(matching.far(10, 120, here, before), answer)
+        self.assertEqual(matching.far(120, 120, 0, 9), 120)
+
+    def test_path_values_that_follow_the_image(self):
+        costs = [[[0, 9, 9], [9, 9, 0]]]
+        for guide, answer in [(None, 6), ([[10, 13]], 2), ([[10, 10]], 6), ([[10, None]], 6), ([[None, 13]], 6), ([[10, 12]], 3)]:
+            values = matching.path_values(costs, (1, 0), 1, 6, guide)
+            self.assertEqual(values, [[[0, 9, 9], [9, 10, answer]]], guide)
+
     def test_least_energies(self):
-        draw = 1
-        for width, height, count, p1, p2 in [(4, 3, 3, 1, 3), (3, 4, 3, 2, 2), (5, 1, 4, 1, 9)]:
+        draw, guides = 1, [None, [[7, 9, 30, None, 30], [8, 8, 8, 250, 9], [None, 8, 12, 13, 7], [0, 4, 4, 90, 91]]]
+        for (width, height, count, p1, p2), guide in itertools.product(
+            [(4, 3, 3, 1, 3), (3, 4, 3, 2, 2), (5, 1, 4, 1, 9), (4, 3, 3, 1, 13)], guides
+        ):
             costs = []
             for _ in range(height):
                 row = []
@@ -238,10 +315,10 @@ class Definitions(unittest.TestCase):
                     row.append(draw // 65536 % 9)
                 costs.append([row[count * x : count * x + count] for x in range(width)])
             for direction in matching.DIRECTIONS:
-                values = matching.path_values(costs, direction, p1, p2)
+                values = matching.path_values(costs, direction, p1, p2, guide)
                 for x, y in itertools.product(range(width), range(height)):
                     for d in range(count):
-                        meaning = path_value_by_trying(costs, direction, (x, y), d, p1, p2)
+                        meaning = path_value_by_trying(costs, direction, (x, y), d, p1, p2, guide)
                         self.assertEqual(values[y][x][d], meaning)
 
     def test_check(self):
@@ -313,6 +390,66 @@ class Definitions(unittest.TestCase):
         self.assertEqual(matching.least_index([7, 3, 3, 9]), 1)
         self.assertIsNone(matching.match_of([[0]], 0, 1))
 
+    def test_peaks(self):
+        row = [16, 16, 160, 16, 16]
+        for least, answer in [(2, [16, 16, None, 16, 16]), (3, 5 * [None]), (0, row), (1, row)]:
+            self.assertEqual(matching.kept([row], least), [answer], least)
+        # 16 apart is linked and 17 isn't; a chain may lead far. Corners don't touch.
+        self.assertEqual(matching.kept([[0, 16, 32, 49]], 2), [[0, 16, 32, None]])
+        self.assertEqual(matching.kept([[49, 32, 16, 0]], 2), [[None, 32, 16, 0]])
+        apart = [[5, None, 5], [None, 5, None], [5, None, 5]]
+        self.assertEqual(matching.kept(apart, 1), apart)
+        self.assertEqual(matching.kept(apart, 2), [3 * [None]] * 3)
+        around = [[9, 9, 9], [9, None, 9], [9, 9, 90]]
+        self.assertEqual(matching.kept(around, 7), [[9, 9, 9], [9, None, 9], [9, 9, None]])
+        self.assertEqual(matching.kept(around, 8), [3 * [None]] * 3)
+
+    def test_filling(self):
+        left = [3 * [0]]
+        for row, matched, answer in [
+            ([32, None, 96], [None, None, None], [32, 96, 96]),
+            ([32, None, 96], [None, 0, None], [32, 32, 96]),
+            # The index has to be the one that leads from the pixel to this partner.
+            ([32, None, 96], [1, None, None], [32, 32, 96]),
+            ([32, None, 96], [0, 1, 1], [32, 96, 96]),
+            ([32, None, None], [None, None, None], [32, 32, 32]),
+            ([None, None, 7], [0, 0, 0], [7, 7, 7]),
+            ([None, None, None], [0, 0, 0], [None, None, None]),
+        ]:
+            self.assertEqual(matching.filled([row], [matched], left, 0, 2), [answer])
+        self.assertEqual(matching.filled([[32, None, 96]], [3 * [None]], [[0, None, 0]], 0, 2), [[32, None, 96]])
+        # What is filled in is not met: each pixel meets the map as it was given.
+        self.assertEqual(matching.filled([[5, None, None, 9]], [4 * [None]], [4 * [0]], 0, 1), [[5, 9, 9, 9]])
+
+    def test_entries_of_what_is_met(self):
+        """Around the middle stand eight values, and beyond some of them others, which aren't met."""
+        found = [
+            [99, None, None, None, None],
+            [None, 7, 3, 11, None],
+            [None, None, None, 2, 99],
+            [None, 13, None, 5, None],
+            [17, None, 1, None, 99],
+        ]
+        self.assertEqual(matching.met(found, 2, 2), [1, 2, 3, 5, 7, 11, 13])
+        found[2][0] = 4
+        self.assertEqual(matching.met(found, 2, 2), [1, 2, 3, 4, 5, 7, 11, 13])
+        left, nobody = [5 * [0]] * 5, [5 * [None]] * 5
+        self.assertEqual(matching.filled(found, nobody, left, 0, 1)[2][2], 2)
+        self.assertEqual(matching.filled(found, [5 * [0]] * 5, left, 0, 1)[2][2], 4)
+        found[2][0] = None
+        self.assertEqual(matching.filled(found, [5 * [0]] * 5, left, 0, 1)[2][2], 5)
+
+    def test_mismatched(self):
+        for matched, x, first, count, answer in [
+            ([None, 1, None], 2, 0, 2, True),
+            ([None, 1, None], 2, 0, 1, False),
+            ([None, 1, None], 1, 0, 2, False),
+            ([None, 0, None], 2, 1, 2, True),
+            ([None, None, 0], 0, -2, 1, True),
+            ([0, 0, 0], 2, -1, 1, False),
+        ]:
+            self.assertEqual(matching.is_mismatched(matched, x, first, count), answer)
+
     def test_bilinear(self):
         image = inputs.Image(2, 1, 255, [0, 255])
         self.assertEqual(matching.bilinear(image, 128, 0), 128)
@@ -353,17 +490,24 @@ class Definitions(unittest.TestCase):
         self.assertEqual((left.samples, right.samples), ([155], [170]))
 
 
-def path_value_by_trying(costs, direction, p, d, p1, p2):
+def path_value_by_trying(costs, direction, p, d, p1, p2, guide):
     """The least energy of any sequence along the ray that ends in d, less that of the ray before its last pixel."""
     (dx, dy), (x, y) = direction, p
-    ray = []
+    ray, grey = [], []
     while 0 <= x < len(costs[0]) and 0 <= y < len(costs):
         ray.insert(0, costs[y][x])
+        grey.insert(0, guide[y][x] if guide else None)
         x, y = x - dx, y - dy
 
+    def jump(a, b, here, before):
+        if abs(a - b) < 2:
+            return p1 * abs(a - b)
+        step = 1 if None in (here, before) else max(1, here - before, before - here)
+        return max(p1, p2 // step)
+
     def energy(sequence):
-        jumps = [abs(a - b) for a, b in zip(sequence, sequence[1:])]
-        return sum(cost[s] for cost, s in zip(ray, sequence)) + sum({0: 0, 1: p1}.get(jump, p2) for jump in jumps)
+        jumps = zip(sequence[1:], sequence, grey[1:], grey)
+        return sum(cost[s] for cost, s in zip(ray, sequence)) + sum(jump(*pair) for pair in jumps)
 
     count = len(ray[-1])
     sequences = list(itertools.product(range(count), repeat=len(ray)))

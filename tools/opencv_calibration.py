@@ -14,6 +14,7 @@ Where R1 R2 P1 P2 of cv2.stereoRectify are there too, they are used as they are;
 --mount is the left camera's height above the place where heights are 0, --near and --far bound the
 distances that are measured. All three are micrometres, along the axis of the rectified cameras. The
 disparities are those of the distances from near to far, where --first and --count don't say otherwise.
+With --adapt the penalty P2 follows the image: that is a calibration of version 2.
 
 Needs numpy, and OpenCV's package (cv2) for YAML, for XML, and where a rectification has to be computed.
 """
@@ -54,6 +55,9 @@ GRID = {
     "ROWS": (1, 4096),
 }
 BASE = (-2000000000, 2000000000)
+# P1 and P2 where --penalties doesn't give them. One that follows the image is divided by differences of grey values,
+# so it begins higher.
+PENALTIES, ADAPTED_PENALTIES = (10, 120), (10, 400)
 MOST_REGIONS = 1000
 # Meshes: the steps that are tried, how close one has to be to the map in pixels, the range of a node's
 # numbers, and how long a calibration may be in bytes.
@@ -305,6 +309,11 @@ def seconds(cells):
     return f"{about:.0f} seconds" if about >= 3 else f"{max(about, 0.1):.1f} seconds"
 
 
+def penalties_of(penalties, adapt):
+    p1, p2 = penalties or (ADAPTED_PENALTIES if adapt else PENALTIES)
+    return {"p1": p1, "p2": p2} | ({"adapt": True} if adapt else {})
+
+
 def region_of(values):
     return dict(zip(("name", "col", "row", "cols", "rows", "base"), values))
 
@@ -321,10 +330,10 @@ def calibration(parts, words):
     else:
         step, worst = words.step, max(view.deviation(size, words.step) for view in views)
     whole = {
-        "version": 1,
+        "version": 2 if words.adapt else 1,
         "disparities": span,
         "census": {"width": words.census[0], "height": words.census[1]},
-        "penalties": {"p1": words.penalties[0], "p2": words.penalties[1]},
+        "penalties": penalties_of(words.penalties, words.adapt),
         "warp": {side: view.mesh(size, step) for side, view in zip(("left", "right"), views)},
         "camera": camera,
     }
@@ -432,8 +441,10 @@ def words_of():
     window = sides_word((3, 5, 7, 9), (3, 5, 7))
     option("--census", type=window, default=(9, 7), metavar="WxH", help="the window: 3, 5, 7, 9 by 3, 5, 7 (9x7)")
     penalty = whole_word(1, 4000)
-    costs = {"metavar": ("P1", "P2"), "help": "1 to 4000 each (10 120)"}
-    option("--penalties", type=penalty, nargs=2, default=(10, 120), **costs)
+    costs = {"metavar": ("P1", "P2"), "help": "1 to 4000 each (10 120; with --adapt 10 400)"}
+    option("--penalties", type=penalty, nargs=2, **costs)
+    follows = "let P2 follow the image: a jump costs less where the grey values differ"
+    option("--adapt", action="store_true", help=follows)
     names = tuple(GRID)
     option("--grid", type=int, nargs=5, metavar=names, help="of heights: lower left corner and cell in micrometres")
     region = "a rectangle of the grid's cells, counted from the upper left one; may come many times"
@@ -445,7 +456,7 @@ def words_of():
     words = parser.parse_args()
     if words.near > words.far:
         parser.error("--near is above --far")
-    if words.penalties[0] > words.penalties[1]:
+    if words.penalties and words.penalties[0] > words.penalties[1]:
         parser.error("--penalties: P1 is above P2")
     for (name, (low, high)), value in zip(GRID.items(), words.grid or ()):
         if not low <= value <= high:

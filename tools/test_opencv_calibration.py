@@ -108,6 +108,19 @@ class WithoutDistortion(unittest.TestCase):
         # Without distortion the largest step is close enough.
         self.assertEqual(made.left["step"], 64)
 
+    def test_penalties_that_follow_the_image(self):
+        for options, version, penalties in [
+            ("", 1, {"p1": 10, "p2": 120}),
+            (" --penalties 3 40", 1, {"p1": 3, "p2": 40}),
+            (" --adapt", 2, {"p1": 10, "p2": 400, "adapt": True}),
+            (" --adapt --penalties 3 40", 2, {"p1": 3, "p2": 40, "adapt": True}),
+            (" --penalties 10 120 --adapt", 2, {"p1": 10, "p2": 120, "adapt": True}),
+        ]:
+            whole = json.loads(run(PLAIN, LIMITS + options)[2])
+            self.assertEqual((whole["version"], whole["penalties"]), (version, penalties), options)
+            made = made_from(PLAIN, LIMITS + options)
+            self.assertEqual((made.p1, made.p2, made.is_adaptive), (penalties["p1"], penalties["p2"], version == 2))
+
     def test_given_rectification(self):
         one = [[1, 0, 0], [0, 1, 0], [0, 0, 1]]
         p1 = [[64, 0, 40, 0], [0, 64, 20, 0], [0, 0, 1, 0]]
@@ -215,6 +228,7 @@ class WithoutDistortion(unittest.TestCase):
             ("--size 4097x1", "argument --size: 4097x1 isn't a width x height in range"),
             ("--census 4x4", "argument --census: 4x4 isn't a width x height in range"),
             ("--penalties 5 4", "--penalties: P1 is above P2"),
+            ("--adapt --penalties 401 400", "--penalties: P1 is above P2"),
             ("--penalties 5 4001", "argument --penalties: 4001 isn't a whole number from 1 to 4000"),
             ("--first 1025", "argument --first: 1025 isn't a whole number from -1024 to 1024"),
             ("--count 0", "argument --count: 0 isn't a whole number from 1 to 256"),

@@ -1,0 +1,137 @@
+#!/usr/bin/env python3
+"""Checks accuracy.py: what it reads as truth, its made-up scenes, its figures, and whole tables over the reference."""
+
+import os
+import subprocess
+import sys
+import tempfile
+import unittest
+
+import accuracy
+from accuracy import numpy
+
+HERE = os.path.dirname(os.path.abspath(__file__))
+TOOL = os.path.join(HERE, "accuracy.py")
+REFERENCE = os.path.join(HERE, "..", "tests", "reference.py")
+NAN, INF = float("nan"), float("inf")
+
+
+def in_file(data, name, call, *more):
+    with tempfile.TemporaryDirectory() as folder:
+        path = os.path.join(folder, name)
+        with open(path, "wb") as file:
+            file.write(data)
+        return call(path, *more)
+
+
+class Truth(unittest.TestCase):
+    def test_pfm(self):
+        rows = numpy.array([[1.5, INF], [2, 3.25], [0, 7]])
+        for scale, kind in ((b"-1.0", "<f4"), (b"1", ">f4")):
+            data = b"Pf\n2 3\n" + scale + b"\n" + rows[::-1].astype(kind).tobytes()
+            found = in_file(data, "t.pfm", accuracy.read_truth, 16)
+            self.assertTrue(numpy.array_equal(found, numpy.where(rows == INF, NAN, rows), equal_nan=True))
+            with self.assertRaises(accuracy.Wrong):
+                in_file(data[:-1], "t.pfm", accuracy.read_truth, 16)
+        with self.assertRaises(accuracy.Wrong):
+            in_file(b"PF\n2 3\n1\n" + bytes(72), "t.pfm", accuracy.read_truth, 16)
+
+    def test_pgm(self):
+        data = b"P5\n2 1\n65535\n\0\0\1\x08"
+        for unit, value in ((16, 16.5), (256, 1.03125)):
+            found = in_file(data, "t.pgm", accuracy.read_truth, unit)
+            self.assertTrue(numpy.array_equal(found, [[NAN, value]], equal_nan=True))
+
+
+class Scenes(unittest.TestCase):
+    def test_a_box_before_a_ground(self):
+        """The box is 6 pixels nearer, so 6 columns of ground to its left are hidden from the right camera."""
+        size, draw = (60, 20), numpy.random.default_rng(1)
+        ground = accuracy.ground(draw, lambda x, y: 4.0 + 0 * x)
+        box = accuracy.box(draw, size, 0.5, 0.25, 0.75, 0.75, 10, 150)
+        scene = accuracy.Scene([ground, box], size, draw, noise=0)
+        truth, both = numpy.full((20, 60), 4.0), numpy.ones((20, 60), bool)
+        truth[5:15, 30:45] = 10
+        both[:, :4] = False
+        both[5:15, 24:30] = False
+        self.assertTrue(numpy.array_equal(scene.truth, truth))
+        self.assertTrue(numpy.array_equal(scene.both, both))
+        for y, x in zip(*numpy.nonzero(both)):
+            self.assertEqual(scene.left[y, x], scene.right[y, x - int(truth[y, x])])
+
+    def test_columns(self):
+        """What the right picture shows at u lies in the left one at u and its own disparity."""
+        size = (120, 90)
+        y, u = numpy.mgrid[0:90, 0:80].astype(float)
+        for name, (make, _) in accuracy.SCENES.items():
+            for surface in make(size, numpy.random.default_rng(2)):
+                x = surface.left_column(u, y)
+                self.assertLess(float(abs(x - u - surface.disparity(x, y)).max()), 1e-6, name)
+
+    def test_every_scene(self):
+        for name, (make, wrong) in accuracy.SCENES.items():
+            draw = numpy.random.default_rng(3)
+            scene = accuracy.Scene(make((480, 360), draw), (480, 360), draw, **wrong)
+            self.assertTrue(numpy.isfinite(scene.truth).all(), name)
+            self.assertTrue(0 <= scene.truth.min() and scene.truth.max() < 63, name)
+            self.assertGreater(scene.both.mean(), 0.8, name)
+            self.assertGreater(scene.left.std(), 3, name)
+
+
+class Figures(unittest.TestCase):
+    def test_by_hand(self):
+        truth = numpy.array([[5, 5, 5, 5, 5, 5, 5, 5, NAN, 5]])
+        found = numpy.array([[5.25, 6, 6.5, 8, NAN, 4.5, NAN, 5, 5, 9]])
+        both = numpy.array([[1, 1, 1, 1, 1, 1, 0, 0, 1, 0]], bool)
+        # Nine are known, seven of these have a value: errors 0.25, 1, 1.5, 3, 0.5, 0 and 4.
+        wanted = ["77.78 %", "42.86 %", "28.57 %", "0.375", "50.00 %", "33.33 %"]
+        self.assertEqual(accuracy.figures(found, truth, both), wanted)
+        nothing = numpy.full((1, 10), NAN)
+        self.assertEqual(accuracy.figures(nothing, truth, both), ["0.00 %", "-", "-", "-", "0.00 %", "0.00 %"])
+        self.assertEqual(accuracy.figures(found, nothing, both), ["-"] * 6)
+
+
+class Tables(unittest.TestCase):
+    def run_with(self, program, *words):
+        done = subprocess.run(
+            [sys.executable, TOOL, *words], capture_output=True, text=True, env={**os.environ, "SGM": program}
+        )
+        self.assertEqual((done.returncode, done.stderr), (0, ""))
+        return [line for line in done.stdout.splitlines() if line.startswith("| ")], done.stdout
+
+    def test_the_reference(self):
+        words = "--scenes --only wall poles --size 48x32 --count 40 --peak 9 --p2 200 400".split()
+        lines, said = self.run_with(REFERENCE, *words)
+        rivals = 2 if accuracy.cv2 is not None else 0
+        self.assertEqual(len(lines), 2 * (2 + 7 + rivals))
+        names = [line.split(" | ")[0][2:] for line in lines[2:9]]
+        wanted = ["fixed P2", "adapted, P2 200", "adapted, P2 400", "fixed P2, peak=9", "fixed P2, peak=9 fill=1"]
+        self.assertEqual(names, [*wanted, "adapted, P2 200, peak=9", "adapted, P2 200, peak=9 fill=1"])
+        self.assertNotIn("left out", said)
+
+    def test_a_pair(self):
+        heap = os.path.join(HERE, "..", "examples", "stockpile")
+        with tempfile.TemporaryDirectory() as folder:
+            # An older program, which writes what it found before and knows neither version 2 nor peaks.
+            program, truth = os.path.join(folder, "sgm"), os.path.join(folder, "t.pgm")
+            with open(program, "w") as file:
+                file.write(
+                    "#!/bin/sh\n"
+                    'grep -q \'"version": 2\' "$4" && { echo "sgm: calibration: unknown version" >&2; exit 3; }\n'
+                    '[ $# = 5 ] || { echo "sgm: word 5 is not an option" >&2; exit 2; }\n'
+                    f'cp "{heap}/expected/out.pgm" "$5.pgm"\n'
+                )
+            os.chmod(program, 0o755)
+            samples, _ = accuracy.sgm_files.read_pgm(os.path.join(heap, "expected", "out.pgm"))
+            # 28 pixels are 448 sixteenths, and a sample of 16 is a disparity of 28.
+            samples = numpy.where(samples == 0, 0, samples - 16 + 448).astype(">u2")
+            with open(truth, "wb") as file:
+                file.write(f"P5\n{samples.shape[1]} {samples.shape[0]}\n65535\n".encode() + samples.tobytes())
+            files = [os.path.join(heap, name) for name in ("left.pgm", "right.pgm", "calibration.json")]
+            lines, said = self.run_with(program, *files, truth)
+        self.assertEqual(lines[2], "| fixed P2 | 100.00 % | 0.00 % | 0.00 % | 0.000 | 100.00 % | - |")
+        self.assertEqual(said.count("left out"), 5)
+
+
+if __name__ == "__main__":
+    unittest.main()
