@@ -1,2 +1,4 @@
 pub mod Added
+pub mod HeadLaws
 pub mod Rows
+pub mod WordLaws

@@ -1,3 +1,7 @@
+pub mod Asc
+pub mod Capped
 pub mod Cells
+pub mod Head
 pub mod Points
 pub mod Text
+pub mod Words

@@ -8,3 +8,6 @@ pub const MAX_CELL: i64 = 1_000_000_000;
 
 /// How far a height lies from 0 at most, in micrometres.
 pub const MAX_HEIGHT: i64 = 2_000_000_000;
+
+/// What stands for an empty cell in a grid's text.
+pub const NO_HEIGHT: i64 = -2_147_483_648;

@@ -1,0 +1,110 @@
+-- Words of a text, one after the other, and the numbers that they write.
+use Rattle.std.proofs.Common.{◌≡◌, ℕ, zero, suc, ◌+◌, ◌-◌, ◌*◌, ◌<◌, ◌≤◌, ◌⊎◌, inl, inr, min, List, [], ◌∷◌, ◌++◌, length, take, drop, get_or, filter, Bool, true, false, ◌&&◌, Option, Some, None, if◌then◌else◌, refl, sym, ap, ◌∙◌, arith, All, drop-cons}
+use Rattle.std.specs.List.{slice_split}
+use Rattle.std.specs.Char.{is_ascii_digit, digit_value}
+use Rattle.std.specs.Option.{option_map}
+use Rattle.std.specs.Str.{all_ascii_digits}
+use Rattle.std.specs.Str.Parse.{digits_value}
+use Rattle.std.proofs.lemmas.Bool.{cases_lt}
+use Rattle.std.proofs.lemmas.Bool.Decides.{nat_tests}
+use Rattle.std.proofs.lemmas.Int.Digits.{digits_value_more}
+use Rattle.std.proofs.lemmas.List.{take-append-drop, take_all, take_more, drop_all, length-take, length-take-le, get_or-take, get_or_default}
+use Rattle.std.proofs.lemmas.List.Splits.{slice_split-cons_yes, slice_split_none, slice_split_at}
+use Rattle.sgm_grid.specs.declared.words.TheConstants.{TOO_GREAT}
+use Rattle.sgm_grid.specs.Capped.{capped_size}
+use Rattle.sgm_grid.specs.Words.{digits_of, has_bytes, is_space, words_of}
+
+pub after_space : (b : ℕ) (bytes : List ℕ) → is_space b ≡ true → words_of (b ∷ bytes) ≡ words_of bytes
+after_space b bytes space = ap (filter has_bytes) (slice_split-cons_yes is_space b bytes space)
+
+-- over one byte more that is no word's
+pub space_more : (bytes : List ℕ) (k : ℕ) → k < length bytes → is_space (get_or bytes k 0) ≡ true → words_of (drop (k + 1) bytes) ≡ words_of (drop k bytes)
+space_more bytes k inside space =
+    let next : k + 1 ≡ suc k = omega arith in
+    ap (λ (n : ℕ). words_of (drop n bytes)) next
+    ∙ sym (ap words_of (drop-cons bytes k 0 inside) ∙ after_space (get_or bytes k 0) (drop (suc k) bytes) space)
+
+kept_word : (word : List ℕ) (words : List (List ℕ)) → 0 < length word → filter has_bytes (word ∷ words) ≡ word ∷ filter has_bytes words
+kept_word [] words some = absurd (omega arith)
+kept_word (b ∷ word) words some = refl
+
+-- a run of bytes of a word that ends with the bytes
+word_last : (word : List ℕ) → 0 < length word → All (λ b. is_space b ≡ false) word → words_of word ≡ word ∷ []
+word_last word some black = ap (filter has_bytes) (slice_split_none is_space word black) ∙ kept_word word [] some
+
+-- and one that ends before another byte
+pub word_before : (word : List ℕ) (b : ℕ) (rest : List ℕ) → 0 < length word → All (λ b. is_space b ≡ false) word → is_space b ≡ true
+    → words_of (word ++ b ∷ rest) ≡ word ∷ words_of rest
+word_before word b rest some black space = ap (filter has_bytes) (slice_split_at is_space word b rest black space) ∙ kept_word word (slice_split is_space rest) some
+
+black_run : (text : List ℕ) (n : ℕ) → n ≤ length text → ((k : ℕ) → k < n → is_space (get_or text k 0) ≡ false) → All (λ b. is_space b ≡ false) (take n text)
+black_run text n within black k d inside =
+    let before : k < n = omega (arith, length-take n text) in
+    let same : get_or (take n text) k d ≡ get_or text k 0 = get_or-take n text k d before ∙ get_or_default text k d 0 (omega arith) in
+    ap is_space same ∙ black k before
+
+pub word_ends : (text : List ℕ) (n : ℕ) → 0 < n → n ≤ length text → ((k : ℕ) → k < n → is_space (get_or text k 0) ≡ false)
+    → (n < length text → is_space (get_or text n 0) ≡ true) → words_of text ≡ take n text ∷ words_of (drop n text)
+word_ends text n some within run ends =
+    let black = black_run text n within run in
+    let long : length (take n text) ≡ n = length-take-le n text within in
+    elim (cases_lt n (length text)) [
+      | inl inside ↦
+          let next : drop n text ≡ get_or text n 0 ∷ drop (suc n) text = drop-cons text n 0 inside in
+          ap words_of (sym (take-append-drop n text) ∙ ap (λ (t : List ℕ). take n text ++ t) next)
+          ∙ word_before (take n text) (get_or text n 0) (drop (suc n) text) (omega (arith, long)) black (ends inside)
+          ∙ ap (λ (t : List (List ℕ)). take n text ∷ t) (sym (ap words_of next ∙ after_space (get_or text n 0) (drop (suc n) text) (ends inside)))
+      | inr past ↦
+          let whole : take n text ≡ text = take_all n text past in
+          let none : drop n text ≡ [] = drop_all n text past in
+          ap words_of (sym whole) ∙ word_last (take n text) (omega (arith, long)) black
+          ∙ ap (λ (t : List ℕ). take n text ∷ words_of t) (sym none)
+    ]
+
+-- ---- numbers
+
+and_intro : (x y : Bool) → x ≡ true → y ≡ true → (x && y) ≡ true
+and_intro x y p q = ap (λ (t : Bool). t && y) p ∙ q
+
+and_no_right : (x y : Bool) → y ≡ false → (x && y) ≡ false
+and_no_right true y q = q
+and_no_right false y q = refl
+
+pub not_digits : (digits : List ℕ) (k : ℕ) → k < length digits → is_ascii_digit (get_or digits k 0) ≡ false → all_ascii_digits digits ≡ false
+not_digits [] k inside other = absurd (omega arith)
+not_digits (d ∷ digits) zero inside other = ap (λ (t : Bool). t && all_ascii_digits digits) other
+not_digits (d ∷ digits) (suc k) inside other = and_no_right (is_ascii_digit d) (all_ascii_digits digits) (not_digits digits k (omega arith) other)
+
+pub no_size : (digits : List ℕ) → all_ascii_digits digits ≡ false → None ≡ option_map capped_size (digits_of digits)
+no_size [] other = refl
+no_size (d ∷ digits) other = sym (ap (λ (t : Bool). option_map capped_size (if t then Some (digits_value 10 (d ∷ digits)) else None)) other)
+
+digits_push : (digits : List ℕ) (d : ℕ) → all_ascii_digits digits ≡ true → is_ascii_digit d ≡ true → all_ascii_digits (digits ++ d ∷ []) ≡ true
+digits_push [] d all digit = and_intro (is_ascii_digit d) true digit refl
+digits_push (c ∷ digits) d all digit =
+    and_intro (is_ascii_digit c) (all_ascii_digits (digits ++ d ∷ [])) (and_left _ _ all) (digits_push digits d (and_right _ _ all) digit)
+  where
+    and_left : (x y : Bool) → (x && y) ≡ true → x ≡ true
+    and_left true y h = refl
+    and_left false y h = absurd cc
+
+    and_right : (x y : Bool) → (x && y) ≡ true → y ≡ true
+    and_right true y h = h
+    and_right false y h = absurd cc
+
+pub digits_more : (digits : List ℕ) (k : ℕ) → k < length digits → all_ascii_digits (take k digits) ≡ true → is_ascii_digit (get_or digits k 0) ≡ true
+    → all_ascii_digits (take (k + 1) digits) ≡ true
+digits_more digits k inside all digit = ap all_ascii_digits (take_more digits k 0 inside) ∙ digits_push (take k digits) (get_or digits k 0) all digit
+
+digit_value_is : (b : ℕ) → is_ascii_digit b ≡ true → digit_value b ≡ b - 48
+digit_value_is b digit = grind (arith, nat_tests)
+
+capped_more : (n b : ℕ) → is_ascii_digit b ≡ true → min (10 * min n TOO_GREAT + (b - 48)) TOO_GREAT ≡ min (n * 10 + digit_value b) TOO_GREAT
+capped_more n b digit = omega (arith, digit_value_is b digit)
+
+pub value_more : (digits : List ℕ) (k value next : ℕ) → k < length digits → is_ascii_digit (get_or digits k 0) ≡ true → value ≡ capped_size (digits_value 10 (take k digits))
+    → next ≡ min (10 * value + (get_or digits k 0 - 48)) TOO_GREAT → next ≡ capped_size (digits_value 10 (take (k + 1) digits))
+value_more digits k value next inside digit is more =
+    more ∙ ap (λ (n : ℕ). min (10 * n + (get_or digits k 0 - 48)) TOO_GREAT) is
+    ∙ capped_more (digits_value 10 (take k digits)) (get_or digits k 0) digit
+    ∙ ap capped_size (sym (digits_value_more 10 digits k inside))
