@@ -2,9 +2,8 @@
 #![tactic(auto)]
 
 pub mod laws;
-
 mod refine;
 mod segments;
 
-pub use segments::{LINK_DISTANCE, peaks};
 pub use refine::{MAX_PEAK, Refine};
+pub use segments::{LINK_DISTANCE, peaks};
