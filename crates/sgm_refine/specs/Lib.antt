@@ -1,3 +1,4 @@
 pub mod Filling
+pub mod Met
 pub mod Refining
 pub mod Segments
