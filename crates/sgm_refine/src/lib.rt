@@ -2,10 +2,11 @@
 #![tactic(auto)]
 
 mod filling;
+pub mod laws;
 mod met;
-mod peaks;
 mod refine;
+mod segments;
 
 pub use filling::fill;
-pub use peaks::LINK_DISTANCE;
 pub use refine::{MAX_PEAK, Refine};
+pub use segments::{LINK_DISTANCE, peaks};
