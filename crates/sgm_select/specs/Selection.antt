@@ -71,3 +71,8 @@ disparity g left right first p =
 abbrev pub disparities_of : Problem → Values → Values → ℤ → Values
 disparities_of g left right first =
     values_of g.width g.height (row_by_row g.width g.height (λ x y. disparity g left right first (pixel_at x y)))
+
+-- the match of each pixel of the right image, in sixteenths, row by row: 16 times its index, or none
+abbrev pub matches_of : Problem → ℤ → Values
+matches_of g first =
+    values_of g.width g.height (row_by_row g.width g.height (λ q y. option_map (λ d. 16 * d) (matched g first q y)))
