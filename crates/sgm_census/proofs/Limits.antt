@@ -2,9 +2,11 @@
 use Rattle.std.proofs.Common.{ℕ, ◌≤◌, arith}
 use Rattle.sgm_base.specs.declared.limits.TheConstants.{MAX_COST, MAX_PENALTY}
 use Rattle.sgm_base.specs.Disparities.{Disparities}
+use Rattle.sgm_base.specs.Values.{Values}
+use Rattle.sgm_energy.specs.Pens.{Penalties}
 use Rattle.sgm_energy.specs.Rays.{Problem}
 use Rattle.sgm_energy.specs.Energies.{IsWithin}
-use Rattle.sgm_energy.proofs.PathLaws.{high, within_fixed}
+use Rattle.sgm_energy.proofs.PathLaws.{high, within_guided}
 use Rattle.sgm_energy.proofs.SumLemmas.{done_room, done_bound, sum_bound}
 use Rattle.sgm_census.specs.Codes.{Codes, IsCodes}
 use Rattle.sgm_census.specs.Costs.{census_cost}
@@ -14,10 +16,12 @@ use Rattle.sgm_census.proofs.CostRows.{census_cost-le, greatest-le}
 pub census_cost-limited : (left right : Codes) (span : Disparities) (x y d : ℕ) → IsCodes left → census_cost left right span.first x y d ≤ MAX_COST
 census_cost-limited left right span x y d k = omega (arith, census_cost-le left right span.first x y d k, greatest-le left.window k.window_in_range)
 
-pub matching-within : (left right : Codes) (span : Disparities) (p1 p2 : ℕ) → IsCodes left → p1 ≤ p2 → p2 ≤ MAX_PENALTY → IsWithin (matching_problem left right span p1 p2) MAX_COST MAX_PENALTY
-matching-within left right span p1 p2 k ordered limited =
-    let fixed = within_fixed left.width left.height span.count p1 p2 MAX_COST (λ p d. census_cost left right span.first p.x p.y d) ordered (λ p d _ _ _. census_cost-limited left right span p.x p.y d k) in
-    record { costs = fixed.costs; ordered = fixed.ordered; penalties = λ q p. omega (arith, fixed.penalties q p) }
+pub matching-within : (left right : Codes) (span : Disparities) (penalties : Penalties) (guide : Values) → IsCodes left → penalties.p1 ≤ penalties.p2 → penalties.p2 ≤ MAX_PENALTY
+    → IsWithin (matching_problem left right span penalties guide) MAX_COST MAX_PENALTY
+matching-within left right span penalties guide k ordered limited =
+    let within =
+    within_guided left.width left.height span.count MAX_COST (λ p d. census_cost left right span.first p.x p.y d) penalties guide ordered (λ p d _ _ _. census_cost-limited left right span p.x p.y d k) in
+    record { costs = within.costs; ordered = within.ordered; penalties = λ q p. omega (arith, within.penalties q p) }
 
 -- what is within the limits of costs and penalties keeps those of path values and sums
 pub within-keeps : (g : Problem) → IsWithin g MAX_COST MAX_PENALTY → KeepsLimits g

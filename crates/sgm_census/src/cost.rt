@@ -5,7 +5,7 @@ ghost use Rattle.sgm_census.specs.Packed.{bits_of, unpacked, HoldsSmall};
 
 use crate::code_plane::{CodePlane, CodeRow};
 use sgm_base::{MAX_COST, MAX_COUNT, Overlap, Span};
-use sgm_lanes::hamming;
+use sgm_lanes::{differing, hamming};
 
 /// The words that a code is written to, one for each index.
 const INDICES: usize = MAX_COUNT as usize;
@@ -112,4 +112,58 @@ pub fn cost_row(left: &CodePlane, right: &CodePlane, span: Span, y: u32, into: &
         let place = width - 1 - x;
         cost_pixel(left, right, greatest, span, place, &mut repeated, cells);
     }
+}
+
+/// The cost of a code against the one that stands at `place` in a row of the right image.
+fn cost_beside(code: u64, right: CodeRow, greatest: u8, place: usize) -> u8
+    requires words { place < length right.words.now }
+    requires present { place < length right.present.now }
+    requires code { code < 2 ^ greatest }
+    requires small { HoldsSmall greatest right.words.now }
+    ensures { result ≡ cost_between greatest (Some (bits_of greatest code))
+        (unpacked greatest right.entry.words.now right.entry.present.now place) }
+{
+    if right.present[place] {
+        differing(code, right.words[place])
+    } else {
+        greatest
+    }
+}
+
+/// The cost of the index `d` at the pixel whose code stands at `place` in its row.
+fn cost_index(left: CodeRow, right: CodeRow, greatest: u8, span: Span, place: usize, d: usize) -> u8
+    requires place { place < length left.words.now }
+    requires index { d < span.count }
+    requires left_present { length left.present.now ≡ length left.words.now }
+    requires right_words { length right.words.now ≡ length left.words.now }
+    requires right_present { length right.present.now ≡ length left.words.now }
+    requires left_small { HoldsSmall greatest left.words.now }
+    requires right_small { HoldsSmall greatest right.words.now }
+    ensures { result ≡ cost_between greatest (unpacked greatest left.entry.words.now left.entry.present.now place)
+        (option_and_then (unpacked greatest right.entry.words.now right.entry.present.now)
+        (left_column (length left.entry.words.now) span.first place d)) }
+{
+    let there = Overlap::of(left.words.len(), span, place);
+    if !left.present[place] || d < there.skipped || there.skipped + there.len <= d {
+        return greatest;
+    }
+    let other = there.start + (d - there.skipped);
+    cost_beside(left.words[place], right, greatest, other)
+}
+
+/// The cost of the column `x` and the index `d` in the row `y`: what [`cost_row`] writes there. Takes no
+/// memory.
+pub fn cost_at(left: &CodePlane, right: &CodePlane, span: Span, x: u32, y: u32, d: u32) -> u8
+    requires same_width { left.now.width ≡ right.now.width }
+    requires same_height { left.now.height ≡ right.now.height }
+    requires same_window { left.now.window ≡ right.now.window }
+    requires column { x < left.now.width }
+    requires row { y < left.now.height }
+    requires index { d < span.count }
+    ensures { result ≡ census_cost left.now right.now span.first x y d }
+{
+    let greatest = left.window().greatest();
+    let (left, right) = (left.row(y), right.row(y));
+    let place = left.words.len() - 1 - x as usize;
+    cost_index(left, right, greatest, span, place, d as usize)
 }

@@ -4,6 +4,7 @@
 ghost use Rattle.std.specs.Prelude.{◌≡◌, ℕ, ◌≤◌, ℤ};
 ghost use Rattle.sgm_base.specs.Disparities.{Disparities};
 ghost use Rattle.sgm_base.specs.Values.{Values, IsValues};
+ghost use Rattle.sgm_energy.specs.Pens.{Penalties};
 ghost use Rattle.sgm_energy.specs.Energies.{IsWithin};
 ghost use Rattle.sgm_census.specs.Windows.{WindowSides, IsWindow, greatest_of};
 ghost use Rattle.sgm_census.specs.Codes.{Codes, IsCodes, codes_of, code_at, code_in};
@@ -27,12 +28,14 @@ pub fn costs()
     ensures most { (left right : Codes) (first : ℤ) (x y d : ℕ) → IsCodes left → census_cost left right first x y d ≤ MAX_COST }
 {}
 
-/// In the problem of matching two planes of codes, with penalties in their limits, costs and penalties are
-/// within theirs. So no path value is above [`sgm_base::MAX_PATH_VALUE`] and no sum over the eight directions
+/// In the problem of matching two planes of codes, with penalties in their limits and whatever guide, costs
+/// and penalties are within theirs. So no path value is above [`sgm_base::MAX_PATH_VALUE`] and no sum over the eight directions
 /// above [`sgm_base::MAX_SUM`].
 pub fn limits()
-    ensures within { (left right : Codes) (span : Disparities) (p1 p2 : ℕ) → IsCodes left → p1 ≤ p2 → p2 ≤ MAX_PENALTY
-        → IsWithin (matching_problem left right span p1 p2) MAX_COST MAX_PENALTY }
-    ensures kept { (left right : Codes) (span : Disparities) (p1 p2 : ℕ) → IsCodes left → p1 ≤ p2 → p2 ≤ MAX_PENALTY
-        → KeepsLimits (matching_problem left right span p1 p2) }
+    ensures within { (left right : Codes) (span : Disparities) (penalties : Penalties) (guide : Values) → IsCodes left
+        → penalties.p1 ≤ penalties.p2 → penalties.p2 ≤ MAX_PENALTY
+        → IsWithin (matching_problem left right span penalties guide) MAX_COST MAX_PENALTY }
+    ensures kept { (left right : Codes) (span : Disparities) (penalties : Penalties) (guide : Values) → IsCodes left
+        → penalties.p1 ≤ penalties.p2 → penalties.p2 ≤ MAX_PENALTY
+        → KeepsLimits (matching_problem left right span penalties guide) }
 {}

@@ -9,5 +9,5 @@ mod pack;
 mod window;
 
 pub use code_plane::{CodePlane, codes};
-pub use cost::cost_row;
+pub use cost::{cost_at, cost_row};
 pub use window::Window;

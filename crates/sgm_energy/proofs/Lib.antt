@@ -10,3 +10,4 @@ pub mod SumLemmas
 pub mod DirLemmas
 pub mod Parts
 mod Examples
+pub mod Penalties

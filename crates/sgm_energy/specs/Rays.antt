@@ -1,8 +1,10 @@
 -- Pixels, the problem that is solved over them, and the rays through them.
 use Rattle.std.specs.Prelude.{◌≡◌, ℕ, ◌+◌, ◌-◌, ◌<◌, List, [], ◌∷◌, ◌++◌, take, length, Option, Some, None, option_and_then, zero, suc, nat_lt, if◌then◌else◌, ℤ, pos, negsuc, ◌+ℤ◌, ◌*ℤ◌}
 use Rattle.std.specs.Option.{option_map_or}
+use Rattle.sgm_base.specs.Values.{Values, value_at}
 use Rattle.sgm_energy.specs.declared.dir.Dir.{Dir}
 use Rattle.sgm_energy.specs.Dirs.{offset}
+use Rattle.sgm_energy.specs.Pens.{Penalties, far_of}
 
 -- the column, to the right from 0, and the row, downwards from 0
 pub record Pixel : Type 0 where
@@ -23,10 +25,18 @@ pub record Problem : Type 0 where
   pub p1 : ℕ
   pub far : Pixel → Pixel → ℕ
 
--- the problem whose two penalties are p1 and p2 everywhere
-abbrev pub fixed_problem : ℕ → ℕ → ℕ → (Pixel → ℕ → ℕ) → ℕ → ℕ → Problem
-fixed_problem width height count cost p1 p2 =
-    record { width = width; height = height; count = count; cost = cost; p1 = p1; far = λ _ _. p2 }
+-- The problem with these penalties over an image with this guide: where they follow the image, the penalty of an index
+-- that changes by more than one is what the guide leaves of it.
+abbrev pub guided_problem : ℕ → ℕ → ℕ → (Pixel → ℕ → ℕ) → Penalties → Values → Problem
+guided_problem width height count cost penalties guide =
+    record {
+      width = width;
+      height = height;
+      count = count;
+      cost = cost;
+      p1 = penalties.p1;
+      far = λ q p. far_of penalties (value_at guide p.x p.y) (value_at guide q.x q.y);
+    }
 
 abbrev pub IsInside : Problem → Pixel → Type 0
 IsInside g p = (p.x < g.width) × (p.y < g.height)

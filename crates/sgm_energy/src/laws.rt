@@ -2,10 +2,12 @@
 //! problem, and its body is empty.
 
 ghost use Rattle.std.specs.Prelude.{◌≡◌, ◌≢◌, ◌↔◌, ℕ, ◌+◌, ◌*◌, ◌<◌, ◌≤◌, Bool, true, false, List, ◌++◌, ◌∷◌, [], All, Contains, length};
+ghost use Rattle.sgm_base.specs.Values.{Values};
 ghost use Rattle.sgm_terms.specs.Step.{IsStepped};
 ghost use Rattle.sgm_energy.specs.declared.dir.Dir.{Dir};
 ghost use Rattle.sgm_energy.specs.Dirs.{number_of, is_level, front_of, dir_of_front, position_of, strip_at};
-ghost use Rattle.sgm_energy.specs.Rays.{Pixel, Problem, IsInside, IsRay, fixed_problem, predecessor, ray, before};
+ghost use Rattle.sgm_energy.specs.Pens.{Penalties};
+ghost use Rattle.sgm_energy.specs.Rays.{Pixel, Problem, IsInside, IsRay, guided_problem, predecessor, ray, before};
 ghost use Rattle.sgm_energy.specs.Energies.{sequences, least_of_all, least_ending, path_value, least_value, sum_done, path_sum, IsWithin};
 
 /// No two directions have one number. A direction that is not level has a front, and no other has
@@ -51,15 +53,15 @@ pub fn recurrence()
 {}
 
 /// No path value is below 0: what is subtracted is never greater. None is above the greatest cost and
-/// the greatest penalty together. With one pair of penalties everywhere the greatest is p2.
+/// the greatest penalty together. Under penalties that are fixed or follow a guide the greatest is p2.
 pub fn bounds()
     ensures low { (g : Problem) (dir : Dir) (p : Pixel) (d : ℕ) → d < g.count
         → least_of_all g (before g dir p) ≤ least_ending g (ray g dir p) d }
     ensures high { (g : Problem) (dir : Dir) (p : Pixel) (d most top : ℕ) → d < g.count → IsInside g p → IsWithin g most top
         → path_value g dir p d ≤ most + top }
-    ensures fixed { (width height count p1 p2 most : ℕ) (cost : Pixel → ℕ → ℕ) → p1 ≤ p2
+    ensures guided { (width height count most : ℕ) (cost : Pixel → ℕ → ℕ) (penalties : Penalties) (guide : Values) → penalties.p1 ≤ penalties.p2
         → ((p : Pixel) (d : ℕ) → p.x < width → p.y < height → d < count → cost p d ≤ most)
-        → IsWithin (fixed_problem width height count cost p1 p2) most p2 }
+        → IsWithin (guided_problem width height count cost penalties guide) most penalties.p2 }
 {}
 
 /// The sum over the directions that are done: one direction more adds its path value, all are the whole

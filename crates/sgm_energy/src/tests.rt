@@ -19,6 +19,27 @@ fn penalties_in_range(rt: HostRuntime) {
 }
 
 #[test]
+fn penalties_that_follow_the_image(rt: HostRuntime) {
+    let fixed = Pen::make(10, 120).expect(&rt, "in range");
+    let adaptive = Pen::adaptive(10, 120).expect(&rt, "in range");
+    assert!(rt; !fixed.is_adaptive() && adaptive.is_adaptive());
+    assert!(rt; Pen::adaptive(0, 1).is_none() && Pen::adaptive(3, 2).is_none());
+    for (here, before, far) in [
+        (Some(100), Some(100), 120),
+        (Some(100), Some(103), 40),
+        (Some(103), Some(100), 40),
+        (Some(100), Some(120), 10),
+        (Some(0), Some(255), 10),
+        (None, Some(5), 120),
+        (Some(5), None, 120),
+        (None, None, 120),
+    ] {
+        assert_eq!(rt; adaptive.far(here, before), far);
+        assert_eq!(rt; fixed.far(here, before), 120);
+    }
+}
+
+#[test]
 fn steps_and_fronts_of_directions(rt: HostRuntime) {
     for (dir, offset, front) in [
         (Dir::Right, (1, 0), None),

@@ -7,7 +7,7 @@ const WORDS: usize = 16;
 
 /// How many bits of two words differ.
 #[inline]
-fn differing(a: u64, b: u64) -> u8
+pub fn differing(a: u64, b: u64) -> u8
     ensures { result ≡ count_ones (bit_xor a b) }
 {
     (a ^ b).count_ones() as u8

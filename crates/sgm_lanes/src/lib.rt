@@ -8,7 +8,7 @@ mod minimum;
 mod recurrence;
 mod sums;
 
-pub use codes::hamming;
+pub use codes::{differing, hamming};
 pub use minimum::least;
 pub use recurrence::step;
 pub use sums::add;

@@ -1,17 +1,23 @@
 -- From what is given for each pixel of a row to the whole row and its path values.
-use Rattle.std.proofs.Common.{◌≡◌, ℕ, ◌+◌, ◌-◌, ◌*◌, ◌/◌, ◌<◌, ◌≤◌, zero, suc, ◌⊎◌, inl, inr, true, List, length, slice_index, Option, Some, None, MatchOption, refl, sym, ap, ◌∙◌, subst, arith}
+use Rattle.std.proofs.Common.{◌≡◌, ℕ, ◌+◌, ◌-◌, ◌*◌, ◌/◌, ◌<◌, ◌≤◌, zero, suc, ◌⊎◌, inl, inr, true, List, length, slice_index, slice_index_or, Option, Some, None, MatchOption, refl, sym, ap, ◌∙◌, subst, arith}
 use Rattle.std.proofs.lemmas.Bool.{cases_eq, cases_lt}
 use Rattle.std.proofs.lemmas.Nat.{mul-add-lt, div-mul-add, mul-le}
 use Rattle.sgm_energy.specs.declared.dir.Dir.{Dir}
 use Rattle.sgm_energy.specs.declared.dir.Dir.TheVariants.{Right, Left, Down, DownRight, DownLeft, Up, UpRight, UpLeft}
 use Rattle.sgm_energy.specs.Dirs.{offset, is_level}
+use Rattle.sgm_energy.specs.Pens.{Penalties}
 use Rattle.sgm_energy.specs.Rays.{Pixel, pixel_at, Problem, column_before, row_before, predecessor}
 use Rattle.sgm_energy.specs.Energies.{path_value}
 use Rattle.sgm_energy.specs.Rows.{HoldsRow}
 use Rattle.sgm_energy.proofs.RayLemmas.{room, room_falls, predecessor_is, no_column, no_row, minus_pos, minus_negsuc, minus_zero, minus_one, minus_one_none, minus_up, minus_up_none, minus_small}
+use Rattle.sgm_energy.proofs.Penalties.{far-ordered}
 use Rattle.sgm_energy.proofs.PathLaws.{first, next}
-use Rattle.sgm_path.specs.Paths.{Follows, HasFar, HoldsRowBefore, RowFollows, StepsAt, Suits}
+use Rattle.sgm_path.specs.Paths.{far_between, Follows, HasFar, HoldsRowBefore, RowFollows, StepsAt, Suits}
 use Rattle.sgm_path.proofs.Follow.{follows_same, follows_part}
+
+-- no penalty between two rows is below p1
+pub between-ordered : (penalties : Penalties) (guide guide_before : List (Option ℕ)) → penalties.p1 ≤ penalties.p2 → (z x : ℕ) → penalties.p1 ≤ far_between penalties guide guide_before z x
+between-ordered penalties guide guide_before le z x = far-ordered penalties (slice_index_or guide x None) (slice_index_or guide_before z None) le
 
 -- how many pixels a row has
 pub width_is : (g : Problem) (y p1 count : ℕ) (costs : List ℕ) → Suits g y p1 count costs → 0 < count → length costs / count ≡ g.width

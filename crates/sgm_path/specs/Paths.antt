@@ -1,7 +1,8 @@
 -- What rows of costs and of path values say of a problem.
-use Rattle.std.specs.Prelude.{◌≡◌, ℕ, ◌+◌, ◌*◌, ◌/◌, ◌<◌, List, length, map, slice_index, Some, MatchOption}
+use Rattle.std.specs.Prelude.{◌≡◌, ℕ, ◌+◌, ◌*◌, ◌/◌, ◌<◌, List, length, map, slice_index, slice_index_or, Option, Some, None, MatchOption}
 use Rattle.sgm_terms.specs.Step.{IsStepped}
 use Rattle.sgm_energy.specs.declared.dir.Dir.{Dir}
+use Rattle.sgm_energy.specs.Pens.{Penalties, far_of}
 use Rattle.sgm_energy.specs.Rays.{pixel_at, Problem, column_before, row_before}
 use Rattle.sgm_energy.specs.Energies.{least, below, path_value}
 use Rattle.sgm_energy.specs.Rows.{HoldsRow}
@@ -30,6 +31,11 @@ pub record Suits (g : Problem) (y p1 count : ℕ) (costs : List ℕ) : Type 0 wh
   pub same_p1 : g.p1 ≡ p1
   pub inside : y < g.height
   pub holds : HoldsRow g y g.cost costs
+
+-- the penalty of a change by more than one from the column z to the column x of a row, where the row has this guide and
+-- the row that the direction comes from has guide_before
+abbrev pub far_between : Penalties → List (Option ℕ) → List (Option ℕ) → ℕ → ℕ → ℕ
+far_between penalties guide guide_before z x = far_of penalties (slice_index_or guide x None) (slice_index_or guide_before z None)
 
 -- far z x is the problem's penalty from the column z of the row before to the column x of the row y
 pub record HasFar (g : Problem) (before y : ℕ) (far : ℕ → ℕ → ℕ) : Type 0 where

@@ -1,9 +1,26 @@
 // The values of one pixel. Its costs and its values begin at the same place of their rows.
 ghost use Rattle.std.specs.Prelude.{◌≡◌, ℕ, ◌+◌, ◌-◌, ◌^◌, ◌<◌, ◌≤◌, ◌⊎◌, length, slice_index, EachIndex, All};
+ghost use Rattle.sgm_energy.specs.Pens.{penalties_of, far_of};
 ghost use Rattle.sgm_path.specs.Paths.{Follows};
 
 use sgm_base::{MAX_COST, MAX_PATH_VALUE, MAX_PENALTY};
+use sgm_energy::Pen;
 use sgm_lanes::{add, least, step};
+
+/// The penalty of a change by more than one between two pixels with these grey values. `ADAPTIVE` is
+/// whether the pen is: with a fixed one nothing is left of it but the pen's penalty.
+#[inline]
+pub(crate) fn far_at<const ADAPTIVE: bool>(pen: Pen, here: Option<u8>, before: Option<u8>) -> u16
+    requires kind { (penalties_of pen).adaptive ≡ ADAPTIVE }
+    ensures value { result ≡ far_of (penalties_of pen) here before }
+    ensures range { ((penalties_of pen).p1 ≤ result) × (result ≤ MAX_PENALTY) }
+{
+    if ADAPTIVE {
+        pen.far(here, before)
+    } else {
+        pen.p2()
+    }
+}
 
 /// The values of a pixel from those of the pixel before.
 #[inline]

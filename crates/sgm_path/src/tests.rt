@@ -74,7 +74,14 @@ fn three_pixels_to_the_right(rt: HostRuntime) {
     // the costs are (0, 5), (5, 0), (0, 5)
     let pen = Pen::make(1, 3).expect(&rt, "in range");
     let mut values = [0u16; 6];
-    run_row(Dir::Right, pen, &[0, 5, 5, 0, 0, 5], 2, &mut values);
+    run_row(
+        Dir::Right,
+        pen,
+        &[0, 5, 5, 0, 0, 5],
+        &[None; 3],
+        2,
+        &mut values,
+    );
     assert!(rt; values == [0, 5, 5, 1, 1, 5]);
 }
 
@@ -87,13 +94,14 @@ fn is_as_wanted(pen: Pen, count: usize, costs: &[u8], right: &[u16], left: &[u16
 {
     let mut buffer = [0u16; 12];
     let values = &mut buffer[..costs.len()];
-    run_row(Dir::Right, pen, costs, count, values);
+    let guide = &[None; 12][..costs.len() / count];
+    run_row(Dir::Right, pen, costs, guide, count, values);
     let to_the_right = &*values == right;
-    run_row(Dir::Left, pen, costs, count, values);
+    run_row(Dir::Left, pen, costs, guide, count, values);
     let to_the_left = &*values == left;
     let mut room = [0u16; 12];
     let sums = &mut room[..costs.len()];
-    level_sums(pen, costs, count, values, sums);
+    level_sums(pen, costs, guide, count, values, sums);
     to_the_right && to_the_left && are_sums(sums, right, left)
 }
 
@@ -120,6 +128,9 @@ fn level_rows_have_least_energies(rt: HostRuntime) {
 }
 
 const IMAGE: [[u8; 6]; 3] = [[0, 6, 9, 2, 4, 4], [7, 1, 3, 3, 0, 8], [5, 0, 2, 9, 6, 1]];
+
+/// A fixed pen doesn't look at it.
+const GREY: [Option<u8>; 3] = [Some(0), None, Some(200)];
 
 const VALUES: [(Dir, [[u16; 6]; 3]); 6] = [
     (
@@ -163,16 +174,35 @@ fn rows_of_an_image_have_least_energies(rt: HostRuntime) {
         let mut first = [0u16; 6];
         let mut second = [0u16; 6];
         let mut third = [0u16; 6];
-        step_row(dir, pen, &begin, None, 2, &mut first);
-        step_row(dir, pen, &middle, Some(&first), 2, &mut second);
-        step_row(dir, pen, &end, Some(&second), 2, &mut third);
+        step_row(dir, pen, &begin, None, &GREY, &[], 2, &mut first);
+        step_row(
+            dir,
+            pen,
+            &middle,
+            Some(&first),
+            &GREY,
+            &GREY,
+            2,
+            &mut second,
+        );
+        step_row(dir, pen, &end, Some(&second), &GREY, &GREY, 2, &mut third);
         // The same values, added to sums that are there.
         let mut again = [7u16; 6];
         let mut sums = [100u16; 6];
-        add_step_row(dir, pen, &end, Some(&second), 2, &mut again, &mut sums);
+        add_step_row(
+            dir,
+            pen,
+            &end,
+            Some(&second),
+            &GREY,
+            &GREY,
+            2,
+            &mut again,
+            &mut sums,
+        );
         assert!(rt; again == third && are_sums(&sums, &[100; 6], &third));
         let mut sums = [30000u16; 6];
-        add_step_row(dir, pen, &begin, None, 2, &mut again, &mut sums);
+        add_step_row(dir, pen, &begin, None, &GREY, &[], 2, &mut again, &mut sums);
         assert!(rt; again == first && are_sums(&sums, &[30000; 6], &first));
         let found = if down {
             [first, second, third]
@@ -188,7 +218,16 @@ fn diagonal_begins_at_the_side(rt: HostRuntime) {
     // two pixels in two rows: pixel (0, 1) begins a ray, and pixel (1, 1) follows (0, 0)
     let pen = Pen::make(1, 3).expect(&rt, "in range");
     let mut top = [0u16; 4];
-    step_row(Dir::DownRight, pen, &[0, 5, 9, 9], None, 2, &mut top);
+    step_row(
+        Dir::DownRight,
+        pen,
+        &[0, 5, 9, 9],
+        None,
+        &[None; 2],
+        &[],
+        2,
+        &mut top,
+    );
     assert!(rt; top == [0, 5, 9, 9]);
     let mut bottom = [0u16; 4];
     step_row(
@@ -196,8 +235,73 @@ fn diagonal_begins_at_the_side(rt: HostRuntime) {
         pen,
         &[7, 4, 5, 0],
         Some(&top),
+        &[None; 2],
+        &[None; 2],
         2,
         &mut bottom,
     );
     assert!(rt; bottom == [7, 4, 5, 1]);
+}
+
+#[test]
+fn penalties_that_follow_a_row(rt: HostRuntime) {
+    let costs = [0, 9, 9, 9, 9, 0];
+    let guide = [Some(10), Some(13)];
+    let fixed = Pen::make(1, 6).expect(&rt, "in range");
+    let adaptive = Pen::adaptive(1, 6).expect(&rt, "in range");
+    let mut values = [0u16; 6];
+    run_row(Dir::Right, fixed, &costs, &guide, 3, &mut values);
+    assert!(rt; values == [0, 9, 9, 9, 10, 6]);
+    run_row(Dir::Right, adaptive, &costs, &guide, 3, &mut values);
+    assert!(rt; values == [0, 9, 9, 9, 10, 2]);
+    run_row(Dir::Left, adaptive, &costs, &guide, 3, &mut values);
+    assert!(rt; values == [2, 10, 9, 9, 9, 0]);
+    run_row(
+        Dir::Left,
+        adaptive,
+        &costs,
+        &[Some(10), None],
+        3,
+        &mut values,
+    );
+    assert!(rt; values == [6, 10, 9, 9, 9, 0]);
+    let mut spare = [0u16; 6];
+    let mut sums = [0u16; 6];
+    level_sums(adaptive, &costs, &guide, 3, &mut spare, &mut sums);
+    assert!(rt; sums == [2, 19, 18, 18, 19, 2]);
+}
+
+#[test]
+fn penalties_that_follow_two_rows(rt: HostRuntime) {
+    // Upwards to the right: the column 1 comes from the column 0 of the row below, with the grey value 10.
+    let pen = Pen::adaptive(1, 6).expect(&rt, "in range");
+    let below = [0, 9, 9, 0, 9, 9];
+    let costs = [9, 9, 0, 9, 9, 0];
+    let mut values = [0u16; 6];
+    let before = Some(&below[..]);
+    step_row(
+        Dir::UpRight,
+        pen,
+        &costs,
+        before,
+        &[Some(99), Some(13)],
+        &[Some(10), Some(14)],
+        3,
+        &mut values,
+    );
+    assert!(rt; values == [9, 9, 0, 9, 10, 2]);
+    let mut sums = [5u16; 6];
+    add_step_row(
+        Dir::Up,
+        pen,
+        &costs,
+        before,
+        &[Some(12), Some(13)],
+        &[Some(10), None],
+        3,
+        &mut values,
+        &mut sums,
+    );
+    assert!(rt; values == [9, 10, 3, 9, 10, 6]);
+    assert!(rt; are_sums(&sums, &[5; 6], &values));
 }

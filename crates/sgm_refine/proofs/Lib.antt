@@ -1,3 +1,4 @@
+pub mod Bounds
 pub mod Chains
 pub mod Filled
 pub mod Floods

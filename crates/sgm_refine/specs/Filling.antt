@@ -7,11 +7,19 @@ use Rattle.sgm_base.specs.Values.{Values, value_at, values_of, row_by_row}
 use Rattle.sgm_energy.specs.declared.dir.Dir.{Dir}
 use Rattle.sgm_energy.specs.Dirs.{directions}
 use Rattle.sgm_energy.specs.Energies.{below}
-use Rattle.sgm_energy.specs.Rays.{Pixel, pixel_at, Problem, fixed_problem, before}
+use Rattle.sgm_energy.specs.Rays.{Pixel, pixel_at, Problem, before}
 
 -- the pixels of a map, for the rays through them, on which costs have no bearing
 abbrev pub pixels_of : Values → Problem
-pixels_of disparities = fixed_problem disparities.width disparities.height 0 (λ _ _. 0) 0 0
+pixels_of disparities =
+    record {
+      width = disparities.width;
+      height = disparities.height;
+      count = 0;
+      cost = λ _ _. 0;
+      p1 = 0;
+      far = λ _ _. 0;
+    }
 
 -- the value at the last of these pixels that has one
 unfoldable pub last_value : Values → List Pixel → Option ℕ

@@ -1,5 +1,7 @@
+pub mod Crossing
 pub mod CutLemmas
 pub mod Entering
+pub mod Guides
 pub mod Rows
 pub mod Sets
 pub mod Sums

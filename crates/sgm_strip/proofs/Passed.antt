@@ -1,18 +1,20 @@
 -- What a front and a parcel keep when the front is passed on through the parcel's strip.
-use Rattle.std.proofs.Common.{◌≡◌, ℕ, ◌+◌, ◌-◌, ◌*◌, ◌%◌, ◌<◌, ◌≤◌, ◌==◌, Bool, true, false, not, List, [], ◌∷◌, ◌++◌, length, get_or, slice_index, replicate, Some, None, refl, sym, ap, ◌∙◌, subst, inl, inr, arith, eq-eqb, ne_eqb}
+use Rattle.std.proofs.Common.{◌≡◌, ℕ, ◌+◌, ◌-◌, ◌*◌, ◌/◌, ◌%◌, ◌<◌, ◌≤◌, ◌==◌, Bool, true, false, not, List, [], ◌∷◌, ◌++◌, length, get_or, slice_index, replicate, Some, None, refl, sym, ap, ◌∙◌, subst, inl, inr, arith, eq-eqb, ne_eqb}
 use Rattle.std.specs.Prelude.{All, slice_get}
 use Rattle.std.proofs.lemmas.Bool.{cases_eq, cases_lt}
 use Rattle.std.proofs.lemmas.List.{length_push, length-set, length-replicate, get_or_append_left, get_or_push}
 use Rattle.std.proofs.lemmas.List.Elements.{All-replicate}
-use Rattle.std.proofs.lemmas.Nat.{mul-le}
+use Rattle.std.proofs.lemmas.Nat.{div-mul-add, mul-le}
 use Rattle.std.proofs.lemmas.Option.{slice_get-get_or, slice_get_within, get_or_from_slice_get}
 use Rattle.std.proofs.Math.Nat.{mul-mod_left}
 use Rattle.sgm_base.specs.declared.limits.TheConstants.{MAX_COST, MAX_PATH_VALUE, MAX_SUM}
+use Rattle.sgm_base.specs.Values.{Values}
 use Rattle.sgm_energy.specs.declared.dir.Dir.{Dir}
 use Rattle.sgm_energy.specs.declared.dir.Dir.TheVariants.{Right, Left}
 use Rattle.sgm_energy.specs.Dirs.{is_level, number_of, position_of, strip_at}
 use Rattle.sgm_energy.specs.Rays.{Pixel, row_before}
 use Rattle.sgm_energy.specs.Energies.{path_value, sum_done}
+use Rattle.sgm_energy.specs.Pens.{Penalties}
 use Rattle.sgm_energy.specs.Rows.{HoldsRow}
 use Rattle.sgm_energy.proofs.DirLemmas.{position_inside, strip_there}
 use Rattle.sgm_strip.specs.Cuts.{CutParts, IsCut, first_row, rows_of, last_row}
@@ -35,6 +37,10 @@ row_some scene k =
 
 pub whole_pixels : (n width count : ℕ) → n ≡ width * count → n % count ≡ 0
 whole_pixels n width count e = ap (λ m. m % count) e ∙ mul-mod_left width count
+
+-- how many pixels they are
+pub pixels : (n width count : ℕ) → n ≡ width * count → 0 < count → width ≡ n / count
+pixels n width count e h = sym (ap (λ m. m / count) (omega (arith, e)) ∙ div-mul-add width count 0 h)
 
 pub whole_rows : (n rows row length : ℕ) → n ≡ rows * length → row ≡ length → n % row ≡ 0
 whole_rows n rows row length e er = ap (λ m. n % m) er ∙ ap (λ m. m % length) e ∙ mul-mod_left rows length
@@ -101,18 +107,34 @@ module _ (scene : SceneParts) (cut : CutParts) (strip : ℕ) (done : List Bool) 
   pub some_rows : 0 < rows
   some_rows = omega (arith, first_more cut strip kp.cut_kept)
 
-  rows_inside : top + rows ≤ scene.left.height
+  pub rows_inside : top + rows ≤ scene.left.height
   rows_inside = omega (arith, first_more cut strip kp.cut_kept, first_within cut (strip + 1) kp.cut_kept (omega (arith, kp.inside)), kp.same_height)
 
-  pub suits : (p1 far count row : ℕ) → p1 ≡ scene.p1 → far ≡ scene.p2 → count ≡ scene.span.count → row ≡ row_length scene → SuitsRows (problem_of scene) top rows p1 far count row costs
-  suits p1 far count row e1 ef ec er = record {
+  -- how many rows its costs are
+  pub parcel_rows : (row n : ℕ) → row ≡ row_length scene → n ≡ length costs → n / row ≡ rows
+  parcel_rows row n er en =
+      let some : 0 < row = omega (arith, er, row_some scene kp.scene_kept) in
+      let whole : n ≡ rows * row + 0 = omega (arith, en, kp.costs_held.whole, ap (λ k. rows * k) er) in
+      ap (λ m. m / row) whole ∙ div-mul-add rows row 0 some
+
+  suits_scene : (count row : ℕ) → count ≡ scene.span.count → row ≡ row_length scene → SuitsRows (problem_of scene) top rows scene.penalties scene.guide count row costs
+  suits_scene count row ec er = record {
     same_count = sym ec;
     same_row = sym er;
-    same_p1 = sym e1;
-    same_far = λ _ _. sym ef;
+    same_p1 = refl;
+    same_far = λ _ _. refl;
+    same_width = sym kp.scene_kept.guide_width;
+    same_height = sym kp.scene_kept.guide_height;
     inside = rows_inside;
     holds = kp.costs_held;
   }
+
+  pub suits : (first : ℕ) (penalties : Penalties) (guide : Values) (count row : ℕ) → first ≡ top → penalties ≡ scene.penalties → guide ≡ scene.guide → count ≡ scene.span.count → row ≡ row_length scene
+      → SuitsRows (problem_of scene) first rows penalties guide count row costs
+  suits first penalties guide count row et ep eg ec er =
+      subst (λ t. SuitsRows (problem_of scene) t rows penalties guide count row costs) (sym et)
+      (subst (λ ps. SuitsRows (problem_of scene) top rows ps guide count row costs) (sym ep)
+      (subst (λ vs. SuitsRows (problem_of scene) top rows scene.penalties vs count row costs) (sym eg) (suits_scene count row ec er)))
 
   pub room : (dir : Dir) → is_done done dir ≡ false → (k : ℕ) → k < length sums → slice_index sums k + MAX_PATH_VALUE ≤ MAX_SUM
   room dir left = room_left scene done dir top rows sums kp.scene_kept left rows_inside kp.sums_held
@@ -135,10 +157,10 @@ module _ (scene : SceneParts) (cut : CutParts) (strip : ℕ) (done : List Bool) 
 
   module _ (dir : Dir) (row : List ℕ) (visits : List Visit) (kf : IsFront (front_parts scene cut dir row visits)) (next : length visits ≡ position_of dir strip cut.strips) where
     -- where a strip was visited, the front has the row before the strip, and otherwise there is none
-    pub comes : (far : ℕ) (begun : Bool) → far ≡ scene.p2 → begun ≡ not (length visits == 0) → ComesBefore (problem_of scene) dir (entry cut dir strip) begun far row
-    comes far begun ef eb = elim (cases_eq (length visits) 0) [
+    comes_in : (begun : Bool) → begun ≡ not (length visits == 0) → ComesBefore (problem_of scene) dir (entry cut dir strip) begun row
+    comes_in begun eb = elim (cases_eq (length visits) 0) [
       | inl none ↦ (let e : begun ≡ false = eb ∙ ap not (eq-eqb (length visits) 0 none) in
-          subst (λ b. ComesBefore (problem_of scene) dir (entry cut dir strip) b far row) (sym e)
+          subst (λ b. ComesBefore (problem_of scene) dir (entry cut dir strip) b row) (sym e)
           (subst (λ h. row_before dir h (entry cut dir strip) ≡ None) kp.same_height
           (entry_first cut dir strip kp.cut_kept kf.across kp.inside (sym next ∙ none))))
       | inr some ↦ (let e : begun ≡ true = eb ∙ ap not (ne_eqb (length visits) 0 some) in
@@ -148,14 +170,16 @@ module _ (scene : SceneParts) (cut : CutParts) (strip : ℕ) (done : List Bool) 
           let it : visit.strip ≡ strip_at dir last cut.strips = kf.in_order last visit there in
           let came : row_before dir cut.height (entry cut dir strip) ≡ Some (last_row cut dir visit.strip) =
           entry_next cut dir strip last kp.cut_kept kf.across kp.inside (omega (arith, next)) ∙ ap (λ s. Some (last_row cut dir s)) (sym it) in
-          subst (λ b. ComesBefore (problem_of scene) dir (entry cut dir strip) b far row) (sym e)
+          subst (λ b. ComesBefore (problem_of scene) dir (entry cut dir strip) b row) (sym e)
           (record {
             row = last_row cut dir visit.strip;
             comes_from = subst (λ h. row_before dir h (entry cut dir strip) ≡ Some (last_row cut dir visit.strip)) kp.same_height came;
-            has_far = record { each = λ _ _ _ _. sym ef };
             holds = kf.last_held visit there;
           }))
     ]
+
+    pub comes : (first : ℕ) (begun : Bool) → first ≡ top → begun ≡ not (length visits == 0) → ComesBefore (problem_of scene) dir (first + visited dir rows 0) begun row
+    comes first begun et eb = subst (λ t. ComesBefore (problem_of scene) dir (t + visited dir rows 0) begun row) (sym et) (comes_in begun eb)
 
     pub room_for_visit : length visits < cut.strips
     room_for_visit = omega (arith, next, position_inside dir strip cut.strips kp.inside)

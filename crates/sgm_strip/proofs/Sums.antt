@@ -18,7 +18,7 @@ pub room_left : (scene : SceneParts) (done : List Bool) (dir : Dir) (top rows : 
     → HoldsRows (problem_of scene) top rows (sum_done (is_done done) (problem_of scene)) sums → (k : ℕ) → k < length sums → slice_index sums k + MAX_PATH_VALUE ≤ MAX_SUM
 room_left scene done dir top rows sums k left inside h j l =
     let g = problem_of scene in
-    let limits : KeepsLimits g = within-keeps g (matching-within scene.left scene.right scene.span scene.p1 scene.p2 k.left_kept k.ordered k.limited) in
+    let limits : KeepsLimits g = within-keeps g (matching-within scene.left scene.right scene.span scene.penalties scene.guide k.left_kept k.ordered k.limited) in
     let low : slice_index sums j ≤ MAX_SUM - MAX_PATH_VALUE =
     rows_low g top rows (MAX_SUM - MAX_PATH_VALUE) (sum_done (is_done done) g) sums (omega (arith, k.left_kept.width_in_range)) (omega (arith, k.count_in_range)) h
     (λ r x d hr hx hd. omega (arith, limits.room (is_done done) dir (pixel_at x (top + r)) d (hx, omega arith) hd left)) j l in

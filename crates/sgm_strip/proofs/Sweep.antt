@@ -1,16 +1,20 @@
 -- From one row of a strip to the next.
-use Rattle.std.proofs.Common.{◌≡◌, ℕ, ◌+◌, ◌-◌, ◌*◌, ◌/◌, ◌<◌, ◌≤◌, ◌⊎◌, ◌||◌, Bool, true, false, cond, ltb, List, length, slice_index, slice_range, Some, refl, sym, ap, ◌∙◌, subst, inl, inr, arith, ◌≢◌}
+use Rattle.std.proofs.Common.{◌≡◌, ℕ, ◌+◌, ◌-◌, ◌*◌, ◌/◌, ◌<◌, ◌≤◌, ◌⊎◌, ◌||◌, Bool, true, false, cond, ltb, List, length, slice_index, slice_range, Option, Some, refl, sym, ap, ◌∙◌, subst, inl, inr, arith, ◌≢◌}
 use Rattle.std.proofs.lemmas.Bool.{cases_eq, cases_lt, lt-ltb, le-ltb, true≢false}
 use Rattle.std.proofs.lemmas.Nat.{div-mul-add, mul-add-lt, mul-le}
+use Rattle.sgm_base.specs.Values.{Values, row_of}
 use Rattle.sgm_energy.specs.declared.dir.Dir.{Dir}
 use Rattle.sgm_energy.specs.declared.dir.Dir.TheVariants.{Right, Left, Down, DownRight, DownLeft, Up, UpRight, UpLeft}
 use Rattle.sgm_energy.specs.Dirs.{goes_down, is_level}
 use Rattle.sgm_energy.specs.Rays.{Pixel, pixel_at, Problem, row_before}
 use Rattle.sgm_energy.specs.Energies.{path_value}
+use Rattle.sgm_energy.specs.Pens.{Penalties}
 use Rattle.sgm_energy.specs.Rows.{HoldsRow}
 use Rattle.sgm_energy.proofs.RayLemmas.{minus_one, minus_up}
+use Rattle.sgm_path.specs.Paths.{far_between, HasFar}
 use Rattle.sgm_strip.specs.Volumes.{HoldsRows}
 use Rattle.sgm_strip.specs.Passing.{ComesBefore, SuitsRow, SuitsRows, visited}
+use Rattle.sgm_strip.proofs.Guides.{rows_far}
 use Rattle.sgm_strip.proofs.Rows.{row_holds}
 
 -- ---- the order of the rows
@@ -46,20 +50,29 @@ comes_next UpRight height top rows i e h k = under height top rows i h k
 comes_next UpLeft height top rows i e h k = under height top rows i h k
 
 -- ---- a row of a strip
-pub rows_are : (g : Problem) (top rows p1 far count row : ℕ) (costs : List ℕ) → SuitsRows g top rows p1 far count row costs → 0 < row → length costs / row ≡ rows
-rows_are g top rows p1 far count row costs s h =
+pub rows_are : (g : Problem) (top rows : ℕ) (penalties : Penalties) (guide : Values) (count row : ℕ) (costs : List ℕ) → SuitsRows g top rows penalties guide count row costs → 0 < row → length costs / row ≡ rows
+rows_are g top rows penalties guide count row costs s h =
     let e : length costs ≡ rows * row + 0 = omega (arith, s.holds.whole, ap (λ n. rows * n) s.same_row) in
     ap (λ n. n / row) e ∙ div-mul-add rows row 0 h
 
-row_suits : (g : Problem) (top rows p1 far count n r : ℕ) (costs : List ℕ) → SuitsRows g top rows p1 far count n costs → r < rows → SuitsRow g (top + r) p1 far count (slice_range costs (r * n) (r * n + n))
-row_suits g top rows p1 far count n r costs s l = record {
+-- one of its rows, with its guide and that of the row from which the direction comes
+pub row_suits : (g : Problem) (dir : Dir) (top rows : ℕ) (penalties : Penalties) (guide : Values) (count n r from : ℕ) (costs : List ℕ) (here before : List (Option ℕ))
+    → SuitsRows g top rows penalties guide count n costs → r < rows → from < guide.height → ((b : ℕ) → row_before dir guide.height (top + r) ≡ Some b → from ≡ b)
+    → here ≡ row_of guide (top + r) → before ≡ row_of guide from
+    → SuitsRow g dir (top + r) penalties.p1 count (far_between penalties here before) (slice_range costs (r * n) (r * n + n))
+row_suits g dir top rows penalties guide count n r from costs here before s l inside comes eh eb = record {
   suits = record {
     same_count = s.same_count;
     same_p1 = s.same_p1;
     inside = omega (arith, s.inside);
     holds = row_holds g top rows g.cost costs n r s.same_row s.holds l;
   };
-  same_far = s.same_far;
+  has_far = λ b e.
+      let is : from ≡ b = comes b (subst (λ h. row_before dir h (top + r) ≡ Some b) s.same_height e) in
+      subst (λ k. HasFar g k (top + r) (far_between penalties here before)) is
+      (subst (λ us. HasFar g from (top + r) (far_between penalties us before)) (sym eh)
+      (subst (λ us. HasFar g from (top + r) (far_between penalties (row_of guide (top + r)) us)) (sym eb)
+      (rows_far g penalties guide from (top + r) s.same_far s.same_width inside (omega (arith, s.inside, s.same_height)))));
 }
 
 -- ---- after i visits: which row stands in last, and what was added
@@ -78,23 +91,22 @@ or_false true b e = refl
 or_false false b e = e
 
 -- before the visit i the row in last comes before it
-before_visit : (g : Problem) (dir : Dir) (top rows p1 far count i n : ℕ) (begun : Bool) (costs start last old new : List ℕ) → SuitsRows g top rows p1 far count n costs → is_level dir ≡ false → i < rows
-    → ComesBefore g dir (top + visited dir rows 0) begun far start → Done g dir top rows i n start last old new → ComesBefore g dir (top + visited dir rows i) (begun || ltb 0 i) far last
-before_visit g dir top rows p1 far count i n begun costs start last old new s level h c w = elim (cases_lt 0 i) [
+before_visit : (g : Problem) (dir : Dir) (top rows i n : ℕ) (begun : Bool) (start last old new : List ℕ) → top + rows ≤ g.height → is_level dir ≡ false → i < rows
+    → ComesBefore g dir (top + visited dir rows 0) begun start → Done g dir top rows i n start last old new → ComesBefore g dir (top + visited dir rows i) (begun || ltb 0 i) last
+before_visit g dir top rows i n begun start last old new inside level h c w = elim (cases_lt 0 i) [
   | inl l ↦ (let e : i - 1 + 1 ≡ i = omega arith in
       let b : (begun || ltb 0 i) ≡ true = or_true begun (ltb 0 i) (lt-ltb 0 i l) in
-      subst (λ t. ComesBefore g dir (top + visited dir rows i) t far last) (sym b)
+      subst (λ t. ComesBefore g dir (top + visited dir rows i) t last) (sym b)
       (record {
         row = top + visited dir rows (i - 1);
-        comes_from = subst (λ j. row_before dir g.height (top + visited dir rows j) ≡ Some (top + visited dir rows (i - 1))) e (comes_next dir g.height top rows (i - 1) level (omega arith) s.inside);
-        has_far = record { each = λ z x hz hx. s.same_far (pixel_at z (top + visited dir rows (i - 1))) (pixel_at x (top + visited dir rows i)) };
+        comes_from = subst (λ j. row_before dir g.height (top + visited dir rows j) ≡ Some (top + visited dir rows (i - 1))) e (comes_next dir g.height top rows (i - 1) level (omega arith) inside);
         holds = w.handed l;
       }))
   | inr z ↦ (let e : i ≡ 0 = omega arith in
       let b : (begun || ltb 0 i) ≡ begun = or_false begun (ltb 0 i) (le-ltb 0 i z) in
-      subst (λ t. ComesBefore g dir (top + visited dir rows i) t far last) (sym b)
-      (subst (λ xs. ComesBefore g dir (top + visited dir rows i) begun far xs) (sym (w.started e))
-      (subst (λ j. ComesBefore g dir (top + visited dir rows j) begun far start) (sym e) c)))
+      subst (λ t. ComesBefore g dir (top + visited dir rows i) t last) (sym b)
+      (subst (λ xs. ComesBefore g dir (top + visited dir rows i) begun xs) (sym (w.started e))
+      (subst (λ j. ComesBefore g dir (top + visited dir rows j) begun start) (sym e) c)))
 ]
 
 -- the entries of another row lie before or after those of a row
@@ -122,25 +134,24 @@ left_more dir rows i n r first old new e h others left z k hz hv hk =
     others (z * n + k) (apart n r z k (not_visited dir rows i r z e h (omega arith)) hk) ∙ left z k hz (omega arith) hk
 
 -- the visit i, and what is done after it
-pub done_more : (g : Problem) (dir : Dir) (top rows p1 far count i n r : ℕ) (begun : Bool) (costs start last last' first old new : List ℕ)
-    → SuitsRows g top rows p1 far count n costs → is_level dir ≡ false → r ≡ visited dir rows i → i < rows
-    → ComesBefore g dir (top + visited dir rows 0) begun far start → Done g dir top rows i n start last first old
-    → ((y : ℕ) → SuitsRow g y p1 far count (slice_range costs (r * n) (r * n + n)) → ComesBefore g dir y (begun || ltb 0 i) far last → HoldsRow g y (path_value g dir) last')
+pub done_more : (g : Problem) (dir : Dir) (top rows i n r : ℕ) (begun : Bool) (start last last' first old new : List ℕ)
+    → g.width * g.count ≡ n → top + rows ≤ g.height → is_level dir ≡ false → r ≡ visited dir rows i → i < rows
+    → ComesBefore g dir (top + visited dir rows 0) begun start → Done g dir top rows i n start last first old
+    → (ComesBefore g dir (top + r) (begun || ltb 0 i) last → HoldsRow g (top + r) (path_value g dir) last')
     → ((k : ℕ) → (k < r * n) ⊎ (r * n + n ≤ k) → slice_index new k ≡ slice_index old k)
     → ((k : ℕ) → k < n → slice_index new (r * n + k) ≡ slice_index old (r * n + k) + slice_index last' k)
     → ((z k : ℕ) → z < rows → i ≤ visited dir rows z → k < n → slice_index old (z * n + k) ≡ slice_index first (z * n + k))
     → Done g dir top rows (i + 1) n start last' first new
-done_more g dir top rows p1 far count i n r begun costs start last last' first old new s level er hi c w paths others here left =
+done_more g dir top rows i n r begun start last last' first old new same_row inside level er hi c w paths others here left =
     let hr : r < rows = omega (arith, er, visited_inside dir rows i hi) in
     let back : visited dir rows r ≡ i = ap (visited dir rows) er ∙ visited_back dir rows i hi in
-    let before = before_visit g dir top rows p1 far count i n begun costs start last first old s level hi c w in
-    let row : HoldsRow g (top + r) (path_value g dir) last' =
-    paths (top + r) (row_suits g top rows p1 far count n r costs s hr) (subst (λ z. ComesBefore g dir (top + z) (begun || ltb 0 i) far last) (sym er) before) in
+    let before = before_visit g dir top rows i n begun start last first old inside level hi c w in
+    let row : HoldsRow g (top + r) (path_value g dir) last' = paths (subst (λ z. ComesBefore g dir (top + z) (begun || ltb 0 i) last) (sym er) before) in
     record {
       started = λ e. absurd (omega arith);
       handed = λ _. subst (λ z. HoldsRow g (top + z) (path_value g dir) last') (er ∙ ap (visited dir rows) (omega arith)) row;
       added = λ z x d hz hx hd hv.
-          let lt : x * g.count + d < n = omega (arith, mul-add-lt x g.count d g.width hx hd, s.same_row) in
+          let lt : x * g.count + d < n = omega (arith, mul-add-lt x g.count d g.width hx hd, same_row) in
           elim (cases_eq z r) [
             | inl e ↦ subst (λ m. slice_index new (m * n + (x * g.count + d)) ≡ slice_index first (m * n + (x * g.count + d)) + path_value g dir (pixel_at x (top + m)) d) (sym e)
                 (omega (arith, here (x * g.count + d) lt, left r (x * g.count + d) hr (omega (arith, back)) lt, row.each x d hx hd))
@@ -149,24 +160,24 @@ done_more g dir top rows p1 far count i n r begun costs start last last' first o
     }
 
 -- once all rows are visited, the sums hold their path values too
-pub all_done : (g : Problem) (dir : Dir) (top rows p1 far count n : ℕ) (f : Pixel → ℕ → ℕ) (costs start last old new : List ℕ) → SuitsRows g top rows p1 far count n costs → length new ≡ length old
+pub all_done : (g : Problem) (dir : Dir) (top rows n : ℕ) (f : Pixel → ℕ → ℕ) (start last old new : List ℕ) → g.width * g.count ≡ n → length new ≡ length old
     → Done g dir top rows rows n start last old new → HoldsRows g top rows f old → HoldsRows g top rows (λ p d. f p d + path_value g dir p d) new
-all_done g dir top rows p1 far count n f costs start last old new s e w h = record {
+all_done g dir top rows n f start last old new same_row e w h = record {
   whole = e ∙ h.whole;
   each = λ r x d hr hx hd.
-      ap (λ k. slice_index new (r * k + (x * g.count + d))) s.same_row
+      ap (λ k. slice_index new (r * k + (x * g.count + d))) same_row
       ∙ w.added r x d hr hx hd (visited_inside dir rows r hr)
-      ∙ ap (λ k. slice_index old (r * k + (x * g.count + d)) + path_value g dir (pixel_at x (top + r)) d) (sym s.same_row)
+      ∙ ap (λ k. slice_index old (r * k + (x * g.count + d)) + path_value g dir (pixel_at x (top + r)) d) (sym same_row)
       ∙ ap (λ k. k + path_value g dir (pixel_at x (top + r)) d) (h.each r x d hr hx hd);
 }
 
 -- after the last visit
-pub finished : (g : Problem) (dir : Dir) (top rows p1 far count row n i : ℕ) (begun : Bool) (costs start last old new : List ℕ) → SuitsRows g top rows p1 far count row costs → n ≡ row → 0 < n → i ≡ length costs / n
-    → ComesBefore g dir (top + visited dir rows 0) begun far start
-    → (SuitsRows g top (length costs / n) p1 far count n costs → ComesBefore g dir (top + visited dir (length costs / n) 0) begun far start → Done g dir top (length costs / n) i n start last old new)
-    → SuitsRows g top rows p1 far count n costs × Done g dir top rows rows n start last old new
-finished g dir top rows p1 far count row n i begun costs start last old new s en some ei c h =
-    let s' : SuitsRows g top rows p1 far count n costs = subst (λ m. SuitsRows g top rows p1 far count m costs) (sym en) s in
-    let e : length costs / n ≡ rows = rows_are g top rows p1 far count n costs s' some in
-    let w = h (subst (λ r. SuitsRows g top r p1 far count n costs) (sym e) s') (subst (λ r. ComesBefore g dir (top + visited dir r 0) begun far start) (sym e) c) in
+pub finished : (g : Problem) (dir : Dir) (top rows : ℕ) (penalties : Penalties) (guide : Values) (count row n i : ℕ) (begun : Bool) (costs start last old new : List ℕ) → SuitsRows g top rows penalties guide count row costs → n ≡ row → 0 < n → i ≡ length costs / n
+    → ComesBefore g dir (top + visited dir rows 0) begun start
+    → (SuitsRows g top (length costs / n) penalties guide count n costs → ComesBefore g dir (top + visited dir (length costs / n) 0) begun start → Done g dir top (length costs / n) i n start last old new)
+    → SuitsRows g top rows penalties guide count n costs × Done g dir top rows rows n start last old new
+finished g dir top rows penalties guide count row n i begun costs start last old new s en some ei c h =
+    let s' : SuitsRows g top rows penalties guide count n costs = subst (λ m. SuitsRows g top rows penalties guide count m costs) (sym en) s in
+    let e : length costs / n ≡ rows = rows_are g top rows penalties guide count n costs s' some in
+    let w = h (subst (λ r. SuitsRows g top r penalties guide count n costs) (sym e) s') (subst (λ r. ComesBefore g dir (top + visited dir r 0) begun start) (sym e) c) in
     (s', subst (λ r. Done g dir top r rows n start last old new) e (subst (λ j. Done g dir top (length costs / n) j n start last old new) (ei ∙ e) w))

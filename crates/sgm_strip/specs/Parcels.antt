@@ -3,10 +3,12 @@ use Rattle.std.specs.Prelude.{◌≡◌, ℕ, ◌<◌, ◌≤◌, Bool, true, fa
 use Rattle.sgm_base.specs.declared.limits.TheConstants.{MAX_COST}
 use Rattle.sgm_base.specs.Disparities.{Disparities}
 use Rattle.sgm_base.specs.Sides.{Sides}
+use Rattle.sgm_base.specs.Values.{Values}
 use Rattle.sgm_energy.specs.declared.dir.Dir.{Dir}
 use Rattle.sgm_energy.specs.declared.dir.Dir.TheVariants.{Right, Left}
 use Rattle.sgm_energy.specs.Dirs.{number_of}
 use Rattle.sgm_energy.specs.Energies.{sum_done}
+use Rattle.sgm_energy.specs.Pens.{Penalties}
 use Rattle.sgm_strip.specs.Cuts.{CutParts, IsCut, first_row, rows_of}
 use Rattle.sgm_strip.specs.Scenes.{SceneParts, IsScene, problem_of}
 use Rattle.sgm_strip.specs.Volumes.{HoldsRows}
@@ -56,13 +58,13 @@ pub record IsParcel (parcel : ParcelParts) : Type 0 where
   pub sums_held : let g = problem_of parcel.scene in
       HoldsRows g (first_row parcel.cut parcel.strip) (rows_of parcel.cut parcel.strip) (sum_done (is_done parcel.done) g) parcel.sums
 
--- a size, a span and penalties are those of the scene
-pub record RunsOn (scene : SceneParts) (size : Sides) (span : Disparities) (p1 p2 : ℕ) : Type 0 where
+-- a size, a span, penalties and a guide are those of the scene
+pub record RunsOn (scene : SceneParts) (size : Sides) (span : Disparities) (penalties : Penalties) (guide : Values) : Type 0 where
   pub same_width : size.width ≡ scene.left.width
   pub same_height : size.height ≡ scene.left.height
   pub same_span : span ≡ scene.span
-  pub same_p1 : p1 ≡ scene.p1
-  pub same_p2 : p2 ≡ scene.p2
+  pub same_penalties : penalties ≡ scene.penalties
+  pub same_guide : guide ≡ scene.guide
 
 -- a parcel of this scene and this cut
 abbrev pub IsOf : SceneParts → CutParts → ParcelParts → Type 0

@@ -2,7 +2,6 @@
 ghost use Rattle.std.specs.Prelude.{◌≡◌, ℕ, ◌+◌, ◌*◌, ◌%◌, ◌<◌, ◌≤◌, length, slice_index, EachIndex, All, IfOk, OnOk};
 ghost use Rattle.sgm_base.specs.declared.limits.TheConstants.{MAX_COST, MAX_COUNT, MAX_PATH_VALUE};
 ghost use Rattle.sgm_energy.specs.declared.dir.Dir.TheVariants.{Right, Left};
-ghost use Rattle.sgm_energy.specs.Pens.{p1_of, p2_of};
 ghost use Rattle.sgm_energy.specs.Rays.{Problem};
 ghost use Rattle.sgm_energy.specs.Energies.{path_value};
 ghost use Rattle.sgm_energy.specs.Rows.{HoldsRow};
@@ -40,7 +39,14 @@ fn append_row(
         OnOk result (AddsRow g y (λ p d. path_value g Right p d + path_value g Left p d) sums.old.items sums.new.items) }
 {
     cost_row(&scene.left, &scene.right, scene.span, y, room);
-    level_sums(scene.pen, room, scene.count(), spare, level);
+    level_sums(
+        scene.pen,
+        room,
+        scene.guide.row(y),
+        scene.count(),
+        spare,
+        level,
+    );
     costs.extend_from_slice(room)?;
     sums.extend_from_slice(level)?;
     Ok(())

@@ -2,14 +2,14 @@ ghost use Rattle.std.specs.Prelude.{◌≡◌, ◌↔◌, ◌+◌, ◌<◌, ◌�
 ghost use Rattle.std.specs.List.{list_all};
 ghost use Rattle.sgm_energy.specs.Dirs.{number_of};
 ghost use Rattle.sgm_energy.specs.Energies.{sum_done};
-ghost use Rattle.sgm_energy.specs.Pens.{p1_of, p2_of};
+ghost use Rattle.sgm_energy.specs.Pens.{penalties_of};
 ghost use Rattle.sgm_energy.specs.Rows.{HoldsRow};
 ghost use Rattle.sgm_strip.specs.Cuts.{first_row, rows_of};
 ghost use Rattle.sgm_strip.specs.Scenes.{problem_of, row_length};
 ghost use Rattle.sgm_strip.specs.Parcels.{ParcelParts, IsParcel, IsComplete, RunsOn, is_done, level_done, parcel_of};
 
 use crate::making::strip_rows;
-use crate::{Cut, Scene};
+use crate::{Cut, Guide, Scene};
 use sgm_base::{Size, Span};
 use sgm_energy::{Dir, Pen};
 use std::alloc::{AllocError, Global};
@@ -25,6 +25,7 @@ pub struct Parcel {
     pub(crate) size: Size,
     pub(crate) span: Span,
     pub(crate) pen: Pen,
+    pub(crate) guide: Guide,
     pub(crate) cut: Cut,
     pub(crate) strip: u32,
     // By the direction's number.
@@ -39,7 +40,7 @@ impl Model for Parcel {
     ghost view = { λ p. parcel_of p.scene.value p.cut p.strip p.done p.costs.items p.sums.items };
 
     ghost invariant = { λ p. IsParcel (parcel_of p.scene.value p.cut p.strip p.done p.costs.items p.sums.items)
-        × RunsOn p.scene.value p.size p.span (p1_of p.pen) (p2_of p.pen) };
+        × RunsOn p.scene.value p.size p.span (penalties_of p.pen) p.guide };
 }
 
 /// The place of a direction in a set.
@@ -65,12 +66,14 @@ impl Parcel {
         ensures made { IfOk result (λ parcel. parcel ≡ parcel_of scene.now cut strip level_done parcel.costs parcel.sums) }
         ensures kept { IfOk result IsParcel }
     {
+        let guide = scene.guide.share()?;
         let (costs, sums) = strip_rows(alloc, scene, cut.first(strip), cut.rows(strip))?;
         Ok(Parcel {
             scene: Snapshot::of(scene),
             size: scene.size(),
             span: scene.span(),
             pen: scene.pen(),
+            guide,
             cut,
             strip,
             done: [true, true, false, false, false, false, false, false],

@@ -31,11 +31,14 @@ pub fn pass(parcel: &mut Parcel, front: &mut Front, spare: &mut Row, worker: u32
     ensures front_kept { IsFront front.new }
 {
     let dir = front.dir;
-    let span = parcel.span();
+    let (cut, span) = (parcel.cut, parcel.span());
+    let top = cut.first(parcel.strip);
     pass_rows(
         dir,
         parcel.pen,
+        &parcel.guide,
         &parcel.costs,
+        top,
         span.count as usize,
         !front.visits.is_empty(),
         &mut front.row,

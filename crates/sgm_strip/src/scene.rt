@@ -1,48 +1,55 @@
-ghost use Rattle.std.specs.Prelude.{◌≡◌, ◌*◌, ◌≤◌};
+ghost use Rattle.std.specs.Prelude.{◌≡◌, ◌*◌, ◌≤◌, ◌<◌};
 ghost use Rattle.sgm_base.specs.declared.limits.TheConstants.{MAX_COUNT, MAX_SIDE};
-ghost use Rattle.sgm_energy.specs.Pens.{p1_of, p2_of};
-ghost use Rattle.sgm_strip.specs.Scenes.{SceneParts, IsScene, row_length, scene_of};
+ghost use Rattle.sgm_energy.specs.Pens.{penalties_of};
+ghost use Rattle.sgm_energy.specs.Rays.{pixel_at};
+ghost use Rattle.sgm_strip.specs.Scenes.{SceneParts, IsScene, problem_of, row_length, scene_of};
 
+use crate::Guide;
 use sgm_base::{Size, Span};
-use sgm_census::CodePlane;
+use sgm_census::{CodePlane, cost_at};
 use sgm_energy::Pen;
 use std::marker::Model;
 
 /// What is matched: the codes of the left and of the right image, of one size and one window, the
-/// disparities that are tried, and the penalties.
+/// disparities that are tried, the penalties, and the guide that they follow where the pen is adaptive.
 #[derive(Drop)]
 pub struct Scene {
     pub(crate) left: CodePlane,
     pub(crate) right: CodePlane,
     pub(crate) span: Span,
     pub(crate) pen: Pen,
+    pub(crate) guide: Guide,
 }
 
 impl Model for Scene {
     ghost Value = { SceneParts };
 
-    ghost view = { λ s. scene_of s.left s.right s.span (p1_of s.pen) (p2_of s.pen) };
+    ghost view = { λ s. scene_of s.left s.right s.span (penalties_of s.pen) s.guide };
 
-    ghost invariant = { λ s. IsScene (scene_of s.left s.right s.span (p1_of s.pen) (p2_of s.pen)) };
+    ghost invariant = { λ s. IsScene (scene_of s.left s.right s.span (penalties_of s.pen) s.guide) };
 }
 
 impl Scene {
     /// The scene of these. Takes no memory.
-    pub fn make(left: CodePlane, right: CodePlane, span: Span, pen: Pen) -> Scene
+    pub fn make(left: CodePlane, right: CodePlane, span: Span, pen: Pen, guide: Guide) -> Scene
         requires same_width { left.width ≡ right.width }
         requires same_height { left.height ≡ right.height }
         requires same_window { left.window ≡ right.window }
-        ensures { result ≡ scene_of left right span (p1_of pen) (p2_of pen) }
+        requires guide_width { guide.width ≡ left.width }
+        requires guide_height { guide.height ≡ left.height }
+        ensures { result ≡ scene_of left right span (penalties_of pen) guide }
     {
-        // Known from here on: what the planes and the span keep.
+        // Known from here on: what the planes, the span and the guide keep.
         let _left = left.size();
         let _right = right.size();
         let _ = &span.count;
+        let _guide = guide.size();
         Scene {
             left,
             right,
             span,
             pen,
+            guide,
         }
     }
 
@@ -81,9 +88,31 @@ impl Scene {
     }
 
     pub fn pen(&self) -> Pen
-        ensures p1 { p1_of result ≡ self.now.p1 }
-        ensures p2 { p2_of result ≡ self.now.p2 }
+        ensures { penalties_of result ≡ self.now.penalties }
     {
         self.pen
+    }
+
+    /// The cost of the index `d` at the pixel (x, y). Takes no memory.
+    pub fn cost(&self, x: u32, y: u32, d: u32) -> u8
+        requires column { x < self.now.left.width }
+        requires row { y < self.now.left.height }
+        requires index { d < self.now.span.count }
+        ensures { result ≡ (problem_of self.now).cost (pixel_at x y) d }
+    {
+        cost_at(&self.left, &self.right, self.span, x, y, d)
+    }
+
+    /// The penalty of a change of the index by more than one, from the pixel (before_x, before_y) to (x, y).
+    /// Takes no memory.
+    pub fn far(&self, x: u32, y: u32, before_x: u32, before_y: u32) -> u16
+        requires column { x < self.now.left.width }
+        requires row { y < self.now.left.height }
+        requires before_column { before_x < self.now.left.width }
+        requires before_row { before_y < self.now.left.height }
+        ensures { result ≡ (problem_of self.now).far (pixel_at before_x before_y) (pixel_at x y) }
+    {
+        let here = self.guide.at(x, y);
+        self.pen.far(here, self.guide.at(before_x, before_y))
     }
 }

@@ -6,4 +6,6 @@ pub returns-clause-within : goal.returns-clause-within
 returns-clause-within c = matching-within
 
 pub returns-clause-kept : goal.returns-clause-kept
-returns-clause-kept c = λ left right span p1 p2 k ordered limited. within-keeps (matching_problem left right span p1 p2) (matching-within left right span p1 p2 k ordered limited)
+returns-clause-kept c =
+    λ left right span penalties guide k ordered limited.
+    within-keeps (matching_problem left right span penalties guide) (matching-within left right span penalties guide k ordered limited)

@@ -1,10 +1,11 @@
 use Rattle.std.proofs.Common.{◌∙◌, inl, ◌≡◌, ℕ, ◌≤◌, ◌+◌, ◌-◌, ◌*◌, ◌/◌, ap, arith, length}
-use Rattle.sgm_energy.specs.Pens.{p1_of, p2_of}
+use Rattle.sgm_energy.specs.Pens.{penalties_of}
+use Rattle.sgm_path.specs.Paths.{far_between}
 use Rattle.sgm_path.proofs.PathRows.{added_down, bound_down, left_more}
 use Rattle.sgm_path.proofs.run.add_run_left.Goals as goal
 
 pub loop-x-preserved : goal.loop-x-preserved
-loop-x-preserved c =
+loop-x-preserved g c =
     let old = c.loop-x.into in
     let new = c.left_at.new.into in
     let x : ℕ = c.loop-x.x - 1 in
@@ -15,7 +16,7 @@ loop-x-preserved c =
     record {
       bound = bound_down old new count x 4062 c.left_at.ensures.others c.left_at.auto.into
           (λ k h l. c.loop-x.invariant.bound k (next k h) l) c.left_at.ensures.bound;
-      each = left_more width count (p1_of c.args.pen) (λ _ _. p2_of c.args.pen) old new c.args.costs.now x c.left_at.ensures.others
+      each = left_more width count (penalties_of c.args.pen).p1 (far_between (penalties_of c.args.pen) c.args.guide.now c.args.guide.now) old new c.args.costs.now x c.left_at.ensures.others
           (λ z d h. c.loop-x.invariant.each z d (omega arith)) c.left_at.ensures.each;
       added = added_down c.args.sums.now c.loop-x.sums c.add_at.new.sums old new count x c.left_at.ensures.others c.left_at.auto.into c.add_at.ensures.others c.add_at.ensures.each
           (λ k h l. c.loop-x.invariant.added k (next k h) l)

@@ -1,19 +1,19 @@
-use Rattle.std.proofs.Common.{refl, sym, subst, arith}
-use Rattle.sgm_energy.specs.declared.dir.Dir.TheVariants.{Right, Left}
-use Rattle.sgm_energy.specs.Pens.{p1_of, p2_of}
-use Rattle.sgm_energy.specs.Energies.{path_value}
-use Rattle.sgm_energy.specs.Rows.{HoldsRow}
-use Rattle.sgm_path.proofs.PathRows.{paths_level}
+use Rattle.std.proofs.Common.{ℕ, arith}
+use Rattle.sgm_energy.specs.Pens.{penalties_of}
+use Rattle.sgm_path.specs.Paths.{far_between}
+use Rattle.sgm_path.proofs.PathRows.{between-ordered, paths_level}
 use Rattle.sgm_path.proofs.run.run_row.Goals as goal
 
-pub returns-in-Right-clause-paths : goal.returns-in-Right-clause-paths
-returns-in-Right-clause-paths c g y s f =
-    subst (λ dir. HoldsRow g y (path_value g dir) c.run_right.new.into) (sym c.in-Right.is)
-    (paths_level g Right y (p1_of c.args.pen) c.args.count (λ _ _. p2_of c.args.pen) c.args.costs.now c.run_right.new.into s f (λ _ _. c.args.pen.ordered) (omega arith)
-    (omega (arith, c.run_right.auto.into)) refl c.run_right.ensures.each)
+pub returns-then-is_adaptive-clause-paths : goal.returns-then-is_adaptive-clause-paths
+returns-then-is_adaptive-clause-paths c g y s f =
+    let pen = penalties_of c.args.pen in
+    let guide = c.args.guide.now in
+    paths_level g c.args.dir y pen.p1 c.args.count (far_between pen guide guide) c.args.costs.now c.run.new.into s f (between-ordered pen guide guide c.args.pen.ordered)
+    (omega arith) (omega (arith, c.run.auto.into)) c.requires.level c.run.ensures.each
 
-pub returns-in-Left-clause-paths : goal.returns-in-Left-clause-paths
-returns-in-Left-clause-paths c g y s f =
-    subst (λ dir. HoldsRow g y (path_value g dir) c.run_left.new.into) (sym c.in-Left.is)
-    (paths_level g Left y (p1_of c.args.pen) c.args.count (λ _ _. p2_of c.args.pen) c.args.costs.now c.run_left.new.into s f (λ _ _. c.args.pen.ordered) (omega arith)
-    (omega (arith, c.run_left.auto.into)) refl c.run_left.ensures.each)
+pub returns-else-is_adaptive-clause-paths : goal.returns-else-is_adaptive-clause-paths
+returns-else-is_adaptive-clause-paths c g y s f =
+    let pen = penalties_of c.args.pen in
+    let guide = c.args.guide.now in
+    paths_level g c.args.dir y pen.p1 c.args.count (far_between pen guide guide) c.args.costs.now c.run-else-is_adaptive.new.into s f (between-ordered pen guide guide c.args.pen.ordered)
+    (omega arith) (omega (arith, c.run-else-is_adaptive.auto.into)) c.requires.level c.run-else-is_adaptive.ensures.each

@@ -1,15 +1,19 @@
-use Rattle.std.proofs.Common.{◌≡◌, ◌∙◌, ◌*◌, ◌++◌, ◌∷◌, [], List, length, true, false, not, ◌==◌, vec_len, slice_set, sym, ap, subst, refl, arith}
+use Rattle.std.proofs.Common.{◌≡◌, ℕ, ◌∙◌, ◌+◌, ◌-◌, ◌*◌, ◌/◌, ◌≤◌, ◌++◌, ◌∷◌, [], List, length, true, false, not, ◌==◌, vec_len, slice_set, sym, ap, subst, refl, arith}
 use Rattle.std.proofs.lemmas.List.{with_items_is}
 use Rattle.sgm_base.specs.Disparities.{Disparities}
+use Rattle.sgm_base.specs.Values.{Values}
 use Rattle.sgm_energy.specs.Dirs.{position_of}
-use Rattle.sgm_energy.specs.Energies.{sum_done}
-use Rattle.sgm_energy.specs.Pens.{p1_of, p2_of}
+use Rattle.sgm_energy.specs.Energies.{path_value, sum_done}
+use Rattle.sgm_energy.specs.Pens.{penalties_of}
+use Rattle.sgm_energy.specs.Rows.{HoldsRow}
 use Rattle.sgm_strip.specs.Cuts.{first_row, rows_of}
 use Rattle.sgm_strip.specs.Scenes.{SceneParts, problem_of, row_length}
 use Rattle.sgm_strip.specs.Parcels.{ParcelParts, IsParcel, is_done, parcel_of, with_done}
 use Rattle.sgm_strip.specs.Fronts.{FrontParts, IsFront, front_parts, visit_of}
+use Rattle.sgm_strip.specs.Passing.{visited}
+use Rattle.sgm_strip.specs.Volumes.{HoldsRows}
 use Rattle.sgm_strip.specs.declared.front.Visit.{Visit}
-use Rattle.sgm_strip.proofs.Passed.{front_here, parcel_here, whole_pixels, whole_rows, some_rows, suits, room, comes, passed_parcel, passed_front}
+use Rattle.sgm_strip.proofs.Passed.{front_here, parcel_here, pixels, whole_pixels, whole_rows, some_rows, rows_inside, parcel_rows, suits, room, comes, passed_parcel, passed_front}
 use Rattle.sgm_strip.proofs.passing.pass.Goals as goal
 
 pub pass_rows-requires-clause-whole : goal.pass_rows-requires-clause-whole
@@ -18,6 +22,31 @@ pass_rows-requires-clause-whole c =
     let same : c.span.inside.count ≡ scene.span.count =
     ap (λ (s : Disparities). s.count) (c.span.view_is ∙ c.span-span.ensures) ∙ ap (λ (s : SceneParts). s.span.count) (sym c.requires.scene ∙ sym (ap (λ (f : FrontParts). f.scene) c.front.view_is)) in
     whole_pixels (length c.front.inside.row.items) scene.left.width c.span.inside.count (c.front.invariant.0.whole ∙ ap (λ k. scene.left.width * k) (sym same))
+
+pub pass_rows-requires-clause-guide_width : goal.pass_rows-requires-clause-guide_width
+pass_rows-requires-clause-guide_width c =
+    let scene = c.parcel.inside.scene.value in
+    let kp = c.parcel.invariant.0 in
+    let same : c.front.inside.scene.value ≡ scene =
+    ap (λ (f : FrontParts). f.scene) c.front.view_is ∙ c.requires.scene ∙ sym (ap (λ (p : ParcelParts). p.scene) c.parcel.view_is) in
+    let count : c.span.inside.count ≡ scene.span.count =
+    ap (λ (s : Disparities). s.count) (c.span.view_is ∙ c.span-span.ensures) ∙ ap (λ (q : ParcelParts). q.scene.span.count) (sym c.parcel.view_is) in
+    ap (λ (v : Values). v.width) c.parcel.invariant.1.same_guide ∙ kp.scene_kept.guide_width
+    ∙ pixels (length c.front.inside.row.items) scene.left.width c.span.inside.count (c.front.invariant.0.whole ∙ ap row_length same ∙ ap (λ k. scene.left.width * k) (sym count))
+    (omega (arith, count, kp.scene_kept.count_in_range))
+
+pub pass_rows-requires-clause-guide_height : goal.pass_rows-requires-clause-guide_height
+pass_rows-requires-clause-guide_height c =
+    let p = c.parcel.inside in
+    let scene = p.scene.value in
+    let kp = c.parcel.invariant.0 in
+    let same : c.front.inside.scene.value ≡ scene =
+    ap (λ (f : FrontParts). f.scene) c.front.view_is ∙ c.requires.scene ∙ sym (ap (λ (p : ParcelParts). p.scene) c.parcel.view_is) in
+    let row : length c.front.inside.row.items ≡ row_length scene = c.front.invariant.0.whole ∙ ap row_length same in
+    let all = rows_inside scene p.cut p.strip p.done p.costs.items p.sums.items kp in
+    let rows : length c.deref.result.now / length c.front.inside.row.items ≡ rows_of p.cut p.strip =
+    parcel_rows scene p.cut p.strip p.done p.costs.items p.sums.items kp (length c.front.inside.row.items) (length c.deref.result.now) row (ap length c.deref.ensures.value) in
+    omega (arith, rows, all, c.first-top.ensures.row, ap (λ (v : Values). v.height) c.parcel.invariant.1.same_guide, kp.scene_kept.guide_height)
 
 pub pass_rows-requires-clause-rows : goal.pass_rows-requires-clause-rows
 pass_rows-requires-clause-rows c =
@@ -59,14 +88,18 @@ invariant_of-parcel c =
     let count : c.span.inside.count ≡ scene.span.count =
     ap (λ (s : Disparities). s.count) (c.span.view_is ∙ c.span-span.ensures) ∙ ap (λ (q : ParcelParts). q.scene.span.count) (sym c.parcel.view_is) in
     let su =
-    suits scene p.cut p.strip p.done c.deref.result.now c.as_mut_slice.result.now kp (p1_of p.pen) (p2_of p.pen) c.span.inside.count (length f.row.items) c.parcel.invariant.1.same_p1 c.parcel.invariant.1.same_p2 count kf.whole in
+    suits scene p.cut p.strip p.done c.deref.result.now c.as_mut_slice.result.now kp c.first-top.result (penalties_of p.pen) p.guide c.span.inside.count (length f.row.items) c.first-top.ensures.row c.parcel.invariant.1.same_penalties c.parcel.invariant.1.same_guide count kf.whole in
     let none : vec_len f.visits ≡ length f.visits.items = omega arith in
     let came =
-    comes scene p.cut p.strip p.done c.deref.result.now c.as_mut_slice.result.now kp f.dir f.row.items f.visits.items kf next (p2_of p.pen) (not c.is_empty.result) c.parcel.invariant.1.same_p2
+    comes scene p.cut p.strip p.done c.deref.result.now c.as_mut_slice.result.now kp f.dir f.row.items f.visits.items kf next c.first-top.result (not c.is_empty.result) c.first-top.ensures.row
     (ap not (c.is_empty.ensures ∙ ap (λ n. n == 0) none)) in
     let some = some_rows scene p.cut p.strip p.done c.deref.result.now c.as_mut_slice.result.now kp in
     let new = c.pass_rows.new.sums in
-    let held = c.pass_rows.ensures.sums (problem_of scene) (first_row p.cut p.strip) (rows_of p.cut p.strip) (sum_done (is_done p.done) (problem_of scene)) su some came kp.sums_held in
+    let top = c.first-top.ensures.row in
+    let before = subst (λ t. HoldsRows (problem_of scene) t (rows_of p.cut p.strip) (sum_done (is_done p.done) (problem_of scene)) c.as_mut_slice.result.now) (sym top) kp.sums_held in
+    let held =
+    subst (λ t. HoldsRows (problem_of scene) t (rows_of p.cut p.strip) (λ q d. sum_done (is_done p.done) (problem_of scene) q d + path_value (problem_of scene) f.dir q d) new) top
+    (c.pass_rows.ensures.sums (problem_of scene) (rows_of p.cut p.strip) (sum_done (is_done p.done) (problem_of scene)) su some came before) in
     let made : IsParcel (parcel_of scene p.cut p.strip (with_done p.done f.dir) c.deref.result.now new) =
     passed_parcel scene p.cut p.strip p.done c.deref.result.now c.as_mut_slice.result.now kp f.dir new left held in (
       parcel_here scene p.cut p.strip _ (with_done p.done f.dir) p.costs.items c.deref.result.now _ new (ap (λ n. slice_set p.done n true) (sym c.place.ensures.value)) c.deref.ensures.value
@@ -92,15 +125,17 @@ invariant_of-front c =
     let count : c.span.inside.count ≡ scene.span.count =
     ap (λ (s : Disparities). s.count) (c.span.view_is ∙ c.span-span.ensures) ∙ ap (λ (q : ParcelParts). q.scene.span.count) (sym c.parcel.view_is) in
     let su =
-    suits scene p.cut p.strip p.done c.deref.result.now c.as_mut_slice.result.now kp (p1_of p.pen) (p2_of p.pen) c.span.inside.count (length f.row.items) c.parcel.invariant.1.same_p1 c.parcel.invariant.1.same_p2 count kf.whole in
+    suits scene p.cut p.strip p.done c.deref.result.now c.as_mut_slice.result.now kp c.first-top.result (penalties_of p.pen) p.guide c.span.inside.count (length f.row.items) c.first-top.ensures.row c.parcel.invariant.1.same_penalties c.parcel.invariant.1.same_guide count kf.whole in
     let none : vec_len f.visits ≡ length f.visits.items = omega arith in
     let came =
-    comes scene p.cut p.strip p.done c.deref.result.now c.as_mut_slice.result.now kp f.dir f.row.items f.visits.items kf next (p2_of p.pen) (not c.is_empty.result) c.parcel.invariant.1.same_p2
+    comes scene p.cut p.strip p.done c.deref.result.now c.as_mut_slice.result.now kp f.dir f.row.items f.visits.items kf next c.first-top.result (not c.is_empty.result) c.first-top.ensures.row
     (ap not (c.is_empty.ensures ∙ ap (λ n. n == 0) none)) in
     let some = some_rows scene p.cut p.strip p.done c.deref.result.now c.as_mut_slice.result.now kp in
     let new = c.pass_rows.new.last.items in
     let visits : List Visit = f.visits.items ++ visit_of p.strip c.args.worker ∷ [] in
-    let held = c.pass_rows.ensures.last (problem_of scene) (first_row p.cut p.strip) (rows_of p.cut p.strip) su some came in
+    let held =
+    subst (λ t. HoldsRow (problem_of scene) (t + visited f.dir (rows_of p.cut p.strip) (rows_of p.cut p.strip - 1)) (path_value (problem_of scene) f.dir) new) c.first-top.ensures.row
+    (c.pass_rows.ensures.last (problem_of scene) (rows_of p.cut p.strip) su some came) in
     let made : IsFront (front_parts scene p.cut f.dir new visits) =
     passed_front scene p.cut p.strip p.done c.deref.result.now c.as_mut_slice.result.now kp f.dir f.row.items f.visits.items kf next c.args.worker new c.pass_rows.ensures.last_length c.pass_rows.ensures.bound held in (
       subst (λ v. IsFront (front_parts f.scene.value f.cut f.dir new v)) (sym c.push_reserved.ensures.items)

@@ -1,7 +1,7 @@
 use Rattle.std.proofs.Common.{◌≡◌, ℕ, ◌+◌, ◌*◌, ◌<◌, ◌≤◌, length, slice_index}
 use Rattle.std.specs.Prelude.{All}
 use Rattle.sgm_base.specs.declared.limits.TheConstants.{MAX_PATH_VALUE}
-use Rattle.sgm_energy.specs.Pens.{p1_of, p2_of}
+use Rattle.sgm_energy.specs.Pens.{penalties_of}
 use Rattle.sgm_energy.specs.Rays.{Problem}
 use Rattle.sgm_strip.specs.Passing.{ComesBefore, SuitsRows, visited}
 use Rattle.sgm_strip.proofs.Sweep.{Done}
@@ -15,7 +15,7 @@ invariant-loop-i l =
       spare_length : length l.spare.items ≡ l.row;
       bound : All (λ v. v ≤ MAX_PATH_VALUE) l.last.items;
       left : (r k : ℕ) → r < l.rows → l.i ≤ visited l.dir l.rows r → k < l.row → slice_index l.sums (r * l.row + k) ≡ slice_index l.fn.sums (r * l.row + k);
-      done : (g : Problem) (top : ℕ) → SuitsRows g top l.rows (p1_of l.pen) (p2_of l.pen) l.count l.row l.costs
-          → ComesBefore g l.dir (top + visited l.dir l.rows 0) l.begun (p2_of l.pen) l.fn.last.items
-          → Done g l.dir top l.rows l.i l.row l.fn.last.items l.last.items l.fn.sums l.sums;
+      done : (g : Problem) → SuitsRows g l.top l.rows (penalties_of l.pen) l.guide l.count l.row l.costs
+          → ComesBefore g l.dir (l.top + visited l.dir l.rows 0) l.begun l.fn.last.items
+          → Done g l.dir l.top l.rows l.i l.row l.fn.last.items l.last.items l.fn.sums l.sums;
     }
