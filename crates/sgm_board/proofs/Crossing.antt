@@ -4,17 +4,11 @@ use Rattle.atomic_table.proofs.shared.Seat.TheSendSync as seat
 use Rattle.atomic_table.proofs.shared.Shared.TheSendSync as shared
 use Rattle.atomic_table.proofs.send_lease.SendLease.TheSendSync as lease
 use denote.Param.Send.{IsSend, IsSync, sendable}
-use Rattle.sgm_strip.specs.contracts.parcel.Parcel as parcel
 use Rattle.sgm_strip.specs.contracts.front.Front as front
+use Rattle.sgm_strip.proofs.Crossing.{parcel_send, parcel_sync}
 use Rattle.sgm_board.specs.contracts.slot.Slot as slot
 use Rattle.sgm_board.specs.contracts.pass.Pass as pass
 use Rattle.sgm_board.specs.contracts.board.Board as board
-
-pub parcel_send : IsSend parcel.the_row
-parcel_send = search (sendable, crosses) depth 20
-
-pub parcel_sync : IsSync parcel.the_row
-parcel_sync = search (sendable, crosses) depth 20
 
 pub front_send : IsSend front.the_row
 front_send = search (sendable, crosses) depth 20

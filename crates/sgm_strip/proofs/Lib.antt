@@ -1,3 +1,4 @@
+pub mod Crossing
 pub mod CutLemmas
 pub mod Entering
 pub mod Guides

@@ -12,9 +12,9 @@ use Rattle.atomic_table.specs.contracts.send_lease.SendLease as lease
 use Rattle.atomic_table.proofs.Sent.{seat_keyless, shares_keyless}
 use Rattle.atomic_table.proofs.Rights.{right_send}
 use Rattle.crossbeam_utils.specs.contracts.cache_padded.CachePadded as padded
-use Rattle.sgm_strip.specs.contracts.parcel.Parcel as parcel
 use Rattle.sgm_strip.specs.contracts.front.Front as front
 use Rattle.sgm_strip.specs.contracts.row.Row as row
+use Rattle.sgm_strip.proofs.Crossing.{parcel_send, parcel_sync}
 use Rattle.sgm_board.specs.contracts.slot.Slot as slot
 use Rattle.sgm_board.specs.contracts.board.Board as board
 use Rattle.sgm_work.specs.contracts.matching.Worker as worker
@@ -28,12 +28,6 @@ shared_sync S V K P g s = let fields : IsSync (Struct (shape (shared.the_type S 
 
 lease_sync : (T A : RattleType) (g : alloc.Ghosts A.Denot) → IsSend A → Frees g g.dealloc_token → IsSync (lease.the_row T A g)
 lease_sync T A g s f = record { shared = λ d b o ν q. part_keyless (lease.the_row T A g) (right_send T A g f) q d b o }
-
-parcel_send : IsSend parcel.the_row
-parcel_send = search (sendable, crosses) depth 40
-
-parcel_sync : IsSync parcel.the_row
-parcel_sync = search (sendable, crosses) depth 40
 
 front_send : IsSend front.the_row
 front_send = search (sendable, crosses) depth 40
