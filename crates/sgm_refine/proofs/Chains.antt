@@ -1,5 +1,5 @@
 -- Chains of linked pixels: what a number of links reaches, and that as many links as there are pixels reach all.
-use Rattle.std.proofs.Common.{◌≡◌, ℕ, ◌+◌, ◌<◌, ◌≤◌, zero, suc, Bool, true, false, cond, eqb, leb, ◌||◌, ◌&&◌, List, [], ◌∷◌, length, Option, Some, None, refl, sym, ap, ◌∙◌, subst, inl, inr, ◌⊎◌, ◌↔◌, arith, zero-add, get_or}
+use Rattle.std.proofs.Common.{◌≡◌, ℕ, ◌+◌, ◌/◌, ◌<◌, ◌≤◌, zero, suc, Bool, true, false, cond, eqb, leb, ◌||◌, ◌&&◌, List, [], ◌∷◌, length, Option, Some, None, refl, sym, ap, ◌∙◌, subst, inl, inr, ◌⊎◌, ◌↔◌, arith, zero-add, get_or}
 use Rattle.std.specs.List.{Contains, filter, count_by, list_any, range_with_len}
 use Rattle.std.proofs.lemmas.Bool.{cases_eq, cases_lt, cases_Bool, eq-eqb, eqb-true, or_cases, or_left, or_right, and_parts, and_from}
 use Rattle.std.proofs.lemmas.List.{get_or_past}
@@ -21,10 +21,24 @@ close_sym None (Some b) h = absurd (cc)
 close_sym (Some a) None h = absurd (cc)
 close_sym None None h = absurd (cc)
 
+after_cases : (w j k : ℕ) → comes_after w j k ≡ true → ((k ≡ j + 1) × (j / w ≡ k / w)) ⊎ (k ≡ j + w)
+after_cases w j k h = elim (or_cases (eqb k (j + 1) && eqb (j / w) (k / w)) (eqb k (j + w)) h) [
+  | inl a ↦ (let parts = and_parts (eqb k (j + 1)) (eqb (j / w) (k / w)) a in inl (eqb-true k (j + 1) parts.0, eqb-true (j / w) (k / w) parts.1))
+  | inr a ↦ inr (eqb-true k (j + w) a)
+]
+
 pub neighbours_sym : (w j k : ℕ) → are_neighbours w j k ≡ true → are_neighbours w k j ≡ true
 neighbours_sym w j k h = elim (or_cases (comes_after w j k) (comes_after w k j) h) [
   | inl a ↦ or_right (comes_after w k j) (comes_after w j k) a
   | inr a ↦ or_left (comes_after w k j) (comes_after w j k) a
+]
+
+-- where a neighbour of j stands
+pub neighbour_cases : (w j k : ℕ) → are_neighbours w j k ≡ true
+    → (((k ≡ j + 1) × (j / w ≡ k / w)) ⊎ (k ≡ j + w)) ⊎ (((j ≡ k + 1) × (k / w ≡ j / w)) ⊎ (j ≡ k + w))
+neighbour_cases w j k h = elim (or_cases (comes_after w j k) (comes_after w k j) h) [
+  | inl a ↦ inl (after_cases w j k a)
+  | inr a ↦ inr (after_cases w k j a)
 ]
 
 pub linked_parts : (w : ℕ) (es : List (Option ℕ)) (j k : ℕ) → is_linked w es j k ≡ true → (are_neighbours w j k ≡ true) × (are_close (value_of es j) (value_of es k) ≡ true)

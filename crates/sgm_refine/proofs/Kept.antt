@@ -44,3 +44,14 @@ all_kept m least v h =
     kept_entries m.width m.entries least m.entries refl (λ k l.
     let own = own_segment m.width m.entries k l in sym (kept_large m.width m.entries least k (omega (arith, own.1)))) in
     ap (λ es. values_of m.width m.height es) (sym same)
+
+pub kept_is : (m made : Values) (least w h v : ℕ) (given es : List (Option ℕ)) → w ≡ m.width → h ≡ m.height → v ≡ w → given ≡ m.entries
+    → es ≡ map (kept_at v given least) (places given) → made ≡ values_of w h es → made ≡ kept m least
+unfolding kept
+kept_is m made least w h v given es ew eh ev eg e is = cc
+
+pub kept_full : (m : Values) (least w h v : ℕ) (given es : List (Option ℕ)) → IsValues m → w ≡ m.width → h ≡ m.height → given ≡ m.entries
+    → es ≡ map (kept_at v given least) (places given) → length es ≡ w * h
+kept_full m least w h v given es kept ew eh eg e =
+    let full : length es ≡ m.width * m.height = ap length e ∙ length-map-range_with_len (kept_at v given least) 0 (length given) ∙ ap length eg ∙ kept.full in
+    cc

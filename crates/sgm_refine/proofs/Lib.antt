@@ -1,3 +1,9 @@
+pub mod Bounds
 pub mod Chains
-pub mod Kept
+pub mod Filled
 pub mod Floods
+pub mod Kept
+pub mod MetLemmas
+pub mod MetRows
+pub mod Mismatched
+pub mod Sorted

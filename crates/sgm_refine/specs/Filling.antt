@@ -1,5 +1,5 @@
 -- How the pixels without a disparity are filled from those around them.
-use Rattle.std.specs.Prelude.{ℕ, ◌+◌, ◌-◌, ◌*◌, ◌/◌, min, Bool, false, nat_eq, nat_le, if◌then◌else◌, List, [], ◌∷◌, map, length, slice_get, Option, Some, None, option_and_then, ℤ}
+use Rattle.std.specs.Prelude.{◌≡◌, ℕ, ◌-◌, ◌*◌, ◌/◌, ◌<◌, min, All, IfSome, Bool, false, nat_eq, nat_le, if◌then◌else◌, List, [], ◌∷◌, map, length, slice_get, Option, Some, None, option_and_then, ℤ}
 use Rattle.std.specs.List.{flat_map, list_any}
 use Rattle.std.specs.Option.{option_eq, option_map_or, option_or, option_to_list}
 use Rattle.sgm_base.specs.Columns.{right_column}
@@ -7,11 +7,19 @@ use Rattle.sgm_base.specs.Values.{Values, value_at, values_of, row_by_row}
 use Rattle.sgm_energy.specs.declared.dir.Dir.{Dir}
 use Rattle.sgm_energy.specs.Dirs.{directions}
 use Rattle.sgm_energy.specs.Energies.{below}
-use Rattle.sgm_energy.specs.Rays.{Pixel, pixel_at, Problem, fixed_problem, before}
+use Rattle.sgm_energy.specs.Rays.{Pixel, pixel_at, Problem, before}
 
 -- the pixels of a map, for the rays through them, on which costs have no bearing
 abbrev pub pixels_of : Values → Problem
-pixels_of disparities = fixed_problem disparities.width disparities.height 0 (λ _ _. 0) 0 0
+pixels_of disparities =
+    record {
+      width = disparities.width;
+      height = disparities.height;
+      count = 0;
+      cost = λ _ _. 0;
+      p1 = 0;
+      far = λ _ _. 0;
+    }
 
 -- the value at the last of these pixels that has one
 unfoldable pub last_value : Values → List Pixel → Option ℕ
@@ -51,18 +59,22 @@ is_mismatched matches first count p = list_any (is_matched matches first p) (bel
 abbrev pub entry_taken : Bool → ℕ → ℕ
 entry_taken mismatched n = if mismatched then (n - 1) / 2 else min 1 (n - 1)
 
--- the value with which p is filled, where any is met
-unfoldable pub filling : Values → Values → ℤ → ℕ → Pixel → Option ℕ
-filling disparities matches first count p =
-    let values = met disparities p in slice_get values (entry_taken (is_mismatched matches first count p) (length values))
+-- the one that is taken of the values met from p, where any is met
+abbrev pub filling : Values → Bool → Pixel → Option ℕ
+filling disparities mismatched p = slice_get (met disparities p) (entry_taken mismatched (length (met disparities p)))
 
 -- the value of p; where it has none, that with which it is filled, but none where p is void on the left
-unfoldable pub filled_value : Values → Values → Values → ℤ → ℕ → Pixel → Option ℕ
-filled_value disparities matches left first count p =
-    option_or (value_at disparities p.x p.y) (option_and_then (λ _. filling disparities matches first count p) (value_at left p.x p.y))
+unfoldable pub filled_value : Values → Values → Bool → Pixel → Option ℕ
+filled_value disparities left mismatched p =
+    option_or (value_at disparities p.x p.y) (option_and_then (λ _. filling disparities mismatched p) (value_at left p.x p.y))
 
 -- the map of these values: the disparities filled, with the matches of the right image and the left plane
 abbrev pub filled : Values → Values → Values → ℤ → ℕ → Values
 filled disparities matches left first count =
     values_of disparities.width disparities.height
-    (row_by_row disparities.width disparities.height (λ x y. filled_value disparities matches left first count (pixel_at x y)))
+    (row_by_row disparities.width disparities.height
+    (λ x y. filled_value disparities left (is_mismatched matches first count (pixel_at x y)) (pixel_at x y)))
+
+-- each value is 16 times an index below count
+abbrev pub AreIndices : ℕ → List (Option ℕ) → Type 0
+AreIndices count entries = All (λ entry. IfSome entry (λ value. (d : ℕ) × (d < count) × (value ≡ 16 * d))) entries

@@ -35,6 +35,7 @@ pub record Enters (width : ℕ) (entries : List (Option ℕ)) (at : ℕ) (old ma
 -- what a flood from p, which wasn't marked, makes of the marks: the pixels found are its segment, and they are marked besides
 pub record IsFlooded (width : ℕ) (entries : List (Option ℕ)) (p : ℕ) (before marks : List Bool) (found : List ℕ) : Type 0 where
   pub flooding : IsFlooding width entries p before marks found
+  pub first : Contains found p
   pub closed : IsClosed width entries marks
   pub size : length found ≡ length (segment width entries p)
 

@@ -1,5 +1,6 @@
 pub mod Filling
 pub mod Flooding
+pub mod Met
 pub mod Refined
 pub mod Refining
 pub mod Segments

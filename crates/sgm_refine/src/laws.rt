@@ -3,9 +3,9 @@
 
 ghost use Rattle.std.specs.Prelude.{◌≡◌, ◌↔◌, ◌<◌, ◌≤◌, ℕ, List, Option, length, ℤ};
 ghost use Rattle.std.specs.List.{Contains};
-ghost use Rattle.sgm_base.specs.Values.{Values, IsValues};
+ghost use Rattle.sgm_base.specs.Values.{Values, IsValues, AtMost};
 ghost use Rattle.sgm_refine.specs.Refined.{refined};
-ghost use Rattle.sgm_refine.specs.Refining.{plain};
+ghost use Rattle.sgm_refine.specs.Refining.{Refining, plain};
 ghost use Rattle.sgm_refine.specs.Segments.{IsChain, segment, kept};
 
 /// A pixel is in the segment of another exactly where a chain of linked pixels, of any length, goes from
@@ -20,4 +20,11 @@ pub fn chains()
 pub fn unrefined()
     ensures least { (map : Values) (least : ℕ) → IsValues map → least ≤ 1 → kept map least ≡ map }
     ensures plain { (map matches left : Values) (first : ℤ) (count : ℕ) → IsValues map → refined map matches left first count plain ≡ map }
+{}
+
+/// No value of a refined map is above those of the map.
+pub fn bounds()
+    ensures kept { (map : Values) (least most : ℕ) → AtMost most map.entries → AtMost most (kept map least).entries }
+    ensures refined { (map matches left : Values) (first : ℤ) (count most : ℕ) (refine : Refining)
+        → AtMost most map.entries → AtMost most (refined map matches left first count refine).entries }
 {}

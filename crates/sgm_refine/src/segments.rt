@@ -18,14 +18,15 @@ pub fn peaks(alloc: Global, map: &mut DispMap, least: u32) -> Result<(), AllocEr
     ensures kept { IfOk result (λ _. map.new ≡ kept map.old least) }
     ensures err { OnErr result (map.new ≡ map.old) }
 {
+    let size = map.size();
     if least <= 1 {
         return Ok(());
     }
-    let size = map.size();
     let entries = kept_entries(alloc, map.entries(), size.width as usize, least as usize)?;
-    if let Some(kept) = DispMap::make(size, entries) {
-        *map = kept;
-    }
+    let Some(kept) = DispMap::make(size, entries) else {
+        unreachable!()
+    };
+    *map = kept;
     Ok(())
 }
 
@@ -45,7 +46,15 @@ fn kept_entries(
     let mut seen = vec![in alloc; false; entries.len()]?;
     let mut segment = Vec::new(alloc);
     for at in 0..entries.len() {
-        keep(entries, width, least, at, &mut seen, &mut segment, &mut kept)?;
+        keep(
+            entries,
+            width,
+            least,
+            at,
+            &mut seen,
+            &mut segment,
+            &mut kept,
+        )?;
     }
     Ok(kept)
 }
@@ -139,7 +148,8 @@ fn visit(
     enter(entries, at, left(width, at), seen, segment)?;
     enter(entries, at, right(width, entries.len(), at), seen, segment)?;
     enter(entries, at, above(width, at), seen, segment)?;
-    enter(entries, at, below(width, entries.len(), at), seen, segment)
+    enter(entries, at, below(width, entries.len(), at), seen, segment)?;
+    Ok(())
 }
 
 /// Enters the neighbour `to` of the pixel `at`, where there is one, it isn't marked and it is linked to `at`.

@@ -1,0 +1,47 @@
+use Rattle.std.proofs.Common.{◌≡◌, ◌∙◌, ap, sym, arith, length, get_or, None, true, false}
+use Rattle.std.specs.Prelude.{is_some, slice_get}
+use Rattle.std.specs.List.{flat_map}
+use Rattle.std.specs.Option.{option_to_list}
+use Rattle.sgm_base.specs.Sides.{Sides}
+use Rattle.sgm_base.specs.Values.{value_at}
+use Rattle.sgm_energy.specs.Rays.{pixel_at}
+use Rattle.sgm_refine.specs.Filling.{ascending, entry_taken, met}
+use Rattle.sgm_refine.proofs.Filled.{filled_own, filled_void, filled_met}
+use Rattle.sgm_refine.proofs.MetLemmas.{row_value}
+use Rattle.sgm_refine.proofs.filling.value_at.Goals as goal
+
+pub returns-then-is_some : goal.returns-then-is_some
+returns-then-is_some c =
+    let m = c.args.map.now in
+    let own = get_or c.row.result.now c.args.x None in
+    let is : own ≡ value_at m c.args.x c.args.y = ap (λ vs. get_or vs c.args.x None) c.row.ensures.value ∙ row_value m c.args.x c.args.y c.requires.column c.requires.row in
+    let some : is_some own ≡ true = (cc) in
+    filled_own m c.args.left.now c.args.mismatched (pixel_at c.args.x c.args.y) own is some
+
+pub returns-in-None : goal.returns-in-None
+returns-in-None c =
+    let m = c.args.map.now in
+    let left = c.args.left.now in
+    let own = get_or c.row.result.now c.args.x None in
+    let is : own ≡ value_at m c.args.x c.args.y = ap (λ vs. get_or vs c.args.x None) c.row.ensures.value ∙ row_value m c.args.x c.args.y c.requires.column c.requires.row in
+    let some : is_some own ≡ false = (cc) in
+    let void : value_at left c.args.x c.args.y ≡ None =
+    sym (ap (λ vs. get_or vs c.args.x None) c.row-2.ensures.value ∙ row_value left c.args.x c.args.y (omega (arith, c.requires.left_width)) (omega (arith, c.requires.left_height))) ∙ c.in-None.is in
+    filled_void m left c.args.mismatched (pixel_at c.args.x c.args.y) own is some void
+
+pub returns-in-Some : goal.returns-in-Some
+unfolding met
+returns-in-Some c =
+    let m = c.args.map.now in
+    let left = c.args.left.now in
+    let p = pixel_at c.args.x c.args.y in
+    let own = get_or c.row.result.now c.args.x None in
+    let is : own ≡ value_at m c.args.x c.args.y = ap (λ vs. get_or vs c.args.x None) c.row.ensures.value ∙ row_value m c.args.x c.args.y c.requires.column c.requires.row in
+    let some : is_some own ≡ false = (cc) in
+    let there = sym (ap (λ vs. get_or vs c.args.x None) c.row-2.ensures.value ∙ row_value left c.args.x c.args.y (omega (arith, c.requires.left_width)) (omega (arith, c.requires.left_height))) ∙ c.in-Some.is in
+    let wide : m.width ≡ c.met_at.inside.width = sym (ap (λ (s : Sides). s.width) c.met_at.view_is ∙ c.size.ensures.width) in
+    let list : c.as_slice.result.now ≡ met m p =
+    c.as_slice.ensures.value ∙ c.sorted.ensures
+    ∙ ap (λ zs. ascending (flat_map option_to_list zs)) (c.met_at-met.ensures m c.args.y wide c.requires.level c.requires.down c.requires.up) in
+    c.taken.ensures ∙ ap (λ zs. slice_get zs (entry_taken c.args.mismatched (length zs))) list
+    ∙ filled_met m left c.args.mismatched p own _ is some there
