@@ -75,6 +75,20 @@ least_of_least f (suc n) h =
     subst (IsLeastAt f (suc n)) (sym (least_of_is f (suc n) there.0 there.1.inside there.1.low there.1.first)) there.1
 least_of_least f zero h = absurd (omega arith)
 
+-- ---- the choice is below n
+find_low : (p : ℕ → Bool) (xs : List ℕ) (n b : ℕ) → ((x : ℕ) → Contains xs x → x < n) → find p xs ≡ Some b → b < n
+find_low p [] n b h e = absurd (cc)
+find_low p (x ∷ xs) n b h e = elim (cases_Bool (p x)) [
+  | inl t ↦ (let here : Some x ≡ Some b = sym (ap (λ z. cond z (Some x) (find p xs)) t) ∙ e in let same : x ≡ b = cc in omega (arith, h x (in_head x xs)))
+  | inr t ↦ find_low p xs n b (λ y c. h y (in_tail x xs y c)) (sym (ap (λ z. cond z (Some x) (find p xs)) t) ∙ e)
+]
+
+pub least_index_low : (counts : ℕ → Bool) (f : ℕ → ℕ) (n b : ℕ) → least_index counts f n ≡ Some b → b < n
+unfolding least_index
+least_index_low counts f n b e =
+    find_low (λ d. eqb (f d) (least (map f (filter counts (below n))))) (filter counts (below n)) n b
+    (λ d c. from_below n d (from_filter counts (below n) d c).0) e
+
 -- ---- two functions with the same values below n
 
 map-agree : (f g : ℕ → ℕ) (xs : List ℕ) → ((x : ℕ) → Contains xs x → f x ≡ g x) → map f xs ≡ map g xs

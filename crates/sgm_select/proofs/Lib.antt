@@ -7,3 +7,4 @@ pub mod Offsets
 pub mod Rows
 pub mod Selected
 pub mod Strips
+pub mod MatchLemmas

@@ -6,7 +6,7 @@ use Rattle.std.proofs.lemmas.List.{ext_get_or, get_or-take, get_or-drop, length-
 use Rattle.std.proofs.Math.Seq.{take-add}
 use Rattle.std.proofs.lemmas.Nat.{mod_below, div_below, mul-le}
 use Rattle.std.proofs.lemmas.Option.{slice_get-get_or, slice_get_within, get_or_from_slice_get}
-use Rattle.sgm_base.specs.Values.{AtMost, Values, row_by_row}
+use Rattle.sgm_base.specs.Values.{AtMost, Values, row_by_row, values_of}
 use Rattle.sgm_census.proofs.CodeLists.{get_or-row_by_row, length-row_by_row}
 use Rattle.sgm_energy.proofs.SumLemmas.{done_all}
 use Rattle.sgm_energy.specs.Energies.{path_sum, sum_done}
@@ -39,14 +39,12 @@ times_more a n w = omega arith
 within : (a n h w : ℕ) → a + n ≤ h → a * w + n * w ≤ w * h
 within a n h w l = let e : (a + n) * w ≤ h * w = mul-le (a + n) w h w l (omega arith) in omega (arith, e)
 
--- entries that hold the disparities of so many rows are those rows of the map
-pub rows_exact : (g : Problem) (left right : Values) (first : ℤ) (top n : ℕ) (entries : List (Option ℕ)) → 0 < g.width → top + n ≤ g.height → length entries ≡ n * g.width → HoldsFrom g left right first top n entries
-    → entries ≡ rows_between (disparities_of g left right first) top (top + n)
-rows_exact g left right first top n entries some low full h =
-    let w = g.width in
-    let f : ℕ → ℕ → Option ℕ = λ x y. disparity g left right first (pixel_at x y) in
-    let all = row_by_row w g.height f in
-    let room : top * w + n * w ≤ length all = omega (arith, length-row_by_row w g.height f, within top n g.height w low) in
+-- entries that hold what f gives for the pixels of so many rows are those rows of the map
+pub rows_held : (w height : ℕ) (f : ℕ → ℕ → Option ℕ) (top n : ℕ) (entries : List (Option ℕ)) → 0 < w → top + n ≤ height → length entries ≡ n * w
+    → ((x r : ℕ) → x < w → r < n → get_or entries (r * w + x) None ≡ f x (top + r)) → entries ≡ rows_between (values_of w height (row_by_row w height f)) top (top + n)
+rows_held w height f top n entries some low full h =
+    let all = row_by_row w height f in
+    let room : top * w + n * w ≤ length all = omega (arith, length-row_by_row w height f, within top n height w low) in
     let long : length (take (n * w) (drop (top * w) all)) ≡ n * w = length-take (n * w) (drop (top * w) all) ∙ omega (arith, length-drop (top * w) all, room) in
     let same : entries ≡ take (n * w) (drop (top * w) all) =
     ext_get_or None entries (take (n * w) (drop (top * w) all)) (full ∙ sym long)
@@ -60,9 +58,15 @@ rows_exact g left right first top n entries some low full h =
     let far : top * w + i ≡ (top + r) * w + x = omega (arith, at, times_more top r w) in
     ap (λ j. get_or entries j None) at ∙ h x r hx hr
     ∙ sym (get_or-take (n * w) (drop (top * w) all) i None inside ∙ get_or-drop (top * w) all i None ∙ ap (λ j. get_or all j None) far
-    ∙ get_or-row_by_row w g.height f x (top + r) None hx (omega arith))) in
+    ∙ get_or-row_by_row w height f x (top + r) None hx (omega arith))) in
     let more : top + n - top ≡ n = omega arith in
     same ∙ ap (λ k. take (k * w) (drop (top * w) all)) (sym more)
+
+-- those that hold the disparities
+pub rows_exact : (g : Problem) (left right : Values) (first : ℤ) (top n : ℕ) (entries : List (Option ℕ)) → 0 < g.width → top + n ≤ g.height → length entries ≡ n * g.width → HoldsFrom g left right first top n entries
+    → entries ≡ rows_between (disparities_of g left right first) top (top + n)
+rows_exact g left right first top n entries some low full h =
+    rows_held g.width g.height (λ x y. disparity g left right first (pixel_at x y)) top n entries some low full h
 
 -- ---- one strip after the other
 
@@ -126,3 +130,10 @@ strip_of_scene scene cut k parcel left right rows is e =
     e ∙ ap (λ (s : SceneParts). rows_of_strip (disparities_of (problem_of s) left right s.span.first) parcel.cut parcel.strip) is.same_scene
     ∙ ap (λ c. rows_of_strip (disparities_of (problem_of scene) left right scene.span.first) c parcel.strip) is.same_cut
     ∙ ap (λ n. rows_of_strip (disparities_of (problem_of scene) left right scene.span.first) cut n) is.same_strip
+
+-- the same of any map of a scene
+pub strip_of_map : (whole : SceneParts → Values) (scene : SceneParts) (cut : CutParts) (k : ℕ) (parcel : ParcelParts) (rows : List (Option ℕ)) → IsStripOf scene cut k parcel
+    → rows ≡ rows_of_strip (whole parcel.scene) parcel.cut parcel.strip → rows ≡ rows_of_strip (whole scene) cut k
+strip_of_map whole scene cut k parcel rows is e =
+    e ∙ ap (λ (s : SceneParts). rows_of_strip (whole s) parcel.cut parcel.strip) is.same_scene
+    ∙ ap (λ c. rows_of_strip (whole scene) c parcel.strip) is.same_cut ∙ ap (λ n. rows_of_strip (whole scene) cut n) is.same_strip

@@ -1,14 +1,19 @@
 -- Disparities that are found row by row and strip by strip.
-use Rattle.std.specs.Prelude.{◌≡◌, ℕ, ◌+◌, ◌-◌, ◌*◌, ◌<◌, ℤ, List, length, take, drop, Option, None, Some, slice_get, slice_index_or}
+use Rattle.std.specs.Prelude.{◌≡◌, ℕ, ◌+◌, ◌-◌, ◌*◌, ◌<◌, ℤ, List, length, take, drop, Option, None, Some, slice_get, slice_index_or, option_map}
 use Rattle.sgm_base.specs.Values.{Values}
 use Rattle.sgm_energy.specs.Rays.{Problem, pixel_at}
 use Rattle.sgm_strip.specs.Cuts.{CutParts, IsCut, first_row}
-use Rattle.sgm_select.specs.Selection.{disparity}
+use Rattle.sgm_select.specs.Selection.{disparity, matched}
 
 -- a plane of the same sides as the problem
 pub record SuitsPlane (g : Problem) (plane : Values) : Type 0 where
   pub same_width : g.width ≡ plane.width
   pub same_height : g.height ≡ plane.height
+
+-- the first n rows of the entries are the matches, in sixteenths, of the pixels of the rows of the right image from top on
+abbrev pub HoldsMatchesFrom : Problem → ℤ → ℕ → ℕ → List (Option ℕ) → Type 0
+HoldsMatchesFrom g first top n entries =
+    (q r : ℕ) → q < g.width → r < n → slice_index_or entries (r * g.width + q) None ≡ option_map (λ d. 16 * d) (matched g first q (top + r))
 
 -- the first n rows of the entries are the disparities of the pixels of the rows from top on
 abbrev pub HoldsFrom : Problem → Values → Values → ℤ → ℕ → ℕ → List (Option ℕ) → Type 0

@@ -7,7 +7,9 @@ mod check;
 mod indices;
 pub mod laws;
 mod maps;
+mod matching;
 
 pub use check::{check_row, sixteenths};
 pub use indices::{base_row, match_row};
 pub use maps::{join_strips, select, select_strip};
+pub use matching::matches;
