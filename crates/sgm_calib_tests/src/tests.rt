@@ -35,6 +35,25 @@ fn one_text_of_each_fault(rt: HostRuntime) {
     }
 }
 
+// The plain settings in version 2, with what is said of `adapt`.
+#[test]
+fn penalties_that_follow_the_image(rt: HostRuntime) -> Result<(), Fail> {
+    let alloc = rt.alloc();
+    let missing = CalibFault::Missing(numbered(50));
+    for (adapt, owed) in [
+        (",\"adapt\":true", Ok(true)),
+        (",\"adapt\":false", Ok(false)),
+        ("", Err(CalibError::Fault(missing))),
+    ] {
+        let text = format!(in alloc;
+            "{{\"version\":2,\"disparities\":{{\"first\":0,\"count\":64}},\"census\":{{\"width\":9,\"height\":7}},\"penalties\":{{\"p1\":10,\"p2\":120{adapt}}}}}"
+        )?;
+        let found = read(alloc, text.as_bytes()).map(|calib| calib.pen().is_adaptive());
+        assert!(rt; found == owed, "{adapt}");
+    }
+    Ok(())
+}
+
 #[test]
 fn plain_settings(rt: HostRuntime) {
     let plain = Calib::plain();
@@ -42,6 +61,7 @@ fn plain_settings(rt: HostRuntime) {
         (plain.span().count, plain.pen().p1(), plain.pen().p2()),
         (64, 10, 120)
     );
+    assert!(rt; !plain.pen().is_adaptive());
     assert!(rt; plain.camera().is_none());
 }
 
@@ -87,6 +107,7 @@ fn paths_of_keys(rt: HostRuntime) {
         (26, "warp.right.nodes", ""),
         (43, "regions[", "]"),
         (49, "regions[", "].base"),
+        (50, "penalties.adapt", ""),
         (255, "", ""),
     ] {
         let key = numbered(number);

@@ -1,0 +1,53 @@
+//! From the disparities to the refined ones. Where nothing is asked for, nothing is computed.
+
+ghost use Rattle.std.specs.Prelude.{◌≡◌, ℕ, IfOk};
+ghost use Rattle.sgm_base.specs.Values.{AtMost};
+ghost use Rattle.sgm_strip.specs.Scenes.{problem_of};
+ghost use Rattle.sgm_strip.specs.Strips.{AreComplete};
+ghost use Rattle.sgm_select.specs.Selection.{matches_of};
+ghost use Rattle.sgm_refine.specs.Segments.{kept};
+ghost use Rattle.sgm_refine.specs.Refined.{refined};
+
+use sgm_base::{DispMap, Plane};
+use sgm_refine::{Refine, fill, peaks};
+use sgm_select::matches;
+use sgm_strip::{Parcel, Scene};
+use std::alloc::{AllocError, Global};
+
+/// The map without its segments of fewer than `peak` pixels.
+fn without_peaks(alloc: Global, mut map: DispMap, peak: u32) -> Result<DispMap, AllocError>
+    ensures { IfOk result (λ m. m ≡ kept map peak) }
+{
+    // Known from here on: what a map keeps.
+    let _size = map.size();
+    // A segment has its own pixel, so none has fewer than one.
+    if peak > 1 {
+        peaks(alloc, &mut map, peak)?;
+    }
+    Ok(map)
+}
+
+/// The refined map. The matches of the right image are found only where pixels are to be filled.
+pub(crate) fn refined_map(
+    alloc: Global,
+    scene: &Scene,
+    parcels: &[Parcel],
+    left: &Plane,
+    map: DispMap,
+    refine: Refine,
+) -> Result<DispMap, AllocError>
+    requires complete { AreComplete scene.now parcels.now }
+    requires map_width { map.width ≡ scene.now.left.width }
+    requires map_height { map.height ≡ scene.now.left.height }
+    requires left_width { left.now.width ≡ scene.now.left.width }
+    requires left_height { left.now.height ≡ scene.now.left.height }
+    ensures exact { IfOk result (λ m. m ≡ refined map (matches_of (problem_of scene.now) scene.now.span.first) left.now scene.now.span.first scene.now.span.count refine) }
+    ensures bound { (most : ℕ) → AtMost most map.entries → IfOk result (λ m. AtMost most m.entries) }
+{
+    let map = without_peaks(alloc, map, refine.peak)?;
+    if !refine.fill {
+        return Ok(map);
+    }
+    let matched = matches(alloc, scene, parcels)?;
+    fill(alloc, &map, &matched, left, scene.span())
+}
