@@ -245,7 +245,8 @@ def selection(draw):
             page.holds(f"base_in {sums} {count} {x}", natural(bases[x]))
             page.holds(f"matched_in {sums} {width} {whole(first)} {count} {x}", option(matches[x]))
             page.holds(f"checked_in {rows} {whole(first)} {x}", option(checked[x]))
-    for width, height, count, first, has_guide in [(3, 2, 2, 0, False), (2, 2, 2, -1, False), (4, 1, 3, 0, False), (4, 1, 3, 1, True)]:
+    sides = [(3, 2, 2, 0, False), (2, 2, 2, -1, False), (4, 1, 3, 0, False), (4, 1, 3, 1, True)]
+    for width, height, count, first, has_guide in sides:
         costs = some_costs(draw, width, height, count, 3)
         planes = [some_plane(draw, width, height, 0.1) for _ in range(2)]
         guide = [[draw.choice([None, 3, 4, 6, 90]) for _ in range(width)] for _ in range(height)] if has_guide else None
@@ -293,13 +294,15 @@ def refinement(draw):
                 page.holds(f"segment {width} {entries} {y * width + x}", members)
         for least in (0, 1, 2, 3, 5):
             page.holds(f"kept {plane_of(found)} {least}", plane_of(matching.kept(found, least)))
-    row, nowhere = [[32, None, 96]], [3 * [7]]
-    cases = [(row, [3 * [None]], nowhere, 0, 2), (row, [[None, 0, None]], nowhere, 0, 2), ([[32, None, None]], [3 * [None]], nowhere, 0, 2)]
-    cases += [([3 * [None]], [[0, 1, 0]], nowhere, 0, 2), (row, [3 * [None]], [[7, None, 7]], 0, 2)]
+    row, nobody, everywhere = [[32, None, 96]], [3 * [None]], [3 * [7]]
+    cases = [(row, nobody, everywhere, 0, 2), (row, [[None, 0, None]], everywhere, 0, 2)]
+    cases += [([[32, None, None]], nobody, everywhere, 0, 2), (nobody, [[0, 1, 0]], everywhere, 0, 2)]
+    cases.append((row, nobody, [[7, None, 7]], 0, 2))
     for width, height in [(3, 3), (5, 2), (4, 3), (1, 4), (6, 1)]:
         count = draw.choice([1, 2, 4])
         matched = [[draw.choice([None, *range(count)]) for _ in range(width)] for _ in range(height)]
-        cases.append((some_map(draw, width, height), matched, some_plane(draw, width, height, 0.1), draw.choice([-1, 0, 1]), count))
+        found, left = some_map(draw, width, height), some_plane(draw, width, height, 0.1)
+        cases.append((found, matched, left, draw.choice([-1, 0, 1]), count))
     for found, matched, left, first, count in cases:
         width, height = len(found[0]), len(found)
         matches = plane_of([[None if d is None else 16 * d for d in line] for line in matched])
@@ -671,7 +674,8 @@ def surveys(draw):
         noise = [[draw.randrange(9) for _ in range(width * height)] for _ in range(2)]
         pairs.append([inputs.Image(width, height, 255, samples) for samples in noise])
     kinds = [(False, 0, False), (True, 0, False), (False, 2, True), (True, 3, True)]
-    for (left, right), (is_adaptive, peak, fill) in [*((pair, kinds[0]) for pair in pairs), *((pairs[1], kind) for kind in kinds[1:])]:
+    cases = [(pair, kinds[0]) for pair in pairs] + [(pairs[1], kind) for kind in kinds[1:]]
+    for (left, right), (is_adaptive, peak, fill) in cases:
         calibration.is_adaptive = is_adaptive
         settings = settings_of(calibration)[len("(Ok ") : -len(")")]
         found, cells, tallies = matching.survey(left, right, calibration, peak=peak, fill=fill)
@@ -684,7 +688,8 @@ def surveys(draw):
     return page
 
 
-PAGES = [energies, penalties, codes, selection, refinement, rectification, points, grids, reports, calibrations, words, texts, surveys]
+PAGES = [energies, penalties, codes, selection, refinement, rectification, points, grids, reports]
+PAGES += [calibrations, words, texts, surveys]
 
 
 def write_pages(folder, is_wrong):

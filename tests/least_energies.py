@@ -5,8 +5,9 @@
 
 It knows nothing of a recurrence: the least energy is the least over all sequences, and a path value is
 the least energy of the ray among the sequences that end in an index, less the least energy of the ray
-without its last pixel. Where a guide is given, the penalty of a larger change follows it. It prints tables, which stand in the tests of sgm_path. With --check it looks
-through these tests and tries each row that stands there.
+without its last pixel. Where a guide is given, the penalty of a larger change follows it. It prints
+tables, which stand in the tests of sgm_path. With --check it looks through these tests and tries each row
+that stands there.
 """
 
 import argparse
