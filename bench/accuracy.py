@@ -203,11 +203,11 @@ SCENES = {
 # Matching
 
 
-def variants(words):
-    """Names of ways of matching, each with what is put into the penalties and the options."""
+def variants(words, p2):
+    """Names of ways of matching, each with what is put into the penalties and the options; p2 is the calibration's."""
     fixed, filling = {"adapt": None}, ["fill=1"]
     adapted = [{"adapt": True, "p2": p2} for p2 in words.p2]
-    named = lambda more: "fixed P2" if more["adapt"] is None else f"adapted, P2 {more['p2']}"
+    named = lambda more: f"fixed, P2 {p2}" if more["adapt"] is None else f"adapted, P2 {more['p2']}"
     made = [(named(more), more, []) for more in (fixed, *adapted)]
     peak = [f"peak={words.peak}"]
     for more in (fixed, adapted[0]):
@@ -311,7 +311,7 @@ def compare(title, folder, left, right, calibration, truth, both, words):
     row(*HEADS)
     row(*["---"] * len(HEADS))
     unknown = {}
-    for name, more, options in variants(words):
+    for name, more, options in variants(words, calibration["penalties"]["p2"]):
         sgm_files.progress(f"{title}: {name}")
         try:
             found = matched(folder, left, right, with_penalties(calibration, more), options)
