@@ -194,6 +194,7 @@ SCENES = {
     "poles": (poles, {}),
     "noise": (wall, {"noise": 12.0}),
     "faint": (lambda size, draw: wall(size, draw, 14), {}),
+    "blank": (lambda size, draw: wall(size, draw, 3), {}),
     "dark": (wall, {"gain": 0.55}),
     "row": (heap, {"row": 1.0}),
 }
@@ -202,11 +203,11 @@ SCENES = {
 # Matching
 
 
-def variants(words):
-    """Names of ways of matching, each with what is put into the penalties and the options."""
+def variants(words, p2):
+    """Names of ways of matching, each with what is put into the penalties and the options; p2 is the calibration's."""
     fixed, filling = {"adapt": None}, ["fill=1"]
     adapted = [{"adapt": True, "p2": p2} for p2 in words.p2]
-    named = lambda more: "fixed P2" if more["adapt"] is None else f"adapted, P2 {more['p2']}"
+    named = lambda more: f"fixed, P2 {p2}" if more["adapt"] is None else f"adapted, P2 {more['p2']}"
     made = [(named(more), more, []) for more in (fixed, *adapted)]
     peak = [f"peak={words.peak}"]
     for more in (fixed, adapted[0]):
@@ -245,13 +246,18 @@ def matched(folder, left, right, calibration, options):
 
 
 def of_opencv(left, right, span, settings):
-    """The same of OpenCV. It takes pictures of 8 bits and a multiple of 16 disparities."""
-    count = -(-span["count"] // 16) * 16
-    made = cv2.StereoSGBM_create(
-        minDisparity=span["first"], numDisparities=count, mode=cv2.STEREO_SGBM_MODE_HH, **settings
-    )
-    found = made.compute(left, right) / 16
-    return numpy.where(found < span["first"], numpy.nan, found)
+    """The same of OpenCV. It takes pictures of 8 bits and a multiple of 16 disparities.
+
+    It leaves out as many columns at the left as there are disparities. So that they have values too, both pictures are
+    made wider there, and what leads out of the right one has none.
+    """
+    first, count = span["first"], -(-span["count"] // 16) * 16
+    room = max(0, first) + count
+    made = cv2.StereoSGBM_create(minDisparity=first, numDisparities=count, mode=cv2.STEREO_SGBM_MODE_HH, **settings)
+    wider = [cv2.copyMakeBorder(picture, 0, 0, room, 0, cv2.BORDER_REPLICATE) for picture in (left, right)]
+    found = made.compute(*wider)[:, room:] / 16
+    is_inside = numpy.arange(found.shape[1]) - found >= -0.5
+    return numpy.where((found >= first) & is_inside, found, numpy.nan)
 
 
 def in_bytes(name):
@@ -305,7 +311,7 @@ def compare(title, folder, left, right, calibration, truth, both, words):
     row(*HEADS)
     row(*["---"] * len(HEADS))
     unknown = {}
-    for name, more, options in variants(words):
+    for name, more, options in variants(words, calibration["penalties"]["p2"]):
         sgm_files.progress(f"{title}: {name}")
         try:
             found = matched(folder, left, right, with_penalties(calibration, more), options)

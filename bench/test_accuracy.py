@@ -105,8 +105,9 @@ class Tables(unittest.TestCase):
         rivals = 2 if accuracy.cv2 is not None else 0
         self.assertEqual(len(lines), 2 * (2 + 7 + rivals))
         names = [line.split(" | ")[0][2:] for line in lines[2:9]]
-        wanted = ["fixed P2", "adapted, P2 200", "adapted, P2 400", "fixed P2, peak=9", "fixed P2, peak=9 fill=1"]
-        self.assertEqual(names, [*wanted, "adapted, P2 200, peak=9", "adapted, P2 200, peak=9 fill=1"])
+        wanted = ["fixed, P2 120", "adapted, P2 200", "adapted, P2 400", "fixed, P2 120, peak=9"]
+        wanted += ["fixed, P2 120, peak=9 fill=1", "adapted, P2 200, peak=9", "adapted, P2 200, peak=9 fill=1"]
+        self.assertEqual(names, wanted)
         self.assertNotIn("left out", said)
 
     def test_a_pair(self):
@@ -129,7 +130,7 @@ class Tables(unittest.TestCase):
                 file.write(f"P5\n{samples.shape[1]} {samples.shape[0]}\n65535\n".encode() + samples.tobytes())
             files = [os.path.join(heap, name) for name in ("left.pgm", "right.pgm", "calibration.json")]
             lines, said = self.run_with(program, *files, truth)
-        self.assertEqual(lines[2], "| fixed P2 | 100.00 % | 0.00 % | 0.00 % | 0.000 | 100.00 % | - |")
+        self.assertEqual(lines[2], "| fixed, P2 120 | 100.00 % | 0.00 % | 0.00 % | 0.000 | 100.00 % | - |")
         self.assertEqual(said.count("left out"), 5)
 
 

@@ -122,7 +122,8 @@ def version_faults():
 
 
 def adapt_faults():
-    unknown, missing, wrong_type = (f"penalties{what}" for what in (" has an unknown name", ".adapt is missing", ".adapt has the wrong type"))
+    unknown, missing = "penalties has an unknown name", "penalties.adapt is missing"
+    wrong_type = "penalties.adapt has the wrong type"
     yield "adapt", second(("penalties.adapt", MISSING)), missing
     for wrong in (0, 1, 0.0, "true", "", None, [True], {}, {"adapt": True}):
         yield "adapt", second(("penalties.adapt", wrong)), wrong_type

@@ -115,12 +115,17 @@ class Page:
 DIRECTIONS = "Right Left Down DownRight DownLeft Up UpRight UpLeft"
 
 
-def problem(costs, p1, p2):
-    """A problem whose costs are these, costs[y][x][d]."""
+def penalties_of(p1, p2, is_adaptive):
+    return record(p1=p1, p2=p2, adaptive=truth(is_adaptive))
+
+
+def problem(costs, p1, p2, guide=None):
+    """A problem whose costs are these, costs[y][x][d], and whose penalties follow the guide where there is one."""
     height, width, count = len(costs), len(costs[0]), len(costs[0][0])
     cells = listed([cost for row in costs for pixel in row for cost in pixel])
     cost = f"(λ p d. slice_index {cells} ((p.y * {width} + p.x) * {count} + d))"
-    return f"(fixed_problem {width} {height} {count} {cost} {p1} {p2})"
+    penalties = penalties_of(p1, p2, guide is not None)
+    return f"(guided_problem {width} {height} {count} {cost} {penalties} {plane_of(guide or [[None] * width] * height)})"
 
 
 def some_costs(draw, width, height, count, most):
@@ -131,24 +136,45 @@ def energies(draw):
     page = Page(
         "energies",
         {
+            "sgm_base.Values": "values_of",
             "sgm_energy.specs.declared.dir.Dir.TheVariants": DIRECTIONS,
-            "sgm_energy.Rays": "Pixel pixel_at fixed_problem",
+            "sgm_energy.Rays": "Pixel pixel_at guided_problem",
             "sgm_energy.Energies": "below",
         },
     )
-    images = [([row], p1, p2) for p1, p2, row in least_energies.ROWS if len(row) < 5]
-    images.append((least_energies.IMAGE, *least_energies.IMAGE_PENALTIES))
-    images.append((some_costs(draw, 3, 2, 3, 8), 2, 3))
-    for costs, p1, p2 in images:
+    images = [([row], p1, p2, None) for p1, p2, row in least_energies.ROWS if len(row) < 5]
+    images.append((least_energies.IMAGE, *least_energies.IMAGE_PENALTIES, None))
+    images.append((some_costs(draw, 3, 2, 3, 8), 2, 3, None))
+    images.append(([[(0, 9, 9), (9, 9, 0)]], 1, 6, [[10, 13]]))
+    images.append((some_costs(draw, 3, 2, 3, 8), 1, 9, [[10, 13, None], [12, 255, 250]]))
+    images.append((some_costs(draw, 2, 3, 3, 8), 2, 30, [[0, 9], [None, 4], [4, 7]]))
+    for costs, p1, p2, guide in images:
         height, width, count = len(costs), len(costs[0]), len(costs[0][0])
+        whole_problem = problem(costs, p1, p2, guide)
         for direction in least_energies.OFFSETS:
-            values = least_energies.path_values(costs, direction, p1, p2)
+            values = least_energies.path_values(costs, direction, p1, p2, guide)
             for y, x in itertools.product(range(height), range(width)):
                 ray = least_energies.ray_to(width, height, direction, x, y)
                 shown = listed(ray, lambda p: f"pixel_at {p[0]} {p[1]}")
-                page.holds(f"ray {problem(costs, p1, p2)} {direction} (pixel_at {x} {y})", shown)
-                left = f"map (path_value {problem(costs, p1, p2)} {direction} (pixel_at {x} {y})) (below {count})"
+                page.holds(f"ray {whole_problem} {direction} (pixel_at {x} {y})", shown)
+                left = f"map (path_value {whole_problem} {direction} (pixel_at {x} {y})) (below {count})"
                 page.holds(left, listed(values[y][x]))
+    return page
+
+
+def penalties(draw):
+    """The penalty of a larger change between two grey values, and the guide of a plane."""
+    page = Page("penalties", {"sgm_base.Values": "values_of", "sgm_energy.Pens": "far_of guide_of"})
+    greys = [(100, 100), (100, 103), (100, 120), (None, 5), (103, 100), (5, None), (None, None), (0, 255), (255, 0), (7, 8)]
+    greys += [(draw.randrange(256), draw.randrange(256)) for _ in range(12)]
+    for p1, p2 in [(10, 120), (1, 6), (4000, 4000), (1, 4000)]:
+        for here, before in greys:
+            both = f"{option(here)} {option(before)}"
+            page.holds(f"far_of {penalties_of(p1, p2, True)} {both}", natural(matching.far(p1, p2, here, before)))
+            page.holds(f"far_of {penalties_of(p1, p2, False)} {both}", natural(p2))
+    for maxval in (1, 3, 100, 255, 256, 65535):
+        plane = [[draw.choice([None, 0, 1, maxval, draw.randrange(maxval + 1)]) for _ in range(4)] for _ in range(2)]
+        page.holds(f"guide_of {plane_of(plane)} {maxval}", plane_of(matching.guide_of(plane, maxval)))
     return page
 
 
@@ -197,7 +223,7 @@ def selection(draw):
         "selection",
         {
             "sgm_base.Values": "values_of",
-            "sgm_energy.Rays": "pixel_at fixed_problem",
+            "sgm_energy.Rays": "pixel_at guided_problem",
             "sgm_energy.Energies": "below",
             "sgm_select.Selection": "",
             "sgm_select.Rows": "",
@@ -219,12 +245,14 @@ def selection(draw):
             page.holds(f"base_in {sums} {count} {x}", natural(bases[x]))
             page.holds(f"matched_in {sums} {width} {whole(first)} {count} {x}", option(matches[x]))
             page.holds(f"checked_in {rows} {whole(first)} {x}", option(checked[x]))
-    for width, height, count, first in [(3, 2, 2, 0), (2, 2, 2, -1), (4, 1, 3, 0)]:
+    sides = [(3, 2, 2, 0, False), (2, 2, 2, -1, False), (4, 1, 3, 0, False), (4, 1, 3, 1, True)]
+    for width, height, count, first, has_guide in sides:
         costs = some_costs(draw, width, height, count, 3)
         planes = [some_plane(draw, width, height, 0.1) for _ in range(2)]
-        sums = matching.sums_of(costs, 1, 2)
+        guide = [[draw.choice([None, 3, 4, 6, 90]) for _ in range(width)] for _ in range(height)] if has_guide else None
+        sums = matching.sums_of(costs, 1, 4, guide)
         found = matching.disparities(sums, *planes, first)
-        whole_problem = problem(costs, 1, 2)
+        whole_problem = problem(costs, 1, 4, guide)
         for y, x in itertools.product(range(height), range(width)):
             pixel = f"(pixel_at {x} {y})"
             page.holds(f"map (path_sum {whole_problem} {pixel}) (below {count})", listed(sums[y][x]))
@@ -233,6 +261,68 @@ def selection(draw):
             both = f"{plane_of(planes[0])} {plane_of(planes[1])}"
             page.holds(f"disparity {whole_problem} {both} {whole(first)} {pixel}", option(found[y][x]))
     return page
+
+
+def some_map(draw, width, height):
+    """A map of disparities, half of them linked to a neighbour, some just not."""
+    return [[draw.choice([None, None, 0, 16, 32, 33, 49, 400]) for _ in range(width)] for _ in range(height)]
+
+
+def places_of(pixels, width):
+    return listed(sorted(y * width + x for x, y in pixels))
+
+
+def refinement(draw):
+    """Segments and what is kept of a map, what is met from a pixel, and what is filled in."""
+    page = Page(
+        "refinement",
+        {
+            "sgm_base.Values": "values_of",
+            "sgm_energy.Rays": "pixel_at",
+            "sgm_refine.Segments": "",
+            "sgm_refine.Filling": "filled",
+            "sgm_refine.Refined": "refined",
+        },
+    )
+    maps = [[[16, 16, 160, 16, 16]], [[0, 16, 32, 49]], [[49, 32, 16, 0]], [[5, None], [None, 5]]]
+    maps += [some_map(draw, *sides) for sides in ((5, 1), (1, 4), (3, 2), (2, 3), (3, 2))]
+    for found in maps:
+        entries, width = listed([value for row in found for value in row], option), len(found[0])
+        for y, x in itertools.product(range(len(found)), range(width)):
+            if found[y][x] is not None:
+                members = places_of(matching.segment(found, x, y), width)
+                page.holds(f"segment {width} {entries} {y * width + x}", members)
+        for least in (0, 1, 2, 3, 5):
+            page.holds(f"kept {plane_of(found)} {least}", plane_of(matching.kept(found, least)))
+    row, nobody, everywhere = [[32, None, 96]], [3 * [None]], [3 * [7]]
+    cases = [(row, nobody, everywhere, 0, 2), (row, [[None, 0, None]], everywhere, 0, 2)]
+    cases += [([[32, None, None]], nobody, everywhere, 0, 2), (nobody, [[0, 1, 0]], everywhere, 0, 2)]
+    cases.append((row, nobody, [[7, None, 7]], 0, 2))
+    for width, height in [(3, 3), (5, 2), (4, 3), (1, 4), (6, 1)]:
+        count = draw.choice([1, 2, 4])
+        matched = [[draw.choice([None, *range(count)]) for _ in range(width)] for _ in range(height)]
+        found, left = some_map(draw, width, height), some_plane(draw, width, height, 0.1)
+        cases.append((found, matched, left, draw.choice([-1, 0, 1]), count))
+    for found, matched, left, first, count in cases:
+        width, height = len(found[0]), len(found)
+        matches = plane_of([[None if d is None else 16 * d for d in line] for line in matched])
+        for y, x in itertools.product(range(height), range(width)):
+            page.holds(f"met {plane_of(found)} (pixel_at {x} {y})", listed(matching.met(found, x, y)))
+            answer = matching.is_mismatched(matched[y], x, first, count)
+            page.holds(f"is_mismatched {matches} {whole(first)} {count} (pixel_at {x} {y})", truth(answer))
+        rest = f"{matches} {plane_of(left)} {whole(first)} {count}"
+        page.holds(f"filled {plane_of(found)} {rest}", plane_of(matching.filled(found, matched, left, first, count)))
+        if width * height > 6:
+            continue
+        for peak, fill in itertools.product((0, 2, 3), (False, True)):
+            made = matching.kept(found, peak)
+            made = matching.filled(made, matched, left, first, count) if fill else made
+            page.holds(f"refined {plane_of(found)} {rest} {refine_of(peak, fill)}", plane_of(made))
+    return page
+
+
+def refine_of(peak, fill):
+    return record(peak=peak, fill=truth(fill))
 
 
 def warp_of(warp):
@@ -415,7 +505,7 @@ def settings_of(calibration):
         "(Ok (settings",
         record(first=whole(calibration.first), count=calibration.count),
         record(width=calibration.window[0], height=calibration.window[1]),
-        f"{calibration.p1} {calibration.p2}",
+        penalties_of(calibration.p1, calibration.p2, calibration.is_adaptive),
         warp_of(calibration.left),
         warp_of(calibration.right),
         option(calibration.camera, camera_of),
@@ -508,6 +598,7 @@ def words(draw):
     names = ["a", "b", "-", "o", "o.pgm", "o.csv", ""]
     numbers = ["0", "7", "007", "4294967295", "4294967296", "", "x", "+1", "é"]
     options = "strips=1 strips=064 strips=65 strips=0 strips= workers=16 workers=17 workers=2x Strips=1 1".split()
+    options += "peak=0 peak=16777216 peak=16777217 peak=020 peak= fill=0 fill=1 fill=01 fill=2 fill=".split()
     cases = [[], ["match"], ["march", "a"], ["match", "a", "b", "-", "o"], ["match", "a", "b", "-"], ["demo"]]
     for _ in range(60):
         operands = draw.choices(names, weights=[4, 4, 4, 8, 1, 1, 1], k=4)
@@ -515,11 +606,10 @@ def words(draw):
         cases.append(["demo", draw.choice(numbers), *draw.choices(options, k=draw.randrange(4))])
     for case in cases:
         try:
-            operands = inputs.read_words(case)
-            asked = dict(word.split("=") for word in case[1 + len(operands) :])
-            counts = f"{int(asked.get('strips', 1))} {int(asked.get('workers', 1))}"
+            operands, asked = inputs.read_words(case)
+            options_of = f"{asked['strips']} {asked['workers']} {refine_of(asked['peak'], asked['fill'] == 1)}"
             is_match = case[0] == "match"
-            answer = f"(Ok (Match {counts}))" if is_match else f"(Ok (Demo {int(operands[0])} {counts}))"
+            answer = f"(Ok (Match {options_of}))" if is_match else f"(Ok (Demo {int(operands[0])} {options_of}))"
         except inputs.Ended as end:
             answer = f"(Err {text(end.line + chr(10))})"
         page.holds(f"with_line (read_of {listed(case, lambda word: text(word))})", answer)
@@ -553,7 +643,8 @@ def texts(draw):
 
 
 def surveys(draw):
-    """Whole surveys: the worked pair, and two that are as small, so that every sequence of a ray can be tried."""
+    """Whole surveys: the worked pair, and two that are as small, so that every sequence of a ray can be tried, with
+    penalties that follow the image or don't, and refined or not."""
     page = Page(
         "surveys",
         {
@@ -568,6 +659,9 @@ def surveys(draw):
             "sgm_energy.Rays": "",
             "sgm_energy.Energies": "",
             "sgm_select.Selection": "",
+            "sgm_refine.Segments": "",
+            "sgm_refine.Filling": "",
+            "sgm_refine.Refined": "",
             "sgm_grid.Cells": "cells_of",
             "sgm_calib.Calibration": "settings",
             "sgm_job.Heights": "",
@@ -579,19 +673,23 @@ def surveys(draw):
     for width, height in [(3, 3), (4, 3)]:
         noise = [[draw.randrange(9) for _ in range(width * height)] for _ in range(2)]
         pairs.append([inputs.Image(width, height, 255, samples) for samples in noise])
-    settings = settings_of(calibration)[len("(Ok ") : -len(")")]
-    for left, right in pairs:
-        found, cells, tallies = matching.survey(left, right, calibration)
+    kinds = [(False, 0, False), (True, 0, False), (False, 2, True), (True, 3, True)]
+    cases = [(pair, kinds[0]) for pair in pairs] + [(pairs[1], kind) for kind in kinds[1:]]
+    for (left, right), (is_adaptive, peak, fill) in cases:
+        calibration.is_adaptive = is_adaptive
+        settings = settings_of(calibration)[len("(Ok ") : -len(")")]
+        found, cells, tallies = matching.survey(left, right, calibration, peak=peak, fill=fill)
         answer = record(
             disp=plane_of(found),
             grid=f"(Some {cells_of(calibration.grid, cells)})",
             tallies=f"(Some {listed(tallies, tally_of)})",
         )
-        page.holds(f"survey_of {picture_of(left)} {picture_of(right)} {settings}", answer)
+        page.holds(f"survey_of {picture_of(left)} {picture_of(right)} {settings} {refine_of(peak, fill)}", answer)
     return page
 
 
-PAGES = [energies, codes, selection, rectification, points, grids, reports, calibrations, words, texts, surveys]
+PAGES = [energies, penalties, codes, selection, refinement, rectification, points, grids, reports]
+PAGES += [calibrations, words, texts, surveys]
 
 
 def write_pages(folder, is_wrong):

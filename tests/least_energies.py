@@ -5,8 +5,9 @@
 
 It knows nothing of a recurrence: the least energy is the least over all sequences, and a path value is
 the least energy of the ray among the sequences that end in an index, less the least energy of the ray
-without its last pixel. It prints tables, which stand in the tests of sgm_path. With --check it looks
-through these tests and tries each row that stands there.
+without its last pixel. Where a guide is given, the penalty of a larger change follows it. It prints
+tables, which stand in the tests of sgm_path. With --check it looks through these tests and tries each row
+that stands there.
 """
 
 import argparse
@@ -34,12 +35,21 @@ def jump(a, b, p1, p2):
     return 0 if a == b else p1 if abs(a - b) == 1 else p2
 
 
-def energies(costs, ray, p1, p2):
+def left_of(p1, p2, p, q, guide):
+    """What is left of P2 between two pixels; guide[y][x] is from 0 to 255, or None."""
+    greys = [guide[y][x] for x, y in (p, q)] if guide else [None]
+    if None in greys:
+        return p2
+    return max(p1, p2 // max(1, max(greys) - min(greys)))
+
+
+def energies(costs, ray, p1, p2, guide=None):
     """The energy of each sequence along a ray; costs[y][x][d]."""
     count = len(costs[0][0])
+    larger = [left_of(p1, p2, p, q, guide) for p, q in zip(ray, ray[1:])]
     for s in product(range(count), repeat=len(ray)):
         cost = sum(costs[y][x][d] for (x, y), d in zip(ray, s))
-        yield s, cost + sum(jump(a, b, p1, p2) for a, b in zip(s, s[1:]))
+        yield s, cost + sum(jump(a, b, p1, far) for a, b, far in zip(s, s[1:], larger))
 
 
 def ray_to(width, height, dir, x, y):
@@ -52,15 +62,15 @@ def ray_to(width, height, dir, x, y):
     return pixels[::-1]
 
 
-def path_values(costs, dir, p1, p2):
+def path_values(costs, dir, p1, p2, guide=None):
     """values[y][x][d] for every pixel and index."""
     height, width, count = len(costs), len(costs[0]), len(costs[0][0])
     values = [[[0] * count for _ in range(width)] for _ in range(height)]
     for y, x in product(range(height), range(width)):
         ray = ray_to(width, height, dir, x, y)
-        before = min(e for _, e in energies(costs, ray[:-1], p1, p2))
+        before = min(e for _, e in energies(costs, ray[:-1], p1, p2, guide))
         for d in range(count):
-            ending = min(e for s, e in energies(costs, ray, p1, p2) if s[-1] == d)
+            ending = min(e for s, e in energies(costs, ray, p1, p2, guide) if s[-1] == d)
             values[y][x][d] = ending - before
     return values
 

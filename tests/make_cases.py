@@ -5,8 +5,8 @@
 
 A case has the file `words`, one word a line, and the files that the words name. The pictures are
 small and drawn from fixed numbers, so the cases are the same each time. They go over sizes, spans,
-windows, penalties, both versions, options, peaks and filling, warps, cameras, grids, regions, and the refusals. The last case is the
-example with the heap.
+windows, penalties, both versions, options, peaks and filling, warps, cameras, grids, regions, and the
+refusals. The last case is the example with the heap.
 """
 
 import argparse

@@ -678,8 +678,8 @@ KINDS = {
     "words": words_case,
     "places": place_case,
 }
-TURNS = "surveys calibrations words scenes pictures surveys calibrations places words scenes pictures calibrations scenes surveys"
-TURNS = TURNS.split()
+TURNS = "surveys calibrations words scenes pictures surveys calibrations".split()
+TURNS += "places words scenes pictures calibrations scenes surveys".split()
 
 
 def case_of(seed, number):

@@ -104,7 +104,8 @@ class WorkedPair(unittest.TestCase):
 
     def test_peaks_and_filling(self):
         """Row by row the disparities are 0 0 1 1 1, which are linked, so the 15 pixels are one segment."""
-        for options, valid in (("peak=15", 15), ("peak=16", 0), ("fill=1 peak=16", 0), ("peak=16777216 fill=0", 0), ("fill=1", 15)):
+        cases = [("peak=15", 15), ("peak=16", 0), ("fill=1 peak=16", 0), ("peak=16777216 fill=0", 0), ("fill=1", 15)]
+        for options, valid in cases:
             status, out, _, made = run(WORKED, "match l.pgm r.pgm c.json o " + options)
             self.assertEqual((status, out), (0, f"valid {valid} of 15\n"), options)
             self.assertEqual(made["o.pgm"], DISPARITY_TEXT if valid else b"P5\n5 3\n65535\n" + bytes(30))
@@ -290,15 +291,16 @@ class Definitions(unittest.TestCase):
         self.assertEqual(matching.guide_of([[256, 257, 65534, 65535]], 65535), [[0, 1, 254, 255]])
 
     def test_far(self):
-        for here, before, answer in [(100, 100, 120), (100, 103, 40), (100, 120, 10), (None, 5, 120)]:
-            self.assertEqual(matching.far(10, 120, here, before), answer)
-        for here, before, answer in [(103, 100, 40), (101, 100, 120), (7, None, 120), (None, None, 120), (0, 7, 17), (0, 255, 10)]:
+        cases = [(100, 100, 120), (100, 103, 40), (100, 120, 10), (None, 5, 120), (103, 100, 40), (101, 100, 120)]
+        cases += [(7, None, 120), (None, None, 120), (0, 7, 17), (0, 255, 10)]
+        for here, before, answer in cases:
             self.assertEqual(matching.far(10, 120, here, before), answer)
         self.assertEqual(matching.far(120, 120, 0, 9), 120)
 
     def test_path_values_that_follow_the_image(self):
         costs = [[[0, 9, 9], [9, 9, 0]]]
-        for guide, answer in [(None, 6), ([[10, 13]], 2), ([[10, 10]], 6), ([[10, None]], 6), ([[None, 13]], 6), ([[10, 12]], 3)]:
+        cases = [(None, 6), ([[10, 13]], 2), ([[10, 10]], 6), ([[10, None]], 6), ([[None, 13]], 6), ([[10, 12]], 3)]
+        for guide, answer in cases:
             values = matching.path_values(costs, (1, 0), 1, 6, guide)
             self.assertEqual(values, [[[0, 9, 9], [9, 10, answer]]], guide)
 
