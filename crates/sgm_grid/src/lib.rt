@@ -1,6 +1,7 @@
 //! A grid of heights: its ranges, the points that fall into its cells, and its text.
 #![tactic(auto)]
 
+mod asc;
 mod asc_fault;
 mod grid;
 mod grid_spec;
@@ -10,6 +11,7 @@ mod limits;
 mod text;
 mod words;
 
+pub use asc::read_asc;
 pub use asc_fault::{AscError, AscFault};
 pub use grid::{Grid, higher};
 pub use grid_spec::GridSpec;
