@@ -3,3 +3,4 @@ pub mod HeadLaws
 pub mod HeightLaws
 pub mod Rows
 pub mod WordLaws
+pub mod WrittenLaws

@@ -16,3 +16,4 @@ pub use asc_fault::{AscError, AscFault};
 pub use grid::{Grid, higher};
 pub use grid_spec::GridSpec;
 pub use limits::{MAX_CELL, MAX_HEIGHT, MAX_PLACE, NO_HEIGHT};
+pub use text::append_head;
