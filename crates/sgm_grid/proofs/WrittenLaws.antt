@@ -12,6 +12,10 @@ use Rattle.std.proofs.lemmas.Fmt.{digits_decimal, digits_value-decimal, decimal_
 use Rattle.std.proofs.lemmas.Int.{ints}
 use Rattle.std.proofs.lemmas.List.Elements.{All-from_recursion}
 use Rattle.std.proofs.lemmas.Str.Parse.{IsNumeralModel, numerals_by_value, tells_all_ascii_digits}
+use Rattle.sgm_base.specs.Ranges.{IsFromTo}
+use Rattle.sgm_grid.specs.declared.grid_spec.GridSpec.{GridSpec}
+use Rattle.sgm_grid.specs.Cells.{IsGridSpec, IsHeight}
+use Rattle.sgm_grid.specs.Text.{head_text, height_text, line, row_text}
 use Rattle.sgm_grid.specs.Words.{digits_of, has_bytes, is_space, number_of, words_of}
 use Rattle.sgm_grid.proofs.WordLaws.{word_before}
 
@@ -95,3 +99,70 @@ signed_some (negsuc n) small = refl
 pub signed_black : (z : ℤ) → unsigned_abs z < 2 ^ 63 → no_space (signed_decimal z) ≡ true
 signed_black (pos n) small = digits_black (decimal n) (digits_decimal own n (omega arith))
 signed_black (negsuc n) small = digits_black (decimal (suc n)) (digits_decimal own (suc n) (omega arith))
+
+-- ---- a line of the head
+
+-- a name, a number and what stands behind them
+pub over_field : (name digits rest : List ℕ) → has_bytes name ≡ true → no_space name ≡ true → has_bytes digits ≡ true → no_space digits ≡ true
+    → words_of ((((name ++ 32 ∷ []) ++ digits) ++ 10 ∷ []) ++ rest) ≡ name ∷ digits ∷ words_of rest
+over_field name digits rest some whole some_digit all_digits =
+    ap words_of (append_assoc ((name ++ 32 ∷ []) ++ digits) (10 ∷ []) rest ∙ append_assoc (name ++ 32 ∷ []) digits (10 ∷ rest) ∙ append_assoc name (32 ∷ []) (digits ++ 10 ∷ rest))
+    ∙ over_word name 32 (digits ++ 10 ∷ rest) some whole refl
+    ∙ ap (λ (t : List (List ℕ)). name ∷ t) (over_word digits 10 rest some_digit all_digits refl)
+
+grouped : (a b c d e f rest : List ℕ) → (((a ++ b) ++ (c ++ d)) ++ (e ++ f)) ++ rest ≡ a ++ (b ++ (c ++ (d ++ (e ++ (f ++ rest)))))
+grouped a b c d e f rest = simp append_assoc
+
+field_of : (name : List ℕ) (z : ℤ) (rest : List ℕ) → has_bytes name ≡ true → no_space name ≡ true → unsigned_abs z < 2 ^ 63
+    → words_of ((((name ++ 32 ∷ []) ++ signed_decimal z) ++ 10 ∷ []) ++ rest) ≡ name ∷ signed_decimal z ∷ words_of rest
+field_of name z rest some whole small = over_field name (signed_decimal z) rest some whole (signed_some z small) (signed_black z small)
+
+-- the words of the head, and of what stands behind it
+pub head_words : (spec : GridSpec) (rest : List ℕ) → IsGridSpec spec → words_of (head_text spec (height_text None) ++ rest) ≡
+    codes "ncols" ∷ decimal spec.cols ∷ codes "nrows" ∷ decimal spec.rows ∷ codes "xllcorner" ∷ signed_decimal spec.west ∷ codes "yllcorner" ∷ signed_decimal spec.south
+    ∷ codes "cellsize" ∷ signed_decimal spec.cell ∷ codes "NODATA_value" ∷ codes "-2147483648" ∷ words_of rest
+head_words spec rest ranges =
+    let a = line (codes "ncols " ++ decimal spec.cols) in
+    let b = line (codes "nrows " ++ decimal spec.rows) in
+    let c = line (codes "xllcorner " ++ signed_decimal spec.west) in
+    let d = line (codes "yllcorner " ++ signed_decimal spec.south) in
+    let e = line (codes "cellsize " ++ signed_decimal spec.cell) in
+    let f = line (codes "NODATA_value " ++ codes "-2147483648") in
+    let west : unsigned_abs spec.west < 2 ^ 63 = omega (arith, ints, ranges.west_in_range.0, ranges.west_in_range.1) in
+    let south : unsigned_abs spec.south < 2 ^ 63 = omega (arith, ints, ranges.south_in_range.0, ranges.south_in_range.1) in
+    let cell : unsigned_abs spec.cell < 2 ^ 63 = omega (arith, ints, ranges.cell_in_range.0, ranges.cell_in_range.1) in
+    ap words_of (grouped a b c d e f rest)
+    ∙ field_of (codes "ncols") (pos spec.cols) (b ++ (c ++ (d ++ (e ++ (f ++ rest))))) refl refl (omega (arith, ranges.cols_in_range.1))
+    ∙ ap (λ (t : List (List ℕ)). codes "ncols" ∷ decimal spec.cols ∷ t) (field_of (codes "nrows") (pos spec.rows) (c ++ (d ++ (e ++ (f ++ rest)))) refl refl (omega (arith, ranges.rows_in_range.1))
+    ∙ ap (λ (t : List (List ℕ)). codes "nrows" ∷ decimal spec.rows ∷ t) (field_of (codes "xllcorner") spec.west (d ++ (e ++ (f ++ rest))) refl refl west
+    ∙ ap (λ (t : List (List ℕ)). codes "xllcorner" ∷ signed_decimal spec.west ∷ t) (field_of (codes "yllcorner") spec.south (e ++ (f ++ rest)) refl refl south
+    ∙ ap (λ (t : List (List ℕ)). codes "yllcorner" ∷ signed_decimal spec.south ∷ t) (field_of (codes "cellsize") spec.cell (f ++ rest) refl refl cell
+    ∙ ap (λ (t : List (List ℕ)). codes "cellsize" ∷ signed_decimal spec.cell ∷ t) (over_field (codes "NODATA_value") (codes "-2147483648") rest refl refl refl refl)))))
+
+-- ---- the rows
+
+cell_some : (cell : Option ℤ) → ForSome cell IsHeight → has_bytes (height_text cell) ≡ true
+cell_some None height = refl
+cell_some (Some z) height = signed_some z (small_height z height)
+  where
+    small_height : (z : ℤ) → ForSome (Some z) IsHeight → unsigned_abs z < 2 ^ 63
+    small_height z height = let is : IsHeight z = search rules in omega (arith, ints, is.0, is.1)
+
+cell_black : (cell : Option ℤ) → ForSome cell IsHeight → no_space (height_text cell) ≡ true
+cell_black None height = refl
+cell_black (Some z) height = signed_black z (small_height z height)
+  where
+    small_height : (z : ℤ) → ForSome (Some z) IsHeight → unsigned_abs z < 2 ^ 63
+    small_height z height = let is : IsHeight z = search rules in omega (arith, ints, is.0, is.1)
+
+abbrev pub AreHeights : List (Option ℤ) → Type 0
+AreHeights heights = AllByRecursion (λ height. ForSome height IsHeight) heights
+
+pub row_words : (x : Option ℤ) (xs : List (Option ℤ)) (rest : List ℕ) → AreHeights (x ∷ xs) → words_of (row_text (x ∷ xs) ++ rest) ≡ map height_text (x ∷ xs) ++ words_of rest
+row_words x [] rest (height, more) = ap words_of (append_assoc (height_text x) (10 ∷ []) rest) ∙ over_word (height_text x) 10 rest (cell_some x height) (cell_black x height) refl
+row_words x (y ∷ ys) rest (height, more) =
+    ap words_of (append_assoc (height_text x ++ 32 ∷ join_with_byte 32 (map height_text (y ∷ ys))) (10 ∷ []) rest
+    ∙ append_assoc (height_text x) (32 ∷ join_with_byte 32 (map height_text (y ∷ ys))) (10 ∷ rest)
+    ∙ ap (λ (t : List ℕ). height_text x ++ 32 ∷ t) (sym (append_assoc (join_with_byte 32 (map height_text (y ∷ ys))) (10 ∷ []) rest)))
+    ∙ over_word (height_text x) 32 (row_text (y ∷ ys) ++ rest) (cell_some x height) (cell_black x height) refl
+    ∙ ap (λ (t : List (List ℕ)). height_text x ∷ t) (row_words y ys rest more)
