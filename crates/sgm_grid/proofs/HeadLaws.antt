@@ -143,6 +143,9 @@ which false = inr refl
 pub from_to : (low high z : ℤ) → is_from_to low high z ≡ true → IsFromTo low high z
 from_to low high z e = (grind (arith, ints), grind (arith, ints))
 
+pub test_true : (low high z : ℤ) → IsFromTo low high z → is_from_to low high z ≡ true
+test_true low high z (from, to) = grind (arith, ints)
+
 -- a number in such a range isn't too great
 pub real_one : (low high z : ℤ) → IsNear low high → IsFromTo low high (capped z) → capped z ≡ z
 real_one low high z near within = omega (arith, ints, clamps, near.0.0, near.0.1, near.1.0, near.1.1, within.0, within.1)

@@ -15,7 +15,7 @@ use Rattle.sgm_grid.specs.declared.grid_spec.GridSpec.{GridSpec}
 use Rattle.sgm_grid.specs.Asc.{cell_in, cell_told, grid_of, heights_in, is_from_to, with_cell, with_spec}
 use Rattle.sgm_grid.specs.Capped.{capped}
 use Rattle.sgm_grid.specs.Cells.{Cells, IsHeight, cells_of}
-use Rattle.sgm_grid.proofs.HeadLaws.{capped_fits, from_to}
+use Rattle.sgm_grid.proofs.HeadLaws.{capped_fits, from_to, test_true}
 use Rattle.sgm_grid.specs.Leading.{leading, prepend}
 use Rattle.sgm_grid.specs.Words.{number_of}
 
@@ -129,9 +129,6 @@ which : (b : Bool) → (b ≡ true) ⊎ (b ≡ false)
 which true = inl refl
 which false = inr refl
 
-test_true : (low high z : ℤ) → IsFromTo low high z → is_from_to low high z ≡ true
-test_true low high z (from, to) = grind (arith, ints)
-
 told_apart : (z : ℤ) → int_eq z NO_HEIGHT ≡ false → int_eq (capped z) NO_HEIGHT ≡ false
 told_apart z other =
     elim (which (int_eq (capped z) NO_HEIGHT)) [
@@ -199,7 +196,7 @@ wrong_count spec words have need is needs apart =
     faulty : AscFault → Result Cells AscFault
     faulty fault = Err fault
 
-enough : (spec : GridSpec) (words : List (List ℕ)) → length words ≡ spec.cols * spec.rows → grid_of spec words ≡ with_spec spec (heights_in 0 words)
+pub enough : (spec : GridSpec) (words : List (List ℕ)) → length words ≡ spec.cols * spec.rows → grid_of spec words ≡ with_spec spec (heights_in 0 words)
 unfolding grid_of
 enough spec words full =
     let same : (length words == spec.cols * spec.rows) ≡ true = grind (arith, nat_tests) in
