@@ -1,19 +1,10 @@
 -- The text of a difference of two grids, and that of the volumes between them.
-use Rattle.std.specs.Prelude.{ℕ, ℤ, ◌-ℤ◌, List, [], ◌∷◌, ◌++◌, map, flat_map, codes, decimal, Option, Some}
+use Rattle.std.specs.Prelude.{ℕ, ℤ, ◌-ℤ◌, List, [], ◌∷◌, ◌++◌, map, flat_map, codes, decimal, Option, Some, None}
 use Rattle.std.specs.Fmt.{signed_decimal}
 use Rattle.std.specs.List.{join_with_byte, range_with_len, zip}
-use Rattle.sgm_grid.specs.declared.grid_spec.GridSpec.{GridSpec}
 use Rattle.sgm_grid.specs.Cells.{Cells, row_of}
-use Rattle.sgm_grid.specs.Text.{corner_text, line, size_text}
+use Rattle.sgm_grid.specs.Text.{head_text, line}
 use Rattle.sgm_change.specs.declared.compare.Changed.{Changed}
-
--- the lines on a cell's side and on a cell that hasn't a height in both grids
-abbrev pub side_text : GridSpec → List ℕ
-side_text spec = line (codes "cellsize " ++ signed_decimal spec.cell) ++ line (codes "NODATA_value -9999999999")
-
--- the six lines that stand before the rows
-abbrev pub head_text : GridSpec → List ℕ
-head_text spec = size_text spec ++ corner_text spec ++ side_text spec
 
 -- the later height less the earlier one, or what stands for a cell that hasn't both
 abbrev pub difference_text : Option ℤ → Option ℤ → List ℕ
@@ -42,7 +33,7 @@ rows_text earlier later n = flat_map row_text (map (both_row earlier later) (ran
 
 -- the text of the difference of two grids
 abbrev pub grids_text : Cells → Cells → List ℕ
-grids_text earlier later = head_text earlier.spec ++ rows_text earlier later earlier.spec.rows
+grids_text earlier later = head_text earlier.spec (difference_text None None) ++ rows_text earlier later earlier.spec.rows
 
 -- the counts and volumes in the order of their names
 abbrev pub volumes_of : Changed → List ℕ

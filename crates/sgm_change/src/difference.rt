@@ -1,12 +1,12 @@
 ghost use Rattle.std.specs.Prelude.{◌≡◌, ◌++◌, ◌<◌, OnOk, OnErr, All, length};
 ghost use Rattle.std.specs.List.{zip};
 ghost use Rattle.std.specs.Option.{ForSome};
-ghost use Rattle.sgm_grid.specs.Cells.{IsGridSpec, IsHeight};
-ghost use Rattle.sgm_grid.specs.Text.{StartsAs, corner_text, line, size_text};
-ghost use Rattle.sgm_change.specs.Texts.{after_spaces, difference_text, grids_text, row_text, rows_text, side_text};
+ghost use Rattle.sgm_grid.specs.Cells.{IsHeight};
+ghost use Rattle.sgm_grid.specs.Text.{StartsAs};
+ghost use Rattle.sgm_change.specs.Texts.{after_spaces, difference_text, grids_text, row_text, rows_text};
 
 use itoa::Buffer;
-use sgm_grid::{Grid, GridSpec};
+use sgm_grid::{Grid, append_head};
 use std::alloc::AllocError;
 
 /// More bytes than the six lines of the head have.
@@ -43,45 +43,8 @@ fn append_text(earlier: &Grid, later: &Grid, into: &mut Vec<u8>) -> Result<(), A
 {
     let spec = earlier.spec();
     into.try_reserve(HEAD_ROOM + DIFFERENCE_ROOM * spec.cols as usize * spec.rows as usize)?;
-    append_size(spec, into)?;
-    append_corner(spec, into)?;
-    append_side(spec, into)?;
+    append_head(spec, NODATA, into)?;
     append_rows(earlier, later, into)
-}
-
-/// Adds the lines with the numbers of columns and rows.
-fn append_size(spec: GridSpec, into: &mut Vec<u8>) -> Result<(), AllocError>
-    ensures ok { OnOk result (into.new.items ≡ into.old.items ++ size_text spec) }
-    ensures err { OnErr result (StartsAs into.old.items into.new.items) }
-{
-    let mut digits = Buffer::new();
-    append_line(b"ncols ", digits.format(spec.cols).as_bytes(), into)?;
-    append_line(b"nrows ", digits.format(spec.rows).as_bytes(), into)
-}
-
-/// Adds the lines on where the grids lie.
-fn append_corner(spec: GridSpec, into: &mut Vec<u8>) -> Result<(), AllocError>
-    requires { IsGridSpec spec }
-    ensures ok { OnOk result (into.new.items ≡ into.old.items ++ corner_text spec) }
-    ensures err { OnErr result (StartsAs into.old.items into.new.items) }
-{
-    let mut digits = Buffer::new();
-    append_line(b"xllcorner ", digits.format(spec.west).as_bytes(), into)?;
-    append_line(b"yllcorner ", digits.format(spec.south).as_bytes(), into)
-}
-
-/// Adds the lines on a cell's side and on a cell that hasn't a height in both.
-fn append_side(spec: GridSpec, into: &mut Vec<u8>) -> Result<(), AllocError>
-    requires { IsGridSpec spec }
-    ensures ok { OnOk result (into.new.items ≡ into.old.items ++ side_text spec) }
-    ensures err { OnErr result (StartsAs into.old.items into.new.items) }
-{
-    append_line(
-        b"cellsize ",
-        Buffer::new().format(spec.cell).as_bytes(),
-        into,
-    )?;
-    append_line(b"NODATA_value ", NODATA, into)
 }
 
 /// Adds the lines of the rows, from the north.
@@ -96,16 +59,6 @@ fn append_rows(earlier: &Grid, later: &Grid, into: &mut Vec<u8>) -> Result<(), A
         append_row(earlier.row(row), later.row(row), into)?;
     }
     Ok(())
-}
-
-/// Adds a word, what follows it and a line feed.
-fn append_line(word: &[u8], value: &[u8], into: &mut Vec<u8>) -> Result<(), AllocError>
-    ensures ok { OnOk result (into.new.items ≡ into.old.items ++ line (word.now ++ value.now)) }
-    ensures err { OnErr result (StartsAs into.old.items into.new.items) }
-{
-    into.extend_from_slice(word)?;
-    into.extend_from_slice(value)?;
-    into.extend_from_slice(b"\n")
 }
 
 /// Adds the line of a row.

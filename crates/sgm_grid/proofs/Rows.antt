@@ -60,6 +60,11 @@ two_lines (Ok x) old first new word value word2 value2 text text2 p t u s =
     ∙ ap (λ (b : List ℕ). b ++ line (word2 ++ text2)) (p ∙ ap (λ (b : List ℕ). old ++ line (word ++ b)) t)
     ∙ append_assoc old (line (word ++ text)) (line (word2 ++ text2))
 
+-- two parts, one after the other
+pub two_parts : {E : Type 0} (r : Result (Unit {0}) E) (old first new a b : List ℕ) → first ≡ old ++ a → OnOk r (new ≡ first ++ b) → OnOk r (new ≡ old ++ (a ++ b))
+two_parts (Err e) old first new a b p q = tt
+two_parts (Ok u) old first new a b p q = q ∙ ap (λ (t : List ℕ). t ++ b) p ∙ append_assoc old a b
+
 -- the texts of the first rows, and that of the next
 pub rows_more : (grid : Cells) (n : ℕ) (first old new : List ℕ) (heights : List (Option ℤ)) → heights ≡ row_of grid n
     → old ≡ first ++ flat_map row_text (first_rows grid n) → new ≡ old ++ row_text heights → new ≡ first ++ flat_map row_text (first_rows grid (n + 1))

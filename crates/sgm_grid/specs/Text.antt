@@ -17,13 +17,13 @@ size_text spec = line (codes "ncols " ++ decimal spec.cols) ++ line (codes "nrow
 abbrev pub corner_text : GridSpec → List ℕ
 corner_text spec = line (codes "xllcorner " ++ signed_decimal spec.west) ++ line (codes "yllcorner " ++ signed_decimal spec.south)
 
--- the lines on a cell's side and on an empty cell
-abbrev pub cell_text : GridSpec → List ℕ
-cell_text spec = line (codes "cellsize " ++ signed_decimal spec.cell) ++ line (codes "NODATA_value -2147483648")
+-- the lines on a cell's side and on what stands for an empty cell
+abbrev pub cell_text : GridSpec → List ℕ → List ℕ
+cell_text spec empty = line (codes "cellsize " ++ signed_decimal spec.cell) ++ line (codes "NODATA_value " ++ empty)
 
 -- the six lines that stand before the rows
-abbrev pub head_text : GridSpec → List ℕ
-head_text spec = size_text spec ++ corner_text spec ++ cell_text spec
+abbrev pub head_text : GridSpec → List ℕ → List ℕ
+head_text spec empty = size_text spec ++ corner_text spec ++ cell_text spec empty
 
 -- a height, or what stands for an empty cell
 abbrev pub height_text : Option ℤ → List ℕ
@@ -47,7 +47,7 @@ abbrev pub rows_text : Cells → List ℕ
 rows_text grid = flat_map row_text (first_rows grid grid.spec.rows)
 
 abbrev pub grid_text : Cells → List ℕ
-grid_text grid = head_text grid.spec ++ rows_text grid
+grid_text grid = head_text grid.spec (height_text None) ++ rows_text grid
 
 -- what was there before still stands in front
 abbrev pub StartsAs : List ℕ → List ℕ → Type 0

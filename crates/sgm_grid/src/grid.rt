@@ -1,7 +1,7 @@
 ghost use Rattle.std.specs.Prelude.{◌≡◌, ◌++◌, ◌*◌, ◌^◌, ◌<◌, ◌<ℤ◌, pos, IfOk, IfSome, OnOk, OnErr, All, length};
 ghost use Rattle.std.specs.Option.{ForSome};
 ghost use Rattle.std.specs.Int.{int_div_euclid};
-ghost use Rattle.sgm_grid.specs.Cells.{IsGridSpec, IsCells, IsHeight, height_at, cell_index, row_of};
+ghost use Rattle.sgm_grid.specs.Cells.{IsGridSpec, IsCells, IsHeight, cells_of, height_at, cell_index, row_of};
 ghost use Rattle.sgm_base.specs.Ranges.{Within};
 ghost use Rattle.sgm_grid.specs.Points.{added, cell_of, empty_grid, higher, index_below};
 ghost use Rattle.sgm_grid.specs.Text.{grid_text};
@@ -39,6 +39,14 @@ impl Grid {
         let cells = spec.cols as usize * spec.rows as usize;
         let heights = vec![in alloc; None; cells]?;
         Ok(Grid { spec, heights })
+    }
+
+    /// The grid of these ranges and these heights, row by row from the north.
+    pub(crate) fn of_heights(spec: GridSpec, heights: Vec<Option<i32>>) -> Grid
+        requires { IsCells (cells_of spec heights.items) }
+        ensures { result ≡ cells_of spec heights.items }
+    {
+        Grid { spec, heights }
     }
 
     /// Where the grid lies and how it is cut.

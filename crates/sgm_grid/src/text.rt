@@ -1,6 +1,6 @@
 ghost use Rattle.std.specs.Prelude.{◌≡◌, ◌++◌, ◌<◌, OnOk, OnErr, length};
 ghost use Rattle.sgm_grid.specs.Cells.{IsGridSpec};
-ghost use Rattle.sgm_grid.specs.Text.{StartsAs, after_spaces, cell_text, corner_text, grid_text, height_text, line, row_text, rows_text, size_text};
+ghost use Rattle.sgm_grid.specs.Text.{StartsAs, after_spaces, cell_text, corner_text, grid_text, head_text, height_text, line, row_text, rows_text, size_text};
 
 use crate::{Grid, GridSpec};
 use itoa::Buffer;
@@ -22,10 +22,21 @@ pub fn append_text(grid: &Grid, into: &mut Vec<u8>) -> Result<(), AllocError>
 {
     let spec = grid.spec();
     into.try_reserve(HEAD_ROOM + HEIGHT_ROOM * spec.cols as usize * spec.rows as usize)?;
+    append_head(spec, NODATA, into)?;
+    append_rows(grid, into)
+}
+
+/// Adds the six lines that stand before the rows of a grid's text: the numbers of columns and rows, where
+/// the grid lies, a cell's side, and `empty`, which stands for an empty cell. On Err a part of them may
+/// have been added.
+pub fn append_head(spec: GridSpec, empty: &[u8], into: &mut Vec<u8>) -> Result<(), AllocError>
+    requires { IsGridSpec spec }
+    ensures ok { OnOk result (into.new.items ≡ into.old.items ++ head_text spec empty.now) }
+    ensures err { OnErr result (StartsAs into.old.items into.new.items) }
+{
     append_size(spec, into)?;
     append_corner(spec, into)?;
-    append_cell(spec, into)?;
-    append_rows(grid, into)
+    append_cell(spec, empty, into)
 }
 
 /// Adds the lines with the numbers of columns and rows.
@@ -49,10 +60,10 @@ fn append_corner(spec: GridSpec, into: &mut Vec<u8>) -> Result<(), AllocError>
     append_line(b"yllcorner ", digits.format(spec.south).as_bytes(), into)
 }
 
-/// Adds the lines on a cell's side and on an empty cell.
-fn append_cell(spec: GridSpec, into: &mut Vec<u8>) -> Result<(), AllocError>
+/// Adds the lines on a cell's side and on what stands for an empty cell.
+fn append_cell(spec: GridSpec, empty: &[u8], into: &mut Vec<u8>) -> Result<(), AllocError>
     requires { IsGridSpec spec }
-    ensures ok { OnOk result (into.new.items ≡ into.old.items ++ cell_text spec) }
+    ensures ok { OnOk result (into.new.items ≡ into.old.items ++ cell_text spec empty.now) }
     ensures err { OnErr result (StartsAs into.old.items into.new.items) }
 {
     append_line(
@@ -60,7 +71,7 @@ fn append_cell(spec: GridSpec, into: &mut Vec<u8>) -> Result<(), AllocError>
         Buffer::new().format(spec.cell).as_bytes(),
         into,
     )?;
-    append_line(b"NODATA_value ", NODATA, into)
+    append_line(b"NODATA_value ", empty, into)
 }
 
 /// Adds the lines of the rows, from the north.

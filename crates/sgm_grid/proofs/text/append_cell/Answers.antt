@@ -9,5 +9,5 @@ returns-clause-ok c =
     let cell : to_z w64 (of_z w64 c.args.spec.cell) ≡ c.args.spec.cell = omega (arith, ints) in
     let first : c.as_bytes.result.now ≡ signed_decimal c.args.spec.cell = cc in
     two_lines c.append_line-2.result c.args.into.now.items c.append_line.new.into.items c.append_line-2.new.into.items
-    (codes "cellsize ") c.as_bytes.result.now (codes "NODATA_value ") (codes "-2147483648") (signed_decimal c.args.spec.cell) (codes "-2147483648")
+    (codes "cellsize ") c.as_bytes.result.now (codes "NODATA_value ") c.args.empty.now (signed_decimal c.args.spec.cell) c.args.empty.now
     c.in_ok-append_line.ensures.ok first refl c.append_line-2.ensures.ok

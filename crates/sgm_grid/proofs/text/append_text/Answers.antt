@@ -1,0 +1,14 @@
+use Rattle.std.proofs.Common.{◌≡◌, ◌++◌, List, ℕ, ap, ◌∙◌, None}
+use Rattle.sgm_grid.specs.declared.grid_spec.GridSpec.{GridSpec}
+use Rattle.sgm_grid.specs.Text.{head_text, height_text, rows_text}
+use Rattle.sgm_grid.proofs.Rows.{two_parts}
+use Rattle.sgm_grid.proofs.text.append_text.Goals as goal
+
+pub returns-clause-ok : goal.returns-clause-ok
+returns-clause-ok c =
+    let old = c.args.into.now.items in
+    let empty = height_text None in
+    let first : c.append_head.new.into.items ≡ old ++ head_text c.args.grid.now.spec empty =
+    c.in_ok-append_head.ensures.ok ∙ ap (λ (t : List ℕ). t ++ head_text c.spec-spec.result empty) c.try_reserve.ensures.items
+    ∙ ap (λ (s : GridSpec). old ++ head_text s empty) c.spec-spec.ensures.spec in
+    two_parts c.append_rows.result old c.append_head.new.into.items c.append_rows.new.into.items (head_text c.args.grid.now.spec empty) (rows_text c.args.grid.now) first c.append_rows.ensures.ok
