@@ -3,8 +3,6 @@
 #![tactic(auto)]
 
 #[cfg(test)]
-mod asc;
-#[cfg(test)]
 mod grid;
 #[cfg(test)]
 mod height;
