@@ -5,6 +5,7 @@
 //! The stored input is a test of the crates below. Its last case has a false answer, so it is printed.
 #![tactic(auto)]
 
+mod asc;
 mod calib;
 mod escapes;
 mod example;
@@ -26,6 +27,7 @@ fn answer<R: Threads + Sync>(
     rest: &str,
 ) -> Result<String, AllocError> {
     match kind {
+        "asc" => asc::answer(alloc, rest),
         "calib" => calib::answer(alloc, rest),
         "line" => line::answer(alloc, rest),
         "run" => run::answer(rt, alloc, rest),

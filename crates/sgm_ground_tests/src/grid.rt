@@ -14,7 +14,7 @@ const SMALL: GridSpec = GridSpec {
 };
 
 /// The grid of the worked example: four columns from 2000 and three rows from -2000.
-const EXAMPLE: GridSpec = GridSpec {
+pub const EXAMPLE: GridSpec = GridSpec {
     west: 2_000,
     south: -2_000,
     cell: 1_000,

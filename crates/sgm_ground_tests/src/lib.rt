@@ -3,6 +3,8 @@
 #![tactic(auto)]
 
 #[cfg(test)]
+mod asc;
+#[cfg(test)]
 mod grid;
 #[cfg(test)]
 mod height;
