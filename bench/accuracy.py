@@ -6,15 +6,16 @@
 
 The first matches one pair. TRUTH is PFM, as Middlebury has it, or PGM of 16 bits in sixteenths of a pixel
 (--unit 256 for 1/256), 0 where nothing is known; it is of the rectified left picture. MASK is a picture that is
-white where both cameras see the surface, as Middlebury's mask0nocc.png; black and grey pixels count as hidden
-from one of them. The second matches made-up scenes whose truth is exact: SCENES below says what each has.
+white where both cameras see the surface, as Middlebury's mask0nocc.png; what is black or grey inside of both
+pictures counts as hidden. The second matches made-up scenes whose truth is exact: SCENES below says what each has.
 
 For each pair it prints a table in Markdown, a line for each way of matching: the calibration with a fixed P2,
 then with one that follows the image, for each P2 given, then these with peaks taken out and holes filled.
 What a program doesn't know (an older one has no version 2) is left out, and said. The columns are, of the
 pixels whose truth is known: the share that has a value; the share of these values that is wrong by more than
-1 and more than 2 pixels; the median error of the values that aren't wrong by more than 1, in pixels; the
-share of the pixels seen by both cameras that has a right value; and the same of those hidden from one.
+1 and more than 2 pixels; the median error of the values that aren't wrong by more than 1, in pixels; and the
+share that has a right value of the pixels that both cameras see, of those whose place in the right picture is
+hidden by something nearer, and of those whose place lies outside the right picture (a band at the left).
 
 OpenCV matches the same pair with all eight directions (MODE_HH), where `import cv2` works (Debian:
 python3-opencv) and the calibration has no warp: once bare, once with what its documentation advises against
@@ -286,12 +287,14 @@ def figures(found, truth, both):
     made = [share(count(has_value), count(known))]
     made += [share(count(has_value & (error > most)), count(has_value)) for most in (1, 2)]
     made.append(f"{numpy.median(error[right]):.3f}" if right.any() else "-")
-    made.append(share(count(right & both), count(known & both)))
-    hidden = known & ~both
-    return [*made, share(count(right & hidden), count(hidden))]
+    column = numpy.arange(truth.shape[1]) - numpy.where(known, truth, 0)
+    is_inside = (column >= 0) & (column <= truth.shape[1] - 1)
+    for part in (both & is_inside, ~both & is_inside, ~is_inside):
+        made.append(share(count(right & part), count(known & part)))
+    return made
 
 
-HEADS = ("Matching", "Has a value", "Wrong by > 1", "> 2", "Median error", "Right, seen by both", "Right, hidden from one")
+HEADS = ("Matching", "Has a value", "Wrong by > 1", "> 2", "Median error", "Right of seen by both", "of hidden", "of outside")
 
 
 def print_rival():
