@@ -79,7 +79,7 @@ begin help
 started --help
 is status "$status" 0
 is "standard error" "$err" ""
-is "first line" "$(head -n 1 <<<"$out")" "sgm match LEFT RIGHT CALIB OUT [strips=N] [workers=N]"
+is "first line" "$(head -n 1 <<<"$out")" "sgm match LEFT RIGHT CALIB OUT [strips=N] [workers=N] [peak=N] [fill=N]"
 help=$out
 started -h
 is "status of -h" "$status" 0

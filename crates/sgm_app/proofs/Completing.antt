@@ -10,6 +10,7 @@ use Rattle.sgm_io.specs.Counts.{Rose}
 use Rattle.sgm_pgm.specs.declared.fault.PgmFault.{PgmFault}
 use Rattle.sgm_calib.specs.Calibration.{Calibration}
 use Rattle.sgm_calib.specs.declared.keys.CalibFault.{CalibFault}
+use Rattle.sgm_refine.specs.Refining.{Refining}
 use Rattle.sgm_words.specs.Operands.{Operands, is_plain, IsInputName, IsOutputName}
 use Rattle.sgm_words.specs.declared.usage.UsageFault.{UsageFault}
 use Rattle.sgm_words.specs.declared.options.Options.{Options}
@@ -60,13 +61,13 @@ proper_calib_fetched : (asked : Operands) (plain : Bool) (held : Option (List �
 proper_calib_fetched asked true held next later = later
 proper_calib_fetched asked false held next later = proper_fetched asked input.Calibration held next later
 
-proper_matched : (asked : Operands) (held : Held) (r : Readings) → IsProper asked (matched asked held r)
+proper_matched : (asked : Operands) (refine : Refining) (held : Held) (r : Readings) → IsProper asked (matched asked refine held r)
 unfolding matched
-proper_matched asked held r =
+proper_matched asked refine held r =
     proper_fetched asked input.Left (held asked.left) _ (
     proper_fetched asked input.Right (held asked.right) _ (
     proper_calib_fetched asked (is_plain asked) (held asked.calib) _ (
-    proper_judged asked (texts_for r.left r.right (calib_of asked r)))))
+    proper_judged asked (texts_for r.left r.right (calib_of asked r) refine))))
 
 proper_demoed : (asked : Operands) (wanted : Result (List ℕ) Refusal) → IsProper asked (unless_refused wanted (λ summary. files [] summary))
 proper_demoed asked (Err refusal) = proper_none asked (refused refusal) refl
@@ -77,8 +78,8 @@ proper_along asked v w same is = let P : Verdict → Type 0 = λ x. IsProper ask
 
 pub proper_verdict : (read : Result Options UsageFault) (asked : Operands) (held : Held) (v : Verdict) → ReadCallsFor read asked held v → IsProper asked v
 proper_verdict (Err fault) asked held v calls = proper_along asked _ v calls (proper_none asked (usage fault) refl)
-proper_verdict (Ok (options.Match strips workers)) asked held v calls = proper_along asked _ v calls.is (proper_matched asked held calls.readings)
-proper_verdict (Ok (options.Demo number strips workers)) asked held v calls = proper_along asked _ v calls (proper_demoed asked (demo_for number))
+proper_verdict (Ok (options.Match strips workers refine)) asked held v calls = proper_along asked _ v calls.is (proper_matched asked refine held calls.readings)
+proper_verdict (Ok (options.Demo number strips workers refine)) asked held v calls = proper_along asked _ v calls (proper_demoed asked (demo_for number refine))
 
 -- an output has one name
 one_name : (asked : Operands) (output : Output) (a b : List ℕ) → IsOutputName asked output a → IsOutputName asked output b → a ≡ b
@@ -190,8 +191,8 @@ at_calib asked held l r own left right none = record {
   some input.Right name lt is = none_differs (held name) r (ap (λ (n : List ℕ). held n) is ∙ right)
   some input.Calibration name lt is = absurd (omega arith)
 
-no_more : (out : List ℕ) (left right : Result Picture PgmFault) (calib : Result Calibration CalibFault) (which : Input) → judged out left right calib ≡ absent which → ⊥
-no_more out left right calib which e = (none_judged 3 out left right calib).present which (below which) e
+no_more : (out : List ℕ) (left right : Result Picture PgmFault) (calib : Result Calibration CalibFault) (refine : Refining) (which : Input) → judged out left right calib refine ≡ absent which → ⊥
+no_more out left right calib refine which e = (none_judged 3 out left right calib refine).present which (below which) e
   where
     below : (i : Input) → order_of i < 3
     below input.Left = omega arith
@@ -199,10 +200,10 @@ no_more out left right calib which e = (none_judged 3 out left right calib).pres
     below input.Calibration = omega arith
 
 -- the absent input of a match is the first that isn't held
-pub first_absent : (asked : Operands) (held : Held) (r : Readings) (which : Input) → matched asked held r ≡ absent which → IsFirstAbsent asked held which
+pub first_absent : (asked : Operands) (refine : Refining) (held : Held) (r : Readings) (which : Input) → matched asked refine held r ≡ absent which → IsFirstAbsent asked held which
 unfolding matched
-first_absent asked held r which e =
-    let last = judged asked.out r.left r.right (calib_of asked r) in
+first_absent asked refine held r which e =
+    let last = judged asked.out r.left r.right (calib_of asked r) refine in
     let third = calib_fetched (is_plain asked) (held asked.calib) last in
     let second = fetched input.Right (held asked.right) third in
     let P : Input → Type 0 = λ i. IsFirstAbsent asked held i in
@@ -210,16 +211,16 @@ first_absent asked held r which e =
       | here none is ↦ subst P is (at_left asked held none)
       | later l left e' ↦ elim (fetch_absent input.Right (held asked.right) third which e') [
         | here none is ↦ subst P is (at_right asked held l left none)
-        | later r' right e'' ↦ third_absent asked held r which l r' left right (is_plain asked) refl e''
+        | later r' right e'' ↦ third_absent asked refine held r which l r' left right (is_plain asked) refl e''
       ]
     ]
   where
-    third_absent : (asked : Operands) (held : Held) (r : Readings) (which : Input) (l r' : List ℕ) → held asked.left ≡ Some l → held asked.right ≡ Some r' → (plain : Bool) → is_plain asked ≡ plain
-        → calib_fetched plain (held asked.calib) (judged asked.out r.left r.right (calib_of asked r)) ≡ absent which → IsFirstAbsent asked held which
-    third_absent asked held r which l r' left right true own e = absurd (no_more asked.out r.left r.right (calib_of asked r) which e)
-    third_absent asked held r which l r' left right false own e = elim (fetch_absent input.Calibration (held asked.calib) (judged asked.out r.left r.right (calib_of asked r)) which e) [
+    third_absent : (asked : Operands) (refine : Refining) (held : Held) (r : Readings) (which : Input) (l r' : List ℕ) → held asked.left ≡ Some l → held asked.right ≡ Some r' → (plain : Bool) → is_plain asked ≡ plain
+        → calib_fetched plain (held asked.calib) (judged asked.out r.left r.right (calib_of asked r) refine) ≡ absent which → IsFirstAbsent asked held which
+    third_absent asked refine held r which l r' left right true own e = absurd (no_more asked.out r.left r.right (calib_of asked r) refine which e)
+    third_absent asked refine held r which l r' left right false own e = elim (fetch_absent input.Calibration (held asked.calib) (judged asked.out r.left r.right (calib_of asked r) refine) which e) [
       | here none is ↦ let P : Input → Type 0 = λ i. IsFirstAbsent asked held i in subst P is (at_calib asked held l r' own left right none)
-      | later bytes there e' ↦ absurd (no_more asked.out r.left r.right (calib_of asked r) which e')
+      | later bytes there e' ↦ absurd (no_more asked.out r.left r.right (calib_of asked r) refine which e')
     ]
 
 -- both names differ, or they are one
@@ -254,14 +255,14 @@ SummaryAlone (ReadFault i) = Unit {0}
 SummaryAlone NoMemory = Unit {0}
 
 -- a demo that touches no file leaves them as they should stand
-pub demo_put : (number : ℕ) (v : Verdict) (outcome : Outcome) (old : Held) → demoed number ≡ v → SummaryAlone outcome → FilesPut outcome v old old
-demo_put number v Done old is only = let none : outputs_of v ≡ [] = sym (ap (λ (x : Verdict). outputs_of x) is) ∙ demo_files (demo_for number) in rw none refl
-demo_put number v (Usage fault) old is only = refl
-demo_put number v (Refused refusal) old is only = refl
-demo_put number v (ReadFault i) old is only = refl
-demo_put number v (WriteFault output) old is only =
-    let none : outputs_of v ≡ [] = sym (ap (λ (x : Verdict). outputs_of x) is) ∙ demo_files (demo_for number) in inr (only, rw none refl)
-demo_put number v NoMemory old is only = inl refl
+pub demo_put : (number : ℕ) (refine : Refining) (v : Verdict) (outcome : Outcome) (old : Held) → demoed number refine ≡ v → SummaryAlone outcome → FilesPut outcome v old old
+demo_put number refine v Done old is only = let none : outputs_of v ≡ [] = sym (ap (λ (x : Verdict). outputs_of x) is) ∙ demo_files (demo_for number refine) in rw none refl
+demo_put number refine v (Usage fault) old is only = refl
+demo_put number refine v (Refused refusal) old is only = refl
+demo_put number refine v (ReadFault i) old is only = refl
+demo_put number refine v (WriteFault output) old is only =
+    let none : outputs_of v ≡ [] = sym (ap (λ (x : Verdict). outputs_of x) is) ∙ demo_files (demo_for number refine) in inr (only, rw none refl)
+demo_put number refine v NoMemory old is only = inl refl
 
 pub summary_alone : (outcome : Outcome) (before now : Faults) → OutCountsShow outcome before now → SummaryAlone outcome
 summary_alone Done before now counts = tt
@@ -284,23 +285,23 @@ at_other asked held v i at before now shown rose is first only = elim (decided r
   | inr other ↦ absurd (only at first.asks.0 rose.name first.asks.1 rose.is_name other rose.reads.rose)
 ]
 
-completes_only : (asked : Operands) (held : Held) (v : Verdict) (outcome : Outcome) (before now : Faults) → MatchCallsFor asked held v → ShownBy v outcome → CountsShow asked outcome before now →
+completes_only : (asked : Operands) (refine : Refining) (held : Held) (v : Verdict) (outcome : Outcome) (before now : Faults) → MatchCallsFor asked refine held v → ShownBy v outcome → CountsShow asked outcome before now →
     (i : Input) → v ≡ absent i → OnlyReadRose asked i before now → IsUnlessMemory outcome (ReadFault i)
-completes_only asked held v Done before now calls shown counts i is only = absurd (no_absent v i shown is)
-completes_only asked held v (Usage fault) before now calls shown counts i is only = absurd counts
-completes_only asked held v (Refused refusal) before now calls shown counts i is only = absurd (cc)
-completes_only asked held v (ReadFault at) before now calls shown counts i is only =
-    inl (ap (λ (x : Input). ReadFault x) (at_other asked held v i at before now shown counts is (first_absent asked held calls.readings i (calls.is ∙ is)) only))
-completes_only asked held v (WriteFault output) before now calls shown counts i is only = absurd (no_absent v i shown is)
-completes_only asked held v NoMemory before now calls shown counts i is only = inr refl
+completes_only asked refine held v Done before now calls shown counts i is only = absurd (no_absent v i shown is)
+completes_only asked refine held v (Usage fault) before now calls shown counts i is only = absurd counts
+completes_only asked refine held v (Refused refusal) before now calls shown counts i is only = absurd (cc)
+completes_only asked refine held v (ReadFault at) before now calls shown counts i is only =
+    inl (ap (λ (x : Input). ReadFault x) (at_other asked held v i at before now shown counts is (first_absent asked refine held calls.readings i (calls.is ∙ is)) only))
+completes_only asked refine held v (WriteFault output) before now calls shown counts i is only = absurd (no_absent v i shown is)
+completes_only asked refine held v NoMemory before now calls shown counts i is only = inr refl
 
-completes : (asked : Operands) (held new : Held) (v : Verdict) (outcome : Outcome) (before now : Faults) → MatchCallsFor asked held v → ShownBy v outcome → FilesStand outcome v held new → CountsShow asked outcome before now →
+completes : (asked : Operands) (refine : Refining) (held new : Held) (v : Verdict) (outcome : Outcome) (before now : Faults) → MatchCallsFor asked refine held v → ShownBy v outcome → FilesStand outcome v held new → CountsShow asked outcome before now →
     IsComplete asked v outcome before now
-completes asked held new v outcome before now calls shown stands counts = record {
-  files = completes_files asked v outcome held new before now (proper_along asked _ v calls.is (proper_matched asked held calls.readings)) shown stands counts;
+completes asked refine held new v outcome before now calls shown stands counts = record {
+  files = completes_files asked v outcome held new before now (proper_along asked _ v calls.is (proper_matched asked refine held calls.readings)) shown stands counts;
   refused_for = completes_refused asked v outcome before now shown counts;
   absent_one = completes_absent asked v outcome before now shown counts;
-  absent_only = completes_only asked held v outcome before now calls shown counts;
+  absent_only = completes_only asked refine held v outcome before now calls shown counts;
 }
 
 completes_demo : (v : Verdict) (outcome : Outcome) (before now : Faults) → ShownBy v outcome → OutCountsShow outcome before now → IsDemoComplete v outcome before now
@@ -318,8 +319,8 @@ completes_demo v NoMemory before now shown counts = record { files = λ is out. 
 pub completes_run : (read : Result Options UsageFault) (asked : Operands) (held new : Held) (v : Verdict) (outcome : Outcome) (before now : Faults) → ReadCallsFor read asked held v → ShownBy v outcome → FilesStand outcome v held new
     → RunCounts read asked outcome before now → RunComplete read asked v outcome before now
 completes_run (Err fault) asked held new v outcome before now calls shown stands counts = tt
-completes_run (Ok (options.Match strips workers)) asked held new v outcome before now calls shown stands counts = completes asked held new v outcome before now calls shown stands counts
-completes_run (Ok (options.Demo number strips workers)) asked held new v outcome before now calls shown stands counts = completes_demo v outcome before now shown counts
+completes_run (Ok (options.Match strips workers refine)) asked held new v outcome before now calls shown stands counts = completes asked refine held new v outcome before now calls shown stands counts
+completes_run (Ok (options.Demo number strips workers refine)) asked held new v outcome before now calls shown stands counts = completes_demo v outcome before now shown counts
 
 -- where no count of the shelf rose there is no fault of a file
 match_no_file : (asked : Operands) (outcome : Outcome) (before now : Faults) → NoneRose before.reads now.reads → NoneRose before.writes now.writes → CountsShow asked outcome before now → IsNoFileFault outcome
@@ -344,5 +345,5 @@ usage_no_file fault outcome e = let P : Outcome → Type 0 = λ o. IsNoFileFault
 
 pub no_file_fault : (read : Result Options UsageFault) (asked : Operands) (outcome : Outcome) (before now : Faults) → NoneRose before.reads now.reads → NoneRose before.writes now.writes → RunCounts read asked outcome before now → IsNoFileFault outcome
 no_file_fault (Err fault) asked outcome before now reads writes counts = usage_no_file fault outcome counts.0
-no_file_fault (Ok (options.Match strips workers)) asked outcome before now reads writes counts = match_no_file asked outcome before now reads writes counts
-no_file_fault (Ok (options.Demo number strips workers)) asked outcome before now reads writes counts = demo_no_file outcome before now counts
+no_file_fault (Ok (options.Match strips workers refine)) asked outcome before now reads writes counts = match_no_file asked outcome before now reads writes counts
+no_file_fault (Ok (options.Demo number strips workers refine)) asked outcome before now reads writes counts = demo_no_file outcome before now counts

@@ -2,6 +2,7 @@
 use Rattle.std.proofs.Common.{◌≡◌, ◌∙◌, sym, ap, subst, List, ℕ, Result, Ok}
 use Rattle.sgm_io.specs.Held.{Held}
 use Rattle.sgm_io.specs.Unfinished.{NameSet}
+use Rattle.sgm_refine.specs.Refining.{Refining}
 use Rattle.sgm_words.specs.Operands.{Operands}
 use Rattle.sgm_outcome.specs.declared.outcome.Outcome.{Outcome}
 use Rattle.sgm_outcome.specs.declared.outcome.Refusal.{Refusal}
@@ -12,9 +13,9 @@ use Rattle.sgm_app.specs.Verdict.{Verdict, files, unless_refused, texts_for, cal
 use Rattle.sgm_app.specs.Unfinished.{AreFinished}
 use Rattle.sgm_app.specs.Deliver.{FilesPut}
 
-pub delivered : (asked : Operands) (held : Held) (r : Readings) (v : Verdict) (made : Texts) (outputs : List OutputFile) (summary : List ℕ) → matched asked held r ≡ v
-    → matched asked held r ≡ judged asked.out r.left r.right (calib_of asked r) → texts_for r.left r.right (calib_of asked r) ≡ Ok made → outputs ≡ files_of asked.out made → summary ≡ made.summary → files outputs summary ≡ v
-delivered asked held r v made outputs summary is goes texts named summed =
+pub delivered : (asked : Operands) (refine : Refining) (held : Held) (r : Readings) (v : Verdict) (made : Texts) (outputs : List OutputFile) (summary : List ℕ) → matched asked refine held r ≡ v
+    → matched asked refine held r ≡ judged asked.out r.left r.right (calib_of asked r) refine → texts_for r.left r.right (calib_of asked r) refine ≡ Ok made → outputs ≡ files_of asked.out made → summary ≡ made.summary → files outputs summary ≡ v
+delivered asked refine held r v made outputs summary is goes texts named summed =
     ap (λ (o : List OutputFile). files o summary) named
     ∙ ap (λ (s : List ℕ). files (files_of asked.out made) s) summed
     ∙ sym (ap (λ (w : Result Texts Refusal). unless_refused w (λ t. files (files_of asked.out t) t.summary)) texts)

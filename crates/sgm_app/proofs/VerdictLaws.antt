@@ -5,6 +5,7 @@ use Rattle.sgm_base.specs.declared.side.Side.TheVariants as side
 use Rattle.sgm_pgm.specs.declared.fault.PgmFault.{PgmFault}
 use Rattle.sgm_calib.specs.Calibration.{Calibration}
 use Rattle.sgm_calib.specs.declared.keys.CalibFault.{CalibFault}
+use Rattle.sgm_refine.specs.Refining.{Refining}
 use Rattle.sgm_job.specs.Survey.{surveyed}
 use Rattle.sgm_job.specs.declared.job.SurveyFault.{SurveyFault}
 use Rattle.sgm_job.specs.declared.job.SurveyFault.TheVariants as fault
@@ -33,13 +34,13 @@ never_survey (fault.SizesDiffer a b) i e = absurd (cc)
 never_survey (fault.VolumeTooLarge cells) i e = absurd (cc)
 never_survey (fault.Warp s found) i e = absurd (cc)
 
-never_texts : (left right : Result Picture PgmFault) (calib : Result Calibration CalibFault) → NeverTooLong (texts_for left right calib)
+never_texts : (left right : Result Picture PgmFault) (calib : Result Calibration CalibFault) (refine : Refining) → NeverTooLong (texts_for left right calib refine)
 unfolding texts_for
-never_texts left right calib =
+never_texts left right calib refine =
     never_step (or_refused (Pgm side.Left) left) _ (never_refused (Pgm side.Left) left (λ f i e. absurd (cc))) (λ a.
     never_step (or_refused (Pgm side.Right) right) _ (never_refused (Pgm side.Right) right (λ f i e. absurd (cc))) (λ b.
     never_step (or_refused Calib calib) _ (never_refused Calib calib (λ f i e. absurd (cc))) (λ c.
-    never_step (or_refused refusal_of (surveyed a b c)) _ (never_refused refusal_of (surveyed a b c) never_survey) (λ survey i e. absurd (cc)))))
+    never_step (or_refused refusal_of (surveyed a b c refine)) _ (never_refused refusal_of (surveyed a b c refine) never_survey) (λ survey i e. absurd (cc)))))
 
 -- ---- from the last step back to the first
 
@@ -53,9 +54,9 @@ none_unless {T} n (Err refusal) next never later = record {
   fit = λ i lt e. let same : refusal ≡ TooLong i = cc in never i (ap (λ (r : Refusal). let wanted : Result T Refusal = Err r in wanted) same);
 }
 
-pub none_judged : (n : ℕ) (out : List ℕ) (left right : Result Picture PgmFault) (calib : Result Calibration CalibFault) → NoneBefore n (judged out left right calib)
-none_judged n out left right calib =
-    none_unless n (texts_for left right calib) _ (never_texts left right calib) (λ texts. record { present = λ i lt e. (cc); fit = λ i lt e. (cc) })
+pub none_judged : (n : ℕ) (out : List ℕ) (left right : Result Picture PgmFault) (calib : Result Calibration CalibFault) (refine : Refining) → NoneBefore n (judged out left right calib refine)
+none_judged n out left right calib refine =
+    none_unless n (texts_for left right calib refine) _ (never_texts left right calib refine) (λ texts. record { present = λ i lt e. (cc); fit = λ i lt e. (cc) })
 
 -- a step that fetches an input none of whose order comes before n
 pub none_fetched : (n : ℕ) (i : Input) (held : Option (List ℕ)) (next : Verdict) → n ≤ order_of i → NoneBefore n next → NoneBefore n (fetched i held next)

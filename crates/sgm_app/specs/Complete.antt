@@ -50,8 +50,8 @@ pub record IsDemoComplete (verdict : Verdict) (outcome : Outcome) (before now : 
 -- over the words, whose faults have a clause of their own
 abbrev pub RunComplete : Result Options UsageFault → Operands → Verdict → Outcome → Faults → Faults → Type 0
 RunComplete (Err fault) asked verdict outcome before now = ⊤
-RunComplete (Ok (options.Match strips workers)) asked verdict outcome before now = IsComplete asked verdict outcome before now
-RunComplete (Ok (options.Demo number strips workers)) asked verdict outcome before now = IsDemoComplete verdict outcome before now
+RunComplete (Ok (options.Match strips workers refine)) asked verdict outcome before now = IsComplete asked verdict outcome before now
+RunComplete (Ok (options.Demo number strips workers refine)) asked verdict outcome before now = IsDemoComplete verdict outcome before now
 
 -- no fault of reading, and none of writing a file
 abbrev pub IsNoFileFault : Outcome → Type 0

@@ -150,15 +150,15 @@ OutCountsShow NoMemory before now = SameFaults before now
 -- over the words: a fault of the words is the outcome, and no count changed
 abbrev pub RunCounts : Result Options UsageFault → Operands → Outcome → Faults → Faults → Type 0
 RunCounts (Err fault) asked outcome before now = (outcome ≡ Usage fault) × SameFaults before now
-RunCounts (Ok (options.Match strips workers)) asked outcome before now = CountsShow asked outcome before now
-RunCounts (Ok (options.Demo number strips workers)) asked outcome before now = OutCountsShow outcome before now
+RunCounts (Ok (options.Match strips workers refine)) asked outcome before now = CountsShow asked outcome before now
+RunCounts (Ok (options.Demo number strips workers refine)) asked outcome before now = OutCountsShow outcome before now
 
 -- which name is being written after an outcome: after Done of a match none; where a file was not written to its
 -- end, it isn't said; else the one that was being written before
 abbrev pub RunWriting : Result Options UsageFault → Outcome → Option (List ℕ) → Option (List ℕ) → Type 0
 RunWriting (Err fault) outcome old new = new ≡ old
-RunWriting (Ok (options.Match strips workers)) outcome old new = WritingStands outcome old new
-RunWriting (Ok (options.Demo number strips workers)) outcome old new = new ≡ old
+RunWriting (Ok (options.Match strips workers refine)) outcome old new = WritingStands outcome old new
+RunWriting (Ok (options.Demo number strips workers refine)) outcome old new = new ≡ old
 
 -- a stage over the shelf alone: at Ok no count changed; a stop is shown by the counts, whatever `out` has counted
 abbrev pub StageCounts : {T S : Type 0} → (S → Faults → Faults → Type 0) → Result T S → Counts → Counts → Counts → Counts → Type 0

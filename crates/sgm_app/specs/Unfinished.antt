@@ -32,5 +32,5 @@ UnfinishedStands asked NoMemory old new = LeavesUnfinished asked (λ name. (outp
 -- the same over the words: where no file is written, those that were unfinished are
 abbrev pub RunUnfinished : Result Options UsageFault → Operands → Outcome → NameSet → NameSet → Type 0
 RunUnfinished (Err fault) asked outcome old new = new ≡ old
-RunUnfinished (Ok (options.Match strips workers)) asked outcome old new = UnfinishedStands asked outcome old new
-RunUnfinished (Ok (options.Demo number strips workers)) asked outcome old new = new ≡ old
+RunUnfinished (Ok (options.Match strips workers refine)) asked outcome old new = UnfinishedStands asked outcome old new
+RunUnfinished (Ok (options.Demo number strips workers refine)) asked outcome old new = new ≡ old

@@ -7,6 +7,7 @@ use Rattle.sgm_io.specs.Held.{Held}
 use Rattle.sgm_pgm.specs.declared.fault.PgmFault.{PgmFault}
 use Rattle.sgm_calib.specs.Calibration.{Calibration, plain}
 use Rattle.sgm_calib.specs.declared.keys.CalibFault.{CalibFault}
+use Rattle.sgm_refine.specs.Refining.{Refining}
 use Rattle.sgm_job.specs.Survey.{surveyed}
 use Rattle.sgm_job.specs.declared.job.SurveyFault.{SurveyFault}
 use Rattle.sgm_job.specs.declared.job.SurveyFault.TheVariants as fault
@@ -70,19 +71,19 @@ refusal_of (fault.SizesDiffer left right) = SizesDiffer left right
 refusal_of (fault.VolumeTooLarge cells) = VolumeTooLarge cells
 refusal_of (fault.Warp side found) = Warp side found
 
--- the texts that inputs with these readings call for, or their first refusal
-unfoldable pub texts_for : Result Picture PgmFault → Result Picture PgmFault → Result Calibration CalibFault → Result Texts Refusal
-texts_for left right calib = do
+-- the texts that inputs with these readings call for, their map being refined so, or their first refusal
+unfoldable pub texts_for : Result Picture PgmFault → Result Picture PgmFault → Result Calibration CalibFault → Refining → Result Texts Refusal
+texts_for left right calib refine = do
   a ← or_refused (Pgm side.Left) left
   b ← or_refused (Pgm side.Right) right
   c ← or_refused Calib calib
-  survey ← or_refused refusal_of (surveyed a b c)
+  survey ← or_refused refusal_of (surveyed a b c refine)
   Ok (texts_of c survey)
 
--- the summary that a demo calls for, or its refusal
-unfoldable pub demo_for : ℕ → Result (List ℕ) Refusal
-demo_for number = do
-  survey ← or_refused refusal_of (surveyed (pair_image number side.Left DEMO_WIDTH DEMO_HEIGHT) (pair_image number side.Right DEMO_WIDTH DEMO_HEIGHT) plain)
+-- the summary that a demo calls for, its map being refined so, or its refusal
+unfoldable pub demo_for : ℕ → Refining → Result (List ℕ) Refusal
+demo_for number refine = do
+  survey ← or_refused refusal_of (surveyed (pair_image number side.Left DEMO_WIDTH DEMO_HEIGHT) (pair_image number side.Right DEMO_WIDTH DEMO_HEIGHT) plain refine)
   Ok (demo_text survey.disp)
 
 -- ---- the verdict
@@ -97,20 +98,20 @@ abbrev pub calib_of : Operands → Readings → Result Calibration CalibFault
 calib_of asked readings = if is_plain asked then Ok plain else readings.calib
 
 -- what inputs with these readings call for: their texts under OUT, and the summary
-abbrev pub judged : List ℕ → Result Picture PgmFault → Result Picture PgmFault → Result Calibration CalibFault → Verdict
-judged out left right calib = unless_refused (texts_for left right calib) (λ texts. files (files_of out texts) texts.summary)
+abbrev pub judged : List ℕ → Result Picture PgmFault → Result Picture PgmFault → Result Calibration CalibFault → Refining → Verdict
+judged out left right calib refine = unless_refused (texts_for left right calib refine) (λ texts. files (files_of out texts) texts.summary)
 
 -- what a match calls for
-unfoldable pub matched : Operands → Held → Readings → Verdict
-matched asked held readings =
+unfoldable pub matched : Operands → Refining → Held → Readings → Verdict
+matched asked refine held readings =
     fetched input.Left (held asked.left) (
     fetched input.Right (held asked.right) (
     calib_fetched (is_plain asked) (held asked.calib) (
-    judged asked.out readings.left readings.right (calib_of asked readings))))
+    judged asked.out readings.left readings.right (calib_of asked readings) refine)))
 
 -- what a demo calls for
-abbrev pub demoed : ℕ → Verdict
-demoed number = unless_refused (demo_for number) (λ summary. files [] summary)
+abbrev pub demoed : ℕ → Refining → Verdict
+demoed number refine = unless_refused (demo_for number refine) (λ summary. files [] summary)
 
 -- the files that are to be written
 abbrev pub outputs_of : Verdict → List OutputFile

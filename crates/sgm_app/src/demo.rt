@@ -12,7 +12,8 @@ use crate::{Outcome, Output, pair};
 use sgm_base::Size;
 use sgm_calib::Calib;
 use sgm_io::{Sink, write_whole};
-use sgm_job::survey;
+use sgm_job::survey_refined;
+use sgm_refine::Refine;
 use sgm_work::Gate;
 use std::alloc::Global;
 use std::thread::Threads;
@@ -23,26 +24,28 @@ pub const DEMO_WIDTH: u32 = 256;
 /// Its height.
 pub const DEMO_HEIGHT: u32 = 192;
 
-// The summary of a demo: the pair that is generated from the number, with the plain settings.
+// The summary of a demo: the pair that is generated from the number, with the plain settings and a map that is
+// refined so.
 fn demo_summary<R: Threads + Sync, G: Gate + Sync>(
     rt: &R,
     alloc: Global,
     number: u32,
     strips: u32,
     workers: u32,
+    refine: Refine,
     gate: &G,
 ) -> Result<String, TextsError>
     requires strips { IsStrips strips }
     requires workers { IsWorkers workers }
     ensures { MatchResult result
-        (λ summary. demo_for number ≡ Ok (string_bytes summary)) (StopsFor (demo_for number)) }
+        (λ summary. demo_for number refine ≡ Ok (string_bytes summary)) (StopsFor (demo_for number refine)) }
 {
     let size = Size {
         width: DEMO_WIDTH,
         height: DEMO_HEIGHT,
     };
     let (left, right) = pair(alloc, size, number)?;
-    let surveyed = survey(
+    let surveyed = survey_refined(
         rt,
         alloc,
         &left,
@@ -50,6 +53,7 @@ fn demo_summary<R: Threads + Sync, G: Gate + Sync>(
         &Calib::plain(),
         strips,
         workers,
+        refine,
         gate,
     )?;
     let summary = demo_text(alloc, &surveyed.disp)?;
@@ -63,17 +67,18 @@ pub fn run_demo<R: Threads + Sync, O: Sink, G: Gate + Sync>(
     number: u32,
     strips: u32,
     workers: u32,
+    refine: Refine,
     out: &mut O,
     gate: &G,
 ) -> Outcome
     requires strips { IsStrips strips }
     requires workers { IsWorkers workers }
-    ensures cause { ShownBy (demoed number) result }
-    ensures out { IsTrue O.tells → OutStands result (demoed number) (O.written out.old) (O.written out.new) }
+    ensures cause { ShownBy (demoed number refine) result }
+    ensures out { IsTrue O.tells → OutStands result (demoed number refine) (O.written out.old) (O.written out.new) }
     ensures untouched { IsTrue O.tells → OutUntouched result (O.written out.old) (O.written out.new) }
     ensures counts { (reads writes : Counts) → OutCountsShow result (faults reads writes (O.faults out.old)) (faults reads writes (O.faults out.new)) }
 {
-    match demo_summary(rt, alloc, number, strips, workers, gate) {
+    match demo_summary(rt, alloc, number, strips, workers, refine, gate) {
         Ok(summary) => match write_whole(out, summary.as_bytes()) {
             Ok(()) => Outcome::Done,
             Err(_) => Outcome::WriteFault(Output::Summary),

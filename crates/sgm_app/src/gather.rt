@@ -1,5 +1,6 @@
 //! Fetching the inputs, in their order.
 ghost use Rattle.std.specs.Prelude.{◌≡◌, IsTrue, MatchResult, IfOk};
+ghost use Rattle.sgm_refine.specs.Refining.{Refining};
 ghost use Rattle.sgm_words.specs.Operands.{is_plain, input_name, IsInputName};
 ghost use Rattle.sgm_app.specs.Ends.{StageCounts, ShownBy};
 ghost use Rattle.sgm_app.specs.Stops.{fetch_outcome};
@@ -84,9 +85,9 @@ pub fn gather<S: Shelf>(
 ) -> Result<Inputs, FetchStop>
     ensures held { IsTrue S.tells → S.held shelf.new ≡ S.held shelf.old }
     ensures at_hand { IsTrue S.tells → IfOk result (λ inputs. AtHand operands.now (S.held shelf.old) inputs) }
-    ensures verdict { IsTrue S.tells → (r : Readings) → MatchResult result
-        (λ _. matched operands.now (S.held shelf.old) r ≡ judged operands.now.out r.left r.right (calib_of operands.now r))
-        (λ stop. ShownBy (matched operands.now (S.held shelf.old) r) (fetch_outcome stop)) }
+    ensures verdict { IsTrue S.tells → (refine : Refining) (r : Readings) → MatchResult result
+        (λ _. matched operands.now refine (S.held shelf.old) r ≡ judged operands.now.out r.left r.right (calib_of operands.now r) refine)
+        (λ stop. ShownBy (matched operands.now refine (S.held shelf.old) r) (fetch_outcome stop)) }
     ensures writing { S.writing shelf.new ≡ S.writing shelf.old }
     ensures unfinished { S.unfinished shelf.new ≡ S.unfinished shelf.old }
     ensures counts { StageCounts (StopCounts operands.now) result

@@ -14,5 +14,6 @@ mod top;
 
 pub use sgm_outcome::{Outcome, Refusal, write_fault};
 pub use sgm_pair::pair;
+pub use sgm_refine::Refine;
 pub use sgm_words::{Input, Options, Output, UsageFault, read_words};
 pub use top::run;

@@ -15,18 +15,21 @@ use crate::judge::{judge_calib, judge_image};
 use crate::stops::TextsError;
 use crate::texts::MadeTexts;
 use sgm_base::Side;
-use sgm_job::survey;
+use sgm_job::survey_refined;
+use sgm_refine::Refine;
 use sgm_work::Gate;
 use std::alloc::Global;
 use std::thread::Threads;
 
-/// The texts that the inputs call for: they are judged, surveyed, and all texts are made.
+/// The texts that the inputs call for: they are judged, surveyed with a map that is refined so, and all texts
+/// are made.
 pub fn texts<R: Threads + Sync, G: Gate + Sync>(
     rt: &R,
     alloc: Global,
     inputs: &Inputs,
     strips: u32,
     workers: u32,
+    refine: Refine,
     gate: &G,
 ) -> Result<MadeTexts, TextsError>
     requires strips { IsStrips strips }
@@ -34,12 +37,14 @@ pub fn texts<R: Threads + Sync, G: Gate + Sync>(
     ensures { (left right : Result Picture PgmFault) (calib : Result Calibration CalibFault)
         → Reads inputs.now.left.items left → Reads inputs.now.right.items right → CalibReads inputs.now.calib calib
         → MatchResult result
-        (λ made. texts_for left right calib ≡ Ok (texts_in made)) (StopsFor (texts_for left right calib)) }
+        (λ made. texts_for left right calib refine ≡ Ok (texts_in made)) (StopsFor (texts_for left right calib refine)) }
 {
     let left = judge_image(alloc, Side::Left, &inputs.left)?;
     let right = judge_image(alloc, Side::Right, &inputs.right)?;
     let calib = judge_calib(alloc, &inputs.calib)?;
-    let surveyed = survey(rt, alloc, &left, &right, &calib, strips, workers, gate)?;
+    let surveyed = survey_refined(
+        rt, alloc, &left, &right, &calib, strips, workers, refine, gate,
+    )?;
     let made = MadeTexts::of(alloc, &calib, &surveyed)?;
     Ok(made)
 }

@@ -20,6 +20,7 @@ use crate::gather::gather;
 use crate::pipeline::texts;
 use crate::{Options, Outcome, read_words, write_fault};
 use sgm_io::{Shelf, Sink};
+use sgm_refine::Refine;
 use sgm_words::OperandWords;
 use sgm_work::Gate;
 use std::alloc::Global;
@@ -32,21 +33,22 @@ fn run_match<R: Threads + Sync, S: Shelf, O: Sink, G: Gate + Sync>(
     operands: &OperandWords<'_>,
     strips: u32,
     workers: u32,
+    refine: Refine,
     shelf: &mut S,
     out: &mut O,
     gate: &G,
 ) -> Outcome
     requires strips { IsStrips strips }
     requires workers { IsWorkers workers }
-    ensures cause { IsTrue S.tells → (v : Verdict) → MatchCallsFor operands.now (S.held shelf.old) v → ShownBy v result }
-    ensures files { IsTrue S.tells → (v : Verdict) → MatchCallsFor operands.now (S.held shelf.old) v
+    ensures cause { IsTrue S.tells → (v : Verdict) → MatchCallsFor operands.now refine (S.held shelf.old) v → ShownBy v result }
+    ensures files { IsTrue S.tells → (v : Verdict) → MatchCallsFor operands.now refine (S.held shelf.old) v
         → FilesPut result v (S.held shelf.old) (S.held shelf.new) }
-    ensures out { IsTrue S.tells → IsTrue O.tells → (v : Verdict) → MatchCallsFor operands.now (S.held shelf.old) v
+    ensures out { IsTrue S.tells → IsTrue O.tells → (v : Verdict) → MatchCallsFor operands.now refine (S.held shelf.old) v
         → OutStands result v (O.written out.old) (O.written out.new) }
     ensures untouched { IsTrue O.tells → OutUntouched result (O.written out.old) (O.written out.new) }
     ensures writing { WritingStands result (S.writing shelf.old) (S.writing shelf.new) }
     ensures unfinished { UnfinishedStands operands.now result (S.unfinished shelf.old) (S.unfinished shelf.new) }
-    ensures finished { IsTrue S.tells → (v : Verdict) → MatchCallsFor operands.now (S.held shelf.old) v
+    ensures finished { IsTrue S.tells → (v : Verdict) → MatchCallsFor operands.now refine (S.held shelf.old) v
         → result ≡ Done → AreFinished (outputs_of v) (S.unfinished shelf.new) }
     ensures counts { CountsShow operands.now result
         (faults (S.read_faults shelf.old) (S.write_faults shelf.old) (O.faults out.old))
@@ -56,7 +58,7 @@ fn run_match<R: Threads + Sync, S: Shelf, O: Sink, G: Gate + Sync>(
         Ok(inputs) => inputs,
         Err(stop) => return stop.outcome(),
     };
-    let texts = match texts(rt, alloc, &inputs, strips, workers, gate) {
+    let texts = match texts(rt, alloc, &inputs, strips, workers, refine, gate) {
         Ok(texts) => texts,
         Err(error) => return error.outcome(),
     };
@@ -90,23 +92,29 @@ fn carry_out<R: Threads + Sync, S: Shelf, O: Sink, G: Gate + Sync>(
         (faults (S.read_faults shelf.new) (S.write_faults shelf.new) (O.faults out.new)) }
 {
     match read_words(words) {
-        Ok(Options::Match { strips, workers }) => run_match(
-            rt,
-            alloc,
-            &OperandWords::of(words),
-            strips,
-            workers,
-            shelf,
-            out,
-            gate,
-        ),
-        Ok(
+        Ok(options) => match options {
+            Options::Match {
+                strips,
+                workers,
+                refine,
+            } => run_match(
+                rt,
+                alloc,
+                &OperandWords::of(words),
+                strips,
+                workers,
+                refine,
+                shelf,
+                out,
+                gate,
+            ),
             Options::Demo {
                 number,
                 strips,
                 workers,
-            },
-        ) => run_demo(rt, alloc, number, strips, workers, out, gate),
+                refine,
+            } => run_demo(rt, alloc, number, strips, workers, refine, out, gate),
+        },
         Err(fault) => Outcome::Usage(fault),
     }
 }
@@ -114,8 +122,8 @@ fn carry_out<R: Threads + Sync, S: Shelf, O: Sink, G: Gate + Sync>(
 /// The tool: from the words after the program's name to the files, the summary and the line of the
 /// outcome. So many workers as the words say match the images, each in a thread of its own where one can
 /// be made, and come to the gate with each strip that they claim; whatever their steps and their order,
-/// each clause stands. Clauses on files stand where the shelf tells its bytes, those on what `out` and
-/// `err` have received where these do.
+/// each clause stands. What is written is of the map of disparities, refined as the words say. Clauses on
+/// files stand where the shelf tells its bytes, those on what `out` and `err` have received where these do.
 pub fn run<R: Threads + Sync, S: Shelf, O: Sink, E: Sink, G: Gate + Sync>(
     rt: &R,
     alloc: Global,

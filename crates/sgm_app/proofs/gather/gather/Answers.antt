@@ -9,35 +9,35 @@ use Rattle.sgm_app.proofs.gather.gather.Goals as goal
 
 pub returns-in-Err-clause-verdict : goal.returns-in-Err-clause-verdict
 unfolding matched
-returns-in-Err-clause-verdict g c = λ told r. c.in-Err.ensures.bytes told _ (none_zero _)
+returns-in-Err-clause-verdict g c = λ told refine r. c.in-Err.ensures.bytes told _ (none_zero _)
 
 pub returns-in-Err-fetch_input-clause-verdict : goal.returns-in-Err-fetch_input-clause-verdict
 unfolding matched
-returns-in-Err-fetch_input-clause-verdict g c = λ told r.
+returns-in-Err-fetch_input-clause-verdict g c = λ told refine r.
     let asked = c.args.operands.now in let held = g.S.Shelf.held c.args.shelf.now in
-    let last = judged asked.out r.left r.right (calib_of asked r) in
+    let last = judged asked.out r.left r.right (calib_of asked r) refine in
     let next = calib_fetched (is_plain asked) (held asked.calib) last in
     shown_along _ _ _
     ((c.in-Ok.ensures.bytes told).1 _ ∙ ap (λ (h : Held). fetched input.Right (h asked.right) next) (sym (c.in-Ok.ensures.held told)))
-    (c.in-Err-fetch_input.ensures.bytes told next (none_calib_fetched 1 (is_plain asked) (held asked.calib) last (omega arith) (none_judged 1 asked.out r.left r.right (calib_of asked r))))
+    (c.in-Err-fetch_input.ensures.bytes told next (none_calib_fetched 1 (is_plain asked) (held asked.calib) last (omega arith) (none_judged 1 asked.out r.left r.right (calib_of asked r) refine)))
 
 pub returns-in-Err-fetch_calib-clause-verdict : goal.returns-in-Err-fetch_calib-clause-verdict
 unfolding matched
-returns-in-Err-fetch_calib-clause-verdict g c = λ told r.
+returns-in-Err-fetch_calib-clause-verdict g c = λ told refine r.
     let asked = c.args.operands.now in let held = g.S.Shelf.held c.args.shelf.now in
-    let last = judged asked.out r.left r.right (calib_of asked r) in
+    let last = judged asked.out r.left r.right (calib_of asked r) refine in
     let next = calib_fetched (is_plain asked) (held asked.calib) last in
     let kept = c.in-Ok-fetch_input.ensures.held told ∙ c.in-Ok.ensures.held told in
     shown_along _ _ _
     ((c.in-Ok.ensures.bytes told).1 _ ∙ ap (λ (h : Held). fetched input.Right (h asked.right) next) (sym (c.in-Ok.ensures.held told))
     ∙ (c.in-Ok-fetch_input.ensures.bytes told).1 next ∙ ap (λ (h : Held). calib_fetched (is_plain asked) (h asked.calib) last) (sym kept))
-    (c.in-Err-fetch_calib.ensures.bytes told last (none_judged 2 asked.out r.left r.right (calib_of asked r)))
+    (c.in-Err-fetch_calib.ensures.bytes told last (none_judged 2 asked.out r.left r.right (calib_of asked r) refine))
 
 pub returns-in-Ok-fetch_calib-clause-verdict : goal.returns-in-Ok-fetch_calib-clause-verdict
 unfolding matched
-returns-in-Ok-fetch_calib-clause-verdict g c = λ told r.
+returns-in-Ok-fetch_calib-clause-verdict g c = λ told refine r.
     let asked = c.args.operands.now in let held = g.S.Shelf.held c.args.shelf.now in
-    let last = judged asked.out r.left r.right (calib_of asked r) in
+    let last = judged asked.out r.left r.right (calib_of asked r) refine in
     let next = calib_fetched (is_plain asked) (held asked.calib) last in
     let kept = c.in-Ok-fetch_input.ensures.held told ∙ c.in-Ok.ensures.held told in
     (c.in-Ok.ensures.bytes told).1 _ ∙ ap (λ (h : Held). fetched input.Right (h asked.right) next) (sym (c.in-Ok.ensures.held told))

@@ -17,19 +17,19 @@ along a b r same reads = let P : List ℕ → Type 0 = λ bytes. Reads bytes r i
 pub returns-in_err-left : goal.returns-in_err-left
 returns-in_err-left g c = λ left right calib on_left on_right on_calib.
     handed_on _ _ c.from_residual.result c.in_err-left.field-0.0 c.from_residual.ensures.1
-    (stop_left left right calib c.in_err-left.field-0.0 (c.in_err-left.ensures left (along _ _ left c.deref.ensures.value on_left)))
+    (stop_left left right calib c.args.refine c.in_err-left.field-0.0 (c.in_err-left.ensures left (along _ _ left c.deref.ensures.value on_left)))
 
 pub returns-in_err-right : goal.returns-in_err-right
 returns-in_err-right g c = λ left right calib on_left on_right on_calib.
     handed_on _ _ c.from_residual-in_err-right.result c.in_err-right.field-0.0 c.from_residual-in_err-right.ensures.1
-    (stop_right left right calib c.in_err-right.field-0.0 c.in_ok-left.left
+    (stop_right left right calib c.args.refine c.in_err-right.field-0.0 c.in_ok-left.left
     (c.in_ok-left.ensures left (along _ _ left c.deref.ensures.value on_left))
     (c.in_err-right.ensures right (along _ _ right c.deref-2.ensures.value on_right)))
 
 pub returns-in_err-calib : goal.returns-in_err-calib
 returns-in_err-calib g c = λ left right calib on_left on_right on_calib.
     handed_on _ _ c.from_residual-in_err-calib.result c.in_err-calib.field-0.0 c.from_residual-in_err-calib.ensures.1
-    (stop_calib left right calib c.in_err-calib.field-0.0 c.in_ok-left.left c.in_ok-right.right
+    (stop_calib left right calib c.args.refine c.in_err-calib.field-0.0 c.in_ok-left.left c.in_ok-right.right
     (c.in_ok-left.ensures left (along _ _ left c.deref.ensures.value on_left))
     (c.in_ok-right.ensures right (along _ _ right c.deref-2.ensures.value on_right))
     (c.in_err-calib.ensures calib on_calib))
@@ -37,18 +37,18 @@ returns-in_err-calib g c = λ left right calib on_left on_right on_calib.
 pub returns-in_err-surveyed : goal.returns-in_err-surveyed
 returns-in_err-surveyed g c = λ left right calib on_left on_right on_calib.
     handed_on _ _ c.from_residual-in_err-surveyed.result (survey_stop c.in_err-surveyed.field-0.0) c.from_residual-in_err-surveyed.ensures.1
-    (stop_survey left right calib (survey_stop c.in_err-surveyed.field-0.0) c.in_ok-left.left c.in_ok-right.right c.in_ok-calib.calib
+    (stop_survey left right calib c.args.refine (survey_stop c.in_err-surveyed.field-0.0) c.in_ok-left.left c.in_ok-right.right c.in_ok-calib.calib
     (c.in_ok-left.ensures left (along _ _ left c.deref.ensures.value on_left))
     (c.in_ok-right.ensures right (along _ _ right c.deref-2.ensures.value on_right))
     (c.in_ok-calib.ensures calib on_calib)
     (survey_stops _ c.in_err-surveyed.field-0.0 c.in_err-surveyed.ensures.exact))
 
 pub of-requires-clause-tallies : goal.of-requires-clause-tallies
-of-requires-clause-tallies g c = tallied c.in_ok-left.left c.in_ok-right.right c.in_ok-calib.calib (seen c.in_ok-surveyed.surveyed) c.in_ok-surveyed.ensures.exact
+of-requires-clause-tallies g c = tallied c.in_ok-left.left c.in_ok-right.right c.in_ok-calib.calib c.args.refine (seen c.in_ok-surveyed.surveyed) c.in_ok-surveyed.ensures.exact
 
 pub returns : goal.returns
 returns g c = λ left right calib on_left on_right on_calib.
-    texts_made left right calib c.in_ok-left.left c.in_ok-right.right c.in_ok-calib.calib (seen c.in_ok-surveyed.surveyed)
+    texts_made left right calib c.args.refine c.in_ok-left.left c.in_ok-right.right c.in_ok-calib.calib (seen c.in_ok-surveyed.surveyed)
     (c.in_ok-left.ensures left (along _ _ left c.deref.ensures.value on_left))
     (c.in_ok-right.ensures right (along _ _ right c.deref-2.ensures.value on_right))
     (c.in_ok-calib.ensures calib on_calib)

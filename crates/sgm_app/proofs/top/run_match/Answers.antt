@@ -9,14 +9,14 @@ use Rattle.sgm_app.proofs.top.run_match.Goals as goal
 
 pub returns-in-Err-clause-cause : goal.returns-in-Err-clause-cause
 returns-in-Err-clause-cause g c = λ told v calls.
-    rw c.outcome.ensures (shown_along v _ _ (sym calls.is) (c.in-Err.ensures.verdict told calls.readings))
+    rw c.outcome.ensures (shown_along v _ _ (sym calls.is) (c.in-Err.ensures.verdict told c.args.refine calls.readings))
 
 pub returns-in-Err-texts-clause-cause : goal.returns-in-Err-texts-clause-cause
 returns-in-Err-texts-clause-cause g c = λ told v calls.
     let asked = c.args.operands.now in let r = calls.readings in let are = calls.are_readings in
     let at = c.in-Ok.ensures.at_hand told in
-    rw c.outcome-in-Err-texts.ensures (shown_along v _ _ (sym calls.is ∙ c.in-Ok.ensures.verdict told r)
-    (stop_shown (texts_for r.left r.right (calib_of asked r)) (λ t. files (files_of asked.out t) t.summary) c.in-Err-texts.error
+    rw c.outcome-in-Err-texts.ensures (shown_along v _ _ (sym calls.is ∙ c.in-Ok.ensures.verdict told c.args.refine r)
+    (stop_shown (texts_for r.left r.right (calib_of asked r) c.args.refine) (λ t. files (files_of asked.out t) t.summary) c.in-Err-texts.error
     (c.in-Err-texts.ensures r.left r.right (calib_of asked r) (image_reads _ _ r.left at.left are.left) (image_reads _ _ r.right at.right are.right) (calib_reads _ _ r c.in-Ok.inputs at are))))
 
 pub returns-in-Ok-name_texts-clause-files : goal.returns-in-Ok-name_texts-clause-files
@@ -24,7 +24,7 @@ returns-in-Ok-name_texts-clause-files g c = λ told v calls.
     let asked = c.args.operands.now in let r = calls.readings in let are = calls.are_readings in
     let at = c.in-Ok.ensures.at_hand told in
     put_along c.deliver.result v _ _ _ _
-    (delivered asked _ r v (texts_in c.in-Ok-texts.texts) _ _ calls.is (c.in-Ok.ensures.verdict told r)
+    (delivered asked c.args.refine _ r v (texts_in c.in-Ok-texts.texts) _ _ calls.is (c.in-Ok.ensures.verdict told c.args.refine r)
     (c.in-Ok-texts.ensures r.left r.right (calib_of asked r) (image_reads _ _ r.left at.left are.left) (image_reads _ _ r.right at.right are.right) (calib_reads _ _ r c.in-Ok.inputs at are))
     c.in-Ok-name_texts.ensures.files c.in-Ok-name_texts.ensures.summary)
     (c.in-Ok.ensures.held told) (c.deliver.ensures.files told)
@@ -34,7 +34,7 @@ returns-in-Ok-name_texts-clause-finished g c = λ told v calls done.
     let asked = c.args.operands.now in let r = calls.readings in let are = calls.are_readings in
     let at = c.in-Ok.ensures.at_hand told in
     finished_along v (files c.in-Ok-name_texts.delivery.files.items c.in-Ok-name_texts.delivery.summary.items) _
-    (delivered asked _ r v (texts_in c.in-Ok-texts.texts) _ _ calls.is (c.in-Ok.ensures.verdict told r)
+    (delivered asked c.args.refine _ r v (texts_in c.in-Ok-texts.texts) _ _ calls.is (c.in-Ok.ensures.verdict told c.args.refine r)
     (c.in-Ok-texts.ensures r.left r.right (calib_of asked r) (image_reads _ _ r.left at.left are.left) (image_reads _ _ r.right at.right are.right) (calib_reads _ _ r c.in-Ok.inputs at are))
     c.in-Ok-name_texts.ensures.files c.in-Ok-name_texts.ensures.summary)
     (c.deliver.ensures.finished done)
