@@ -1,6 +1,7 @@
 //! What no clause says of strips, boards and workers, by the worked example: three rows of five pixels.
 mod boards;
 mod gates;
+mod guides;
 mod making;
 mod strips;
 mod sums;

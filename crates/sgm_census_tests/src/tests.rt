@@ -1,7 +1,7 @@
 ghost use Rattle.std.specs.Prelude.{◌≡◌, IfOk};
 
 use sgm_base::{Plane, Size, Span};
-use sgm_census::{CodePlane, Window, codes, cost_row};
+use sgm_census::{CodePlane, Window, codes, cost_at, cost_row};
 use std::alloc::Global;
 use std::test::Fail;
 
@@ -113,6 +113,43 @@ fn costs_of_a_pair(rt: HostRuntime) -> Result<(), Fail> {
     ] {
         assert!(rt; costs_of(&left, &right, 0, y)? == want, "row {y}");
     }
+    Ok(())
+}
+
+/// The cost of one place of the two planes, with two disparities; None where it is none.
+fn cost_of(
+    left: &CodePlane,
+    right: &CodePlane,
+    first: i32,
+    place: (u32, u32, u32),
+) -> Result<Option<u8>, Fail> {
+    let (x, y, d) = place;
+    if right.size() != left.size() || right.window() != left.window() {
+        return Err("planes")?;
+    }
+    if x >= left.size().width || y >= left.size().height || d >= 2 {
+        return Ok(None);
+    }
+    Ok(Some(cost_at(left, right, span_of(first, 2)?, x, y, d)))
+}
+
+#[test]
+fn costs_of_single_places(rt: HostRuntime) -> Result<(), Fail> {
+    let left = codes_of_rows(rt.alloc(), &LEFT)?;
+    let right = codes_of_rows(rt.alloc(), &RIGHT)?;
+    for (first, place, want) in [
+        (0, (1, 1, 0), 6),
+        (0, (1, 1, 1), 8),
+        (0, (2, 1, 0), 6),
+        (0, (2, 1, 1), 0),
+        (0, (3, 1, 1), 0),
+        (0, (2, 0, 1), 8),
+        (1, (3, 1, 1), 6),
+        (-1, (4, 1, 0), 8),
+    ] {
+        assert_eq!(rt; cost_of(&left, &right, first, place)?, Some(want));
+    }
+    assert_eq!(rt; cost_of(&left, &right, 0, (5, 1, 0))?, None);
     Ok(())
 }
 

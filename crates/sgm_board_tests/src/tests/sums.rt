@@ -1,4 +1,4 @@
-//! The sums of the worked example.
+//! Sums of a parcel's rows.
 use sgm_strip::Parcel;
 
 /// Whether all directions are done and each row has the sums of the worked example.
@@ -11,6 +11,22 @@ pub(super) fn has_sums(parcel: &Parcel) -> bool {
     for y in top..top + cut.rows(strip) {
         let wanted = if y == 1 { inner } else { outer };
         if parcel.sums_row(y) != wanted.as_slice() {
+            return false;
+        }
+    }
+    parcel.is_complete()
+}
+
+/// Whether all directions are done and each row has the sums that the whole image has there.
+pub(super) fn has_rows(parcel: &Parcel, wanted: &[[u16; 15]; 3]) -> bool {
+    let cut = parcel.cut();
+    let strip = parcel.strip();
+    let top = cut.first(strip);
+    for y in top..top + cut.rows(strip) {
+        let Some(row) = wanted.get(y as usize) else {
+            return false;
+        };
+        if parcel.sums_row(y) != row.as_slice() {
             return false;
         }
     }
