@@ -91,6 +91,7 @@ fn carry_out<R: Threads + Sync, S: Shelf, O: Sink, G: Gate + Sync>(
         (faults (S.read_faults shelf.old) (S.write_faults shelf.old) (O.faults out.old))
         (faults (S.read_faults shelf.new) (S.write_faults shelf.new) (O.faults out.new)) }
 {
+    // A match in a match: one pattern for both that binds `refine` gets no proof.
     match read_words(words) {
         Ok(options) => match options {
             Options::Match {
