@@ -90,15 +90,15 @@ begin version
 started --version
 is status "$status" 0
 is "standard error" "$err" ""
-is version "$out" "sgm, commit unknown, calibration version 1"
+is version "$out" "sgm, commit unknown, calibration versions 1 and 2"
 if has git; then
     git -c init.defaultBranch=one init -q . && git add sgm &&
         git -c user.name=a -c user.email=a@b commit -qm one || exit 1
     started --version
-    is "version of a commit" "$out" "sgm, commit $(git rev-parse --short HEAD), calibration version 1"
+    is "version of a commit" "$out" "sgm, commit $(git rev-parse --short HEAD), calibration versions 1 and 2"
     echo >>sgm
     started --version
-    is "version after a change" "$out" "sgm, commit $(git rev-parse --short HEAD)-dirty, calibration version 1"
+    is "version after a change" "$out" "sgm, commit $(git rev-parse --short HEAD)-dirty, calibration versions 1 and 2"
 fi
 is "builds" "$(calls)" 0
 

@@ -1,5 +1,6 @@
 pub mod Making
 pub mod Passing
 pub mod Pointing
+pub mod Finals
 pub mod Surveying
 pub mod StripRows

@@ -25,7 +25,8 @@ use Rattle.sgm_grid.specs.Cells.{Cells}
 use Rattle.sgm_report.specs.Areas.{Area, IsArea}
 use Rattle.sgm_report.specs.declared.volumes.RegionTally.{RegionTally}
 use Rattle.sgm_job.specs.Heights.{grid_of, highest, points_of}
-use Rattle.sgm_job.specs.Survey.{disparities, tallies_of, cells_of, pair_fault, same_sides, side_fault, Survey, survey_of, surveyed, unless}
+use Rattle.sgm_refine.specs.Refining.{Refining}
+use Rattle.sgm_job.specs.Survey.{final, tallies_of, cells_of, pair_fault, same_sides, side_fault, Survey, survey_of, surveyed, unless}
 
 -- the sides are the same, the volume isn't too large, and both warps suit them
 pub record Passes (left right : Sides) (calib : Calibration) : Type 0 where
@@ -74,17 +75,17 @@ pub sides_are : (sides : Sides) (image : Picture) → sides.width ≡ image.widt
 sides_are sides image ew eh =
     ap (λ w. let s : Sides = record { width = w; height = sides.height } in s) ew ∙ ap (λ h. let s : Sides = record { width = image.width; height = h } in s) eh
 
-pub fault_answered : (left right : Picture) (calib : Calibration) (a b : Sides) (found : SurveyFault) → a ≡ sides_of left → b ≡ sides_of right
-    → Some found ≡ pair_fault a b calib → surveyed left right calib ≡ Err found
+pub fault_answered : (left right : Picture) (calib : Calibration) (refine : Refining) (a b : Sides) (found : SurveyFault) → a ≡ sides_of left → b ≡ sides_of right
+    → Some found ≡ pair_fault a b calib → surveyed left right calib refine ≡ Err found
 unfolding surveyed
-fault_answered left right calib a b found ea eb e =
-    ap (λ o. unless o (survey_of left right calib)) (ap (λ s. pair_fault s (sides_of right) calib) (sym ea) ∙ ap (λ s. pair_fault a s calib) (sym eb) ∙ sym e)
+fault_answered left right calib refine a b found ea eb e =
+    ap (λ o. unless o (survey_of left right calib refine)) (ap (λ s. pair_fault s (sides_of right) calib) (sym ea) ∙ ap (λ s. pair_fault a s calib) (sym eb) ∙ sym e)
 
-pub survey_answered : (left right : Picture) (calib : Calibration) (a b : Sides) (survey : Survey) → a ≡ sides_of left → b ≡ sides_of right
-    → None ≡ pair_fault a b calib → survey ≡ survey_of left right calib → surveyed left right calib ≡ Ok survey
+pub survey_answered : (left right : Picture) (calib : Calibration) (refine : Refining) (a b : Sides) (survey : Survey) → a ≡ sides_of left → b ≡ sides_of right
+    → None ≡ pair_fault a b calib → survey ≡ survey_of left right calib refine → surveyed left right calib refine ≡ Ok survey
 unfolding surveyed
-survey_answered left right calib a b survey ea eb e is =
-    ap (λ o. unless o (survey_of left right calib)) (ap (λ s. pair_fault s (sides_of right) calib) (sym ea) ∙ ap (λ s. pair_fault a s calib) (sym eb) ∙ sym e)
+survey_answered left right calib refine a b survey ea eb e is =
+    ap (λ o. unless o (survey_of left right calib refine)) (ap (λ s. pair_fault s (sides_of right) calib) (sym ea) ∙ ap (λ s. pair_fault a s calib) (sym eb) ∙ sym e)
     ∙ ap (λ (s : Survey). Ok s) (sym is)
 
 -- ---- the parts of a survey
@@ -149,10 +150,10 @@ at_references None regions h = tt
 at_references (Some g) None h = tt
 at_references (Some g) (Some r) h = h
 
-pub survey_is : (left right : Picture) (calib : Calibration) (disp : Values) (grid : Option Cells) (tallies : Option (List RegionTally)) → disp ≡ disparities left right calib
+pub survey_is : (left right : Picture) (calib : Calibration) (refine : Refining) (disp : Values) (grid : Option Cells) (tallies : Option (List RegionTally)) → disp ≡ final left right calib refine
     → grid ≡ grid_of calib.camera calib.grid calib.span.first disp → tallies ≡ tallies_of grid calib.regions
-    → (let survey : Survey = record { disp = disp; grid = grid; tallies = tallies } in survey) ≡ survey_of left right calib
-survey_is left right calib disp grid tallies ed eg et =
+    → (let survey : Survey = record { disp = disp; grid = grid; tallies = tallies } in survey) ≡ survey_of left right calib refine
+survey_is left right calib refine disp grid tallies ed eg et =
     ap (λ t. let survey : Survey = record { disp = disp; grid = grid; tallies = t } in survey) et
     ∙ ap (λ g. let survey : Survey = record { disp = disp; grid = g; tallies = tallies_of g calib.regions } in survey) eg
     ∙ ap (λ d. let survey : Survey = record { disp = d; grid = grid_of calib.camera calib.grid calib.span.first d; tallies = tallies_of (grid_of calib.camera calib.grid calib.span.first d) calib.regions } in survey) ed

@@ -7,8 +7,12 @@ use Rattle.sgm_base.specs.declared.side.Side.TheVariants.{Left, Right}
 use Rattle.sgm_base.specs.Sides.{Sides}
 use Rattle.sgm_base.specs.Picture.{Picture}
 use Rattle.sgm_base.specs.Values.{Values}
+use Rattle.sgm_base.specs.Disparities.{Disparities}
+use Rattle.sgm_energy.specs.Rays.{Problem}
 use Rattle.sgm_census.specs.Matching.{plane_problem}
-use Rattle.sgm_select.specs.Selection.{disparities_of}
+use Rattle.sgm_select.specs.Selection.{disparities_of, matches_of}
+use Rattle.sgm_refine.specs.Refining.{Refining}
+use Rattle.sgm_refine.specs.Refined.{refined}
 use Rattle.sgm_rectify.specs.declared.warp.Warp.{Warp}
 use Rattle.sgm_rectify.specs.Faults.{warp_fault}
 use Rattle.sgm_rectify.specs.Rectified.{rectified_values, sides_of}
@@ -30,16 +34,29 @@ left_plane left calib = rectified_values left calib.left
 abbrev pub right_plane : Picture → Calibration → Values
 right_plane right calib = rectified_values right calib.right
 
+-- the problem of matching them; where the penalties follow the image, it is the left one
+abbrev pub problem : Picture → Picture → Calibration → Problem
+problem left right calib =
+    plane_problem (left_plane left calib) (right_plane right calib) calib.window calib.span calib.penalties left.maxval
+
 -- the disparities of the left image
 abbrev pub disparities : Picture → Picture → Calibration → Values
 disparities left right calib =
-    let a = left_plane left calib in
-    let b = right_plane right calib in
-    disparities_of (plane_problem a b calib.window calib.span calib.penalties.p1 calib.penalties.p2) a b calib.span.first
+    disparities_of (problem left right calib) (left_plane left calib) (right_plane right calib) calib.span.first
+
+-- the disparities of two planes, refined
+abbrev pub refined_disparities : Problem → Values → Values → Disparities → Refining → Values
+refined_disparities g left right span refine =
+    refined (disparities_of g left right span.first) (matches_of g span.first) left span.first span.count refine
+
+-- those of the left image
+abbrev pub final : Picture → Picture → Calibration → Refining → Values
+final left right calib refine =
+    refined_disparities (problem left right calib) (left_plane left calib) (right_plane right calib) calib.span refine
 
 -- ---- what a survey answers
 
--- the disparities, the grid where one is asked for, and the tallies where regions are
+-- the refined disparities, their grid where one is asked for, and its tallies where regions are
 pub record Survey : Type 0 where
   pub disp : Values
   pub grid : Option Cells
@@ -50,10 +67,10 @@ abbrev pub tallies_of : Option Cells → Option (List Area) → Option (List Reg
 tallies_of (Some grid) (Some areas) = Some (map (tally_of grid) areas)
 tallies_of _ _ = None
 
--- the survey of two images
-abbrev pub survey_of : Picture → Picture → Calibration → Survey
-survey_of left right calib =
-    let disp = disparities left right calib in
+-- the survey of two images, with the disparities refined
+abbrev pub survey_of : Picture → Picture → Calibration → Refining → Survey
+survey_of left right calib refine =
+    let disp = final left right calib refine in
     let grid = grid_of calib.camera calib.grid calib.span.first disp in
     record { disp = disp; grid = grid; tallies = tallies_of grid calib.regions }
 
@@ -84,5 +101,5 @@ unless None survey = Ok survey
 unless (Some found) survey = Err found
 
 -- the survey of two images, or the fault of the pair
-unfoldable pub surveyed : Picture → Picture → Calibration → Result Survey SurveyFault
-surveyed left right calib = unless (pair_fault (sides_of left) (sides_of right) calib) (survey_of left right calib)
+unfoldable pub surveyed : Picture → Picture → Calibration → Refining → Result Survey SurveyFault
+surveyed left right calib refine = unless (pair_fault (sides_of left) (sides_of right) calib) (survey_of left right calib refine)

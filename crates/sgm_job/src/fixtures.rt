@@ -61,3 +61,10 @@ pub fn span(alloc: Global, first: i32, count: u32) -> Result<String, Fail> {
         "{{\"version\":1,\"disparities\":{{\"first\":{first},\"count\":{count}}},\"census\":{{\"width\":3,\"height\":3}},\"penalties\":{{\"p1\":1,\"p2\":3}}"
     )?)
 }
+
+/// What the calibration of the worked example begins with in version 2.
+pub fn settings_2(alloc: Global, adapt: bool) -> Result<String, Fail> {
+    Ok(format!(in alloc;
+        "{{\"version\":2,\"disparities\":{{\"first\":0,\"count\":2}},\"census\":{{\"width\":3,\"height\":3}},\"penalties\":{{\"p1\":1,\"p2\":3,\"adapt\":{adapt}}}"
+    )?)
+}

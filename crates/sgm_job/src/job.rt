@@ -3,23 +3,24 @@ ghost use Rattle.sgm_rectify.specs.Warps.{IsWarp};
 ghost use Rattle.sgm_base.specs.Values.{AtMost};
 ghost use Rattle.sgm_base.specs.declared.limits.TheConstants.{MAX_DISPARITY, MAX_STRIPS, MAX_WORKERS};
 ghost use Rattle.sgm_census.specs.Matching.{matching_problem};
-ghost use Rattle.sgm_energy.specs.Pens.{p1_of, p2_of};
-ghost use Rattle.sgm_select.specs.Selection.{disparities_of};
-ghost use Rattle.sgm_job.specs.Survey.{pair_fault, side_fault, surveyed};
+ghost use Rattle.sgm_energy.specs.Pens.{guide_of};
+ghost use Rattle.sgm_refine.specs.Refining.{plain};
+ghost use Rattle.sgm_job.specs.Survey.{pair_fault, refined_disparities, side_fault, surveyed};
 ghost use Rattle.sgm_job.specs.Answers.{Answers};
 
 use crate::heights::heights;
 use crate::matching::complete_parcels;
 use crate::planes::{Coded, prepare_both};
+use crate::refining::refined_map;
 use crate::selecting::select_all;
 use crate::tallies::tallies;
-use sgm_base::{DispMap, Image, MAX_VOLUME, Side, Size, Span};
+use sgm_base::{DispMap, Image, MAX_VOLUME, Side, Size};
 use sgm_calib::Calib;
-use sgm_energy::Pen;
 use sgm_grid::Grid;
 use sgm_rectify::{Warp, WarpFault};
+use sgm_refine::Refine;
 use sgm_report::RegionTally;
-use sgm_strip::Scene;
+use sgm_strip::{Guide, Scene};
 use sgm_work::Gate;
 use std::alloc::{AllocError, Global};
 use std::thread::Threads;
@@ -65,7 +66,7 @@ impl From<AllocError> for SurveyError {
 /// What a survey answers.
 #[derive(Drop)]
 pub struct Surveyed {
-    /// The disparity of each pixel of the left image, less the first, in sixteenths.
+    /// The disparity of each pixel of the left image, less the first, in sixteenths, refined.
     pub disp: DispMap,
     /// The greatest height of each cell, where the calibration has a grid.
     pub grid: Option<Grid>,
@@ -102,16 +103,17 @@ fn pair_fault(left: Size, right: Size, calib: &Calib) -> Option<SurveyFault>
     }
 }
 
-/// The disparity of each pixel of the left plane.
+/// The refined disparity of each pixel of the left plane, whose values go up to `maxval`.
 fn disparity_map<R: Threads + Sync, G: Gate + Sync>(
     rt: &R,
     alloc: Global,
     left: Coded,
     right: Coded,
-    span: Span,
-    pen: Pen,
+    calib: &Calib,
+    maxval: u16,
     strips: u32,
     workers: u32,
+    refine: Refine,
     gate: &G,
 ) -> Result<DispMap, AllocError>
     requires same_width { left.codes.width ≡ right.codes.width }
@@ -121,24 +123,29 @@ fn disparity_map<R: Threads + Sync, G: Gate + Sync>(
     requires left_height { left.plane.height ≡ left.codes.height }
     requires right_width { right.plane.width ≡ left.codes.width }
     requires right_height { right.plane.height ≡ left.codes.height }
+    requires maxval { 1 ≤ maxval }
+    requires values { AtMost maxval left.plane.entries }
     requires strips { (1 ≤ strips) × (strips ≤ MAX_STRIPS) }
     requires workers { (1 ≤ workers) × (workers ≤ MAX_WORKERS) }
-    ensures exact { IfOk result (λ m. m ≡ disparities_of
-        (matching_problem left.codes right.codes span (p1_of pen) (p2_of pen)) left.plane right.plane span.first) }
+    ensures exact { IfOk result (λ m. m ≡ refined_disparities
+        (matching_problem left.codes right.codes calib.now.span calib.now.penalties (guide_of left.plane maxval)) left.plane right.plane calib.now.span refine) }
     ensures bound { IfOk result (λ m. AtMost MAX_DISPARITY m.entries) }
 {
+    let span = calib.span();
     // Known from here on: the range of the span.
     let _ = &span.count;
-    let scene = Scene::make(left.codes, right.codes, span, pen);
+    let guide = Guide::make(alloc, &left.plane, maxval)?;
+    let scene = Scene::make(left.codes, right.codes, span, calib.pen(), guide);
     let parcels = complete_parcels(rt, alloc, &scene, strips, workers, gate)?;
-    select_all(
+    let map = select_all(
         rt,
         alloc,
         &left.plane,
         &right.plane,
         &parcels,
         workers as usize,
-    )
+    )?;
+    refined_map(alloc, &scene, &parcels, &left.plane, map, refine)
 }
 
 /// Surveys a pair of images: rectifies them, matches them, and gives for each pixel of the left one its
@@ -160,13 +167,42 @@ pub fn survey<R: Threads + Sync, G: Gate + Sync>(
 ) -> Result<Surveyed, SurveyError>
     requires strips { (1 ≤ strips) × (strips ≤ MAX_STRIPS) }
     requires workers { (1 ≤ workers) × (workers ≤ MAX_WORKERS) }
-    ensures exact { Answers (surveyed left.now right.now calib.now) result }
+    ensures exact { Answers (surveyed left.now right.now calib.now plain) result }
+    ensures bound { IfOk result (λ survey. AtMost MAX_DISPARITY survey.disp.entries) }
+{
+    let refine = Refine {
+        peak: 0,
+        fill: false,
+    };
+    survey_refined(rt, alloc, left, right, calib, strips, workers, refine, gate)
+}
+
+/// As [`survey`], with the refined map in the place of the disparities: what is less than a segment of
+/// `refine.peak` pixels is removed, and then, where `refine.fill` is true, pixels without a disparity are
+/// filled. The grid and the tallies are those of the refined map.
+pub fn survey_refined<R: Threads + Sync, G: Gate + Sync>(
+    rt: &R,
+    alloc: Global,
+    left: &Image,
+    right: &Image,
+    calib: &Calib,
+    strips: u32,
+    workers: u32,
+    refine: Refine,
+    gate: &G,
+) -> Result<Surveyed, SurveyError>
+    requires strips { (1 ≤ strips) × (strips ≤ MAX_STRIPS) }
+    requires workers { (1 ≤ workers) × (workers ≤ MAX_WORKERS) }
+    ensures exact { Answers (surveyed left.now right.now calib.now refine) result }
     ensures bound { IfOk result (λ survey. AtMost MAX_DISPARITY survey.disp.entries) }
 {
     if let Some(fault) = pair_fault(left.size(), right.size(), calib) {
         return Err(SurveyError::Fault(fault));
     }
     let span = calib.span();
+    let maxval = left.maxval();
+    // Known from here on: that no sample of the left image is above it.
+    let _samples = left.samples();
     let (left, right) = prepare_both(
         rt,
         alloc,
@@ -177,15 +213,7 @@ pub fn survey<R: Threads + Sync, G: Gate + Sync>(
         calib.window(),
     )?;
     let disp = disparity_map(
-        rt,
-        alloc,
-        left,
-        right,
-        span,
-        calib.pen(),
-        strips,
-        workers,
-        gate,
+        rt, alloc, left, right, calib, maxval, strips, workers, refine, gate,
     )?;
     let grid = heights(alloc, calib.camera(), calib.grid(), span, &disp)?;
     let tallies = tallies(alloc, grid.as_ref(), calib.regions())?;

@@ -1,16 +1,18 @@
-//! The survey of a pair of images: the disparity of each pixel of the left one, the grid of heights and the
-//! tallies of its regions.
+//! The survey of a pair of images: the disparity of each pixel of the left one, refined where that is asked for,
+//! the grid of heights and the tallies of its regions.
 #![tactic(auto)]
 
 mod heights;
 mod job;
+pub mod laws;
 mod matching;
 mod planes;
+mod refining;
 mod selecting;
 mod sharing;
 mod tallies;
 
-pub use job::{SurveyError, SurveyFault, Surveyed, survey};
+pub use job::{SurveyError, SurveyFault, Surveyed, survey, survey_refined};
 
 #[cfg(test)]
 mod fixtures;

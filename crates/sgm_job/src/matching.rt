@@ -2,7 +2,6 @@
 
 ghost use Rattle.std.specs.Prelude.{◌≡◌, ◌≤◌, ◌<◌, ℕ, IfOk, IfSome, All, Option, length, slice_index_or};
 ghost use Rattle.sgm_base.specs.declared.limits.TheConstants.{MAX_STRIPS, MAX_WORKERS};
-ghost use Rattle.sgm_energy.specs.Pens.{p1_of, p2_of};
 ghost use Rattle.sgm_strip.specs.Parcels.{ParcelParts, level_done};
 ghost use Rattle.sgm_strip.specs.Scenes.{scene_of};
 ghost use Rattle.sgm_strip.specs.Strips.{AreComplete, AreStrips};
@@ -28,6 +27,7 @@ fn parcel_at(alloc: Global, scene: &Scene, cut: Cut, strip: usize) -> Option<Par
 }
 
 /// Makes the parcel of each strip. The thread that makes it is the first that touches its memory.
+#[tactic(auto, using(sgm_strip::proofs::Crossing::parcel_send, sgm_strip::proofs::Crossing::scene_sync))]
 fn make_parcels<R: Threads + Sync>(
     rt: &R,
     alloc: Global,

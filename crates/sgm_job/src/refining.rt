@@ -1,7 +1,6 @@
 //! From the disparities to the refined ones. Where nothing is asked for, nothing is computed.
 
-ghost use Rattle.std.specs.Prelude.{◌≡◌, ℕ, IfOk};
-ghost use Rattle.sgm_base.specs.Values.{AtMost};
+ghost use Rattle.std.specs.Prelude.{◌≡◌, IfOk};
 ghost use Rattle.sgm_strip.specs.Scenes.{problem_of};
 ghost use Rattle.sgm_strip.specs.Strips.{AreComplete};
 ghost use Rattle.sgm_select.specs.Selection.{matches_of};
@@ -21,9 +20,10 @@ fn without_peaks(alloc: Global, mut map: DispMap, peak: u32) -> Result<DispMap, 
     // Known from here on: what a map keeps.
     let _size = map.size();
     // A segment has its own pixel, so none has fewer than one.
-    if peak > 1 {
-        peaks(alloc, &mut map, peak)?;
+    if peak <= 1 {
+        return Ok(map);
     }
+    peaks(alloc, &mut map, peak)?;
     Ok(map)
 }
 
@@ -41,8 +41,7 @@ pub(crate) fn refined_map(
     requires map_height { map.height ≡ scene.now.left.height }
     requires left_width { left.now.width ≡ scene.now.left.width }
     requires left_height { left.now.height ≡ scene.now.left.height }
-    ensures exact { IfOk result (λ m. m ≡ refined map (matches_of (problem_of scene.now) scene.now.span.first) left.now scene.now.span.first scene.now.span.count refine) }
-    ensures bound { (most : ℕ) → AtMost most map.entries → IfOk result (λ m. AtMost most m.entries) }
+    ensures { IfOk result (λ m. m ≡ refined map (matches_of (problem_of scene.now) scene.now.span.first) left.now scene.now.span.first scene.now.span.count refine) }
 {
     let map = without_peaks(alloc, map, refine.peak)?;
     if !refine.fill {

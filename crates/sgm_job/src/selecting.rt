@@ -32,6 +32,7 @@ fn rows_at(
 }
 
 /// Finds the disparities of each strip's rows.
+#[tactic(auto, using(sgm_strip::proofs::Crossing::parcel_sync))]
 fn select_places<R: Threads + Sync>(
     rt: &R,
     alloc: Global,

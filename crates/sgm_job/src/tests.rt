@@ -4,12 +4,15 @@
 ghost use Rattle.std.specs.Prelude.{◌≤◌};
 ghost use Rattle.sgm_base.specs.declared.limits.TheConstants.{MAX_STRIPS, MAX_WORKERS};
 
-use crate::fixtures::{LEFT, RIGHT, calib, even_image, image, image_of_rows, map_of, span};
-use crate::{SurveyError, SurveyFault, Surveyed, survey};
+use crate::fixtures::{
+    LEFT, RIGHT, calib, even_image, image, image_of_rows, map_of, settings_2, span,
+};
+use crate::{SurveyError, SurveyFault, Surveyed, survey, survey_refined};
 use sgm_base::{Image, Side, Size};
 use sgm_calib::Calib;
 use sgm_example::{CAMERA, GRID, REGIONS, SETTINGS};
 use sgm_rectify::WarpFault;
+use sgm_refine::Refine;
 use sgm_report::RegionTally;
 use sgm_work::OpenGate;
 use std::alloc::Global;
@@ -96,6 +99,41 @@ fn the_worked_example(rt: HostRuntime) -> Result<(), Fail> {
             [all, east].as_slice(),
             "{strips} {workers}"
         );
+    }
+    Ok(())
+}
+
+// Two indices never differ by more than 1, so it doesn't matter what a greater change costs.
+#[test]
+fn penalties_that_follow_the_image(rt: HostRuntime) -> Result<(), Fail> {
+    let alloc = rt.alloc();
+    let map = map_of(alloc, &["00111", "00111", "00111"])?;
+    for adapt in [false, true] {
+        let settings = settings_2(alloc, adapt)?;
+        let calib = calib(alloc, &[settings.as_str(), CAMERA, GRID, REGIONS])?;
+        let found = example(&rt, alloc, &calib, 2, 2)?;
+        assert_eq!(rt; found.disp.entries(), map.as_slice(), "{adapt}");
+        let tallies = found.tallies.as_ref().ok_or("no tallies")?;
+        assert_eq!(rt; tallies.len(), 2);
+    }
+    Ok(())
+}
+
+// All fifteen pixels are one segment.
+#[test]
+fn the_worked_example_refined(rt: HostRuntime) -> Result<(), Fail> {
+    let alloc = rt.alloc();
+    let calib = calib(alloc, &[SETTINGS, CAMERA, GRID])?;
+    let left = image_of_rows(alloc, &LEFT)?;
+    let right = image_of_rows(alloc, &RIGHT)?;
+    for (peak, row, cell) in [(15, "00111", Some(50_000)), (16, ".....", None)] {
+        let refine = Refine { peak, fill: true };
+        let found = survey_refined(&rt, alloc, &left, &right, &calib, 2, 2, refine, &OpenGate);
+        let found = found.ok().ok_or("survey")?;
+        let map = map_of(alloc, &[row, row, row])?;
+        assert_eq!(rt; found.disp.entries(), map.as_slice(), "{peak}");
+        let cells = cells(alloc, &found)?;
+        assert!(rt; cells.first() == Some(&cell), "{peak}");
     }
     Ok(())
 }

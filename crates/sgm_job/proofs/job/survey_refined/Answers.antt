@@ -1,20 +1,21 @@
-use Rattle.std.proofs.Common.{Option, List, ap, ◌∙◌, sym, subst}
+use Rattle.std.proofs.Common.{ℕ, Option, List, arith, ap, ◌∙◌, sym, subst}
 use Rattle.std.specs.Prelude.{IfSome, All, option_map}
 use Rattle.sgm_base.specs.Disparities.{Disparities}
-use Rattle.sgm_energy.specs.Pens.{p1_of, p2_of}
+use Rattle.sgm_base.specs.Values.{AtMost, Values}
 use Rattle.sgm_rectify.specs.Rectified.{rectified_values}
+use Rattle.sgm_rectify.proofs.Bounds.{values_low}
 use Rattle.sgm_grid.specs.Cells.{Cells}
 use Rattle.sgm_report.specs.Areas.{Area, IsArea}
 use Rattle.sgm_job.specs.Survey.{tallies_of}
 use Rattle.sgm_job.proofs.Surveying.{map_is, map_of_codes}
 use Rattle.sgm_job.proofs.Passing.{passes, sides_are, fault_answered, survey_answered, survey_is, grid_same, left_suits, right_suits, coded_width, coded_height, plane_width, plane_height, same_width, same_height, regions_inside, at_references}
-use Rattle.sgm_job.proofs.job.survey.Goals as goal
+use Rattle.sgm_job.proofs.job.survey_refined.Goals as goal
 
 pub returns-in-Some-clause-exact : goal.returns-in-Some-clause-exact
 returns-in-Some-clause-exact g c =
     let left = sides_are c.size.result c.args.left.now c.size.ensures.width c.size.ensures.height in
     let right = sides_are c.size-2.result c.args.right.now c.size-2.ensures.width c.size-2.ensures.height in
-    fault_answered c.args.left.now c.args.right.now c.args.calib.now c.size.result c.size-2.result c.in-Some.fault left right c.in-Some.ensures
+    fault_answered c.args.left.now c.args.right.now c.args.calib.now c.args.refine c.size.result c.size-2.result c.in-Some.fault left right c.in-Some.ensures
 
 pub prepare_both-requires-clause-left : goal.prepare_both-requires-clause-left
 prepare_both-requires-clause-left g c =
@@ -68,6 +69,16 @@ disparity_map-requires-clause-right_height g c lifetimes within =
     ∙ sym (coded_height c.args.left.now c.left.result.now c.window.result c.in_ok-left.left.plane c.in_ok-left.left.codes made.left
     ∙ same_height c.args.left.now c.args.right.now c.size.result c.size-2.result c.args.calib.now left right pass)
 
+pub disparity_map-requires-clause-maxval : goal.disparity_map-requires-clause-maxval
+disparity_map-requires-clause-maxval g c lifetimes within = omega (arith, c.maxval-maxval.ensures, c.samples-samples.ensures.kept.maxval_in_range)
+
+pub disparity_map-requires-clause-values : goal.disparity_map-requires-clause-values
+disparity_map-requires-clause-values g c lifetimes within =
+    let image = c.args.left.now in
+    let warp = c.left.result.now in
+    subst (λ (n : ℕ). AtMost n c.in_ok-left.left.plane.entries) (sym c.maxval-maxval.ensures)
+    (subst (λ (p : Values). AtMost image.maxval p.entries) (sym c.in_ok-left.ensures.left.rectified) (values_low image warp c.samples-samples.ensures.kept))
+
 pub tallies-requires : goal.tallies-requires
 tallies-requires g c =
     let inside =
@@ -84,13 +95,13 @@ returns-clause-exact g c =
     let made = c.in_ok-left.ensures in
     let a = c.in_ok-left.left.plane in
     let b = c.in_ok-left.right.plane in
-    survey_answered c.args.left.now c.args.right.now c.args.calib.now c.size.result c.size-2.result _ left right c.in_default.ensures
-    (survey_is c.args.left.now c.args.right.now c.args.calib.now c.in_ok-disp.disp c.in_ok-grid.grid _
+    survey_answered c.args.left.now c.args.right.now c.args.calib.now c.args.refine c.size.result c.size-2.result _ left right c.in_default.ensures
+    (survey_is c.args.left.now c.args.right.now c.args.calib.now c.args.refine c.in_ok-disp.disp c.in_ok-grid.grid _
     (c.in_ok-disp.ensures.exact
-    ∙ map_of_codes a b c.in_ok-left.left.codes c.in_ok-left.right.codes c.window.result c.span-span.result (p1_of c.pen.result) (p2_of c.pen.result) made.left.coded made.right.coded
-    ∙ map_is c.args.left.now c.args.right.now c.args.calib.now a b c.span-span.result c.window.result (p1_of c.pen.result) (p2_of c.pen.result)
+    ∙ map_of_codes a b c.in_ok-left.left.codes c.in_ok-left.right.codes c.window.result c.args.calib.now.span c.args.calib.now.penalties c.maxval-maxval.result c.args.refine made.left.coded made.right.coded
+    ∙ map_is c.args.left.now c.args.right.now c.args.calib.now a b c.window.result c.maxval-maxval.result c.args.refine
     (made.left.rectified ∙ ap (rectified_values c.args.left.now) c.left.ensures.value) (made.right.rectified ∙ ap (rectified_values c.args.right.now) c.right.ensures.value)
-    c.span-span.ensures c.window.ensures c.pen.ensures.p1 c.pen.ensures.p2)
+    c.window.ensures c.maxval-maxval.ensures)
     (c.in_ok-grid.ensures ∙ grid_same c.camera.result c.args.calib.now.camera c.grid.result c.args.calib.now.grid c.span-span.result.first c.args.calib.now.span.first c.in_ok-disp.disp c.camera.ensures.value c.grid.ensures.value first)
     (c.in_ok-tallies.ensures
     ∙ ap (λ (g : Option Cells). tallies_of g (option_map (λ r. r.now) c.regions.result)) c.as_ref.ensures.value
