@@ -3,4 +3,6 @@
 #![tactic(auto)]
 
 #[cfg(test)]
+mod filling;
+#[cfg(test)]
 mod tests;
