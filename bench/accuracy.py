@@ -15,7 +15,8 @@ What a program doesn't know (an older one has no version 2) is left out, and sai
 pixels whose truth is known: the share that has a value; the share of these values that is wrong by more than
 1 and more than 2 pixels; the median error of the values that aren't wrong by more than 1, in pixels; and the
 share that has a right value of the pixels that both cameras see, of those whose place in the right picture is
-hidden by something nearer, and of those whose place lies outside the right picture (a band at the left).
+hidden by something nearer, and of those whose place lies outside the right picture (a band at the left); and
+the share of values wrong by more than 1 once more, without that band.
 
 OpenCV matches the same pair with all eight directions (MODE_HH), where `import cv2` works (Debian:
 python3-opencv) and the calibration has no warp: once bare, once with what its documentation advises against
@@ -291,10 +292,11 @@ def figures(found, truth, both):
     is_inside = (column >= 0) & (column <= truth.shape[1] - 1)
     for part in (both & is_inside, ~both & is_inside, ~is_inside):
         made.append(share(count(right & part), count(known & part)))
+    made.append(share(count(has_value & ~right & is_inside), count(has_value & is_inside)))
     return made
 
 
-HEADS = ("Matching", "Has a value", "Wrong by > 1", "> 2", "Median error", "Right of seen by both", "of hidden", "of outside")
+HEADS = ("Matching", "Has a value", "Wrong by > 1", "> 2", "Median error", "Right of seen by both", "of hidden", "of outside", "Wrong without the outside")
 
 
 def print_rival():

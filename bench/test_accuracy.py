@@ -84,18 +84,18 @@ class Figures(unittest.TestCase):
         found = numpy.array([[0.25, 1, 1.5, 3, NAN, -0.5, NAN, 0, 0, 4]])
         both = numpy.array([[1, 1, 1, 1, 1, 1, 0, 0, 1, 0]], bool)
         # Nine are known, seven of these have a value: errors 0.25, 1, 1.5, 3, 0.5, 0 and 4.
-        wanted = ["77.78 %", "42.86 %", "28.57 %", "0.375", "50.00 %", "33.33 %", "-"]
+        wanted = ["77.78 %", "42.86 %", "28.57 %", "0.375", "50.00 %", "33.33 %", "-", "42.86 %"]
         self.assertEqual(accuracy.figures(found, truth, both), wanted)
         nothing = numpy.full((1, 10), NAN)
-        self.assertEqual(accuracy.figures(nothing, truth, both), ["0.00 %", "-", "-", "-", "0.00 %", "0.00 %", "-"])
-        self.assertEqual(accuracy.figures(found, nothing, both), ["-"] * 7)
+        self.assertEqual(accuracy.figures(nothing, truth, both), ["0.00 %", "-", "-", "-", "0.00 %", "0.00 %", "-", "-"])
+        self.assertEqual(accuracy.figures(found, nothing, both), ["-"] * 8)
 
     def test_outside(self):
         """With a disparity of 2 the first two columns have no place in the right picture, whatever the mask says."""
         truth, both = numpy.full((1, 5), 2.0), numpy.array([[1, 0, 1, 0, 1]], bool)
         found = numpy.array([[2, NAN, 2, 2, 9]])
-        self.assertEqual(accuracy.figures(found, truth, both)[4:], ["50.00 %", "100.00 %", "50.00 %"])
-        self.assertEqual(accuracy.figures(found, -truth, both)[4:], ["0.00 %", "0.00 %", "0.00 %"])
+        self.assertEqual(accuracy.figures(found, truth, both)[4:], ["50.00 %", "100.00 %", "50.00 %", "33.33 %"])
+        self.assertEqual(accuracy.figures(found, -truth, both)[4:], ["0.00 %", "0.00 %", "0.00 %", "100.00 %"])
 
 
 class Tables(unittest.TestCase):
@@ -137,7 +137,7 @@ class Tables(unittest.TestCase):
                 file.write(f"P5\n{samples.shape[1]} {samples.shape[0]}\n65535\n".encode() + samples.tobytes())
             files = [os.path.join(heap, name) for name in ("left.pgm", "right.pgm", "calibration.json")]
             lines, said = self.run_with(program, *files, truth)
-        self.assertEqual(lines[2], "| fixed, P2 120 | 100.00 % | 0.00 % | 0.00 % | 0.000 | 100.00 % | - | - |")
+        self.assertEqual(lines[2], "| fixed, P2 120 | 100.00 % | 0.00 % | 0.00 % | 0.000 | 100.00 % | - | - | 0.00 % |")
         self.assertEqual(said.count("left out"), 5)
 
 
