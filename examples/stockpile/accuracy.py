@@ -9,6 +9,7 @@ prints tables in Markdown, all of them where none is named:
     pixels   the error of the disparity on the cone and on the ground;
     cells    the heap's volume above the measured ground, and how many cells are empty, over sizes of cells;
     heights  the same for cells of 100 and 125 mm, from four heights of the cameras;
+    settings the error of the disparity on the cone and the heap's volume, over windows and penalties;
     tilt     values that gather at whole disparities, on ground that rises by 1 in 8;
     texture  level ground that has less and less texture.
 
@@ -18,7 +19,8 @@ disparity 32, and at 8.13 m, where it lies between two whole ones, at 31.49; for
 program does, and in whole disparities, as it would be without them. What is true is computed for each pixel
 from the ray that goes through it. The disparities, points and cells are those of the definitions
 (tests/reference_matching.py); tests/compare.sh shows that the program's are the same. These numbers are for
-people, and use floating point. Takes half a minute to a minute of a processor for each of seven pairs.
+people, and use floating point. Takes half a minute to a minute of a processor for each pair and setting, of
+which there are thirteen.
 """
 
 import argparse
@@ -42,6 +44,8 @@ HEIGHTS = (8_000_000, 8_130_000)
 MORE_HEIGHTS = (8_000_000, 8_060_000, 8_130_000, 8_200_000)
 CELLS = (50_000, 100_000, 125_000, 150_000, 250_000)
 METRE = 1_000_000
+# Windows and first penalties beside the example's own. Its second penalty is kept.
+SETTINGS = (((7, 7), 24), ((7, 5), 17), ((5, 5), 14))
 # In 128ths, from that of the example's ground on, for bands of rows.
 CONTRASTS = (80, 40, 20, 10, 5, 0)
 # West, east, south and north ends of the example's two regions: a box that holds the cone, and flat ground.
@@ -105,13 +109,17 @@ def pictures(scene):
     return left, right
 
 
-def matched(scene):
-    """The disparities in sixteenths and the whole ones in sixteenths, less the first; None where there is none."""
+def matched(scene, window=None, p1=None):
+    """The disparities in sixteenths and the whole ones in sixteenths, less the first; None where there is none.
+
+    The window and the first penalty are the example's where none are given.
+    """
     settings, (left, right) = calibration(), pictures(scene)
-    codes = [matching.census_codes(plane, settings.window) for plane in (left, right)]
-    greatest = settings.window[0] * settings.window[1] - 1
+    window = window or settings.window
+    codes = [matching.census_codes(plane, window) for plane in (left, right)]
+    greatest = window[0] * window[1] - 1
     costs = matching.costs_of(*codes, settings.first, settings.count, greatest)
-    sums = matching.sums_of(costs, settings.p1, settings.p2)
+    sums = matching.sums_of(costs, p1 or settings.p1, settings.p2)
     fine = matching.disparities(sums, left, right, settings.first)
     whole = [
         [None if value is None else 16 * matching.least_index(pixel) for value, pixel in zip(*rows)]
@@ -121,8 +129,8 @@ def matched(scene):
 
 
 @functools.cache
-def heap_from(mount):
-    return matched(Heap(mount))
+def heap_from(mount, window=None, p1=None):
+    return matched(Heap(mount), window, p1)
 
 
 def errors_of(scene, found):
@@ -187,6 +195,32 @@ def pixels():
             lines.append([*line, len(near), len(errors) - len(near)])
     kinds = ["whole: mean error", "root of mean square", "sixteenths: mean error", "root of mean square"]
     print_table(["Cameras", "Surface", *kinds, "pixels", f"off by more than {WRONG}, left out"], lines)
+
+
+def near_errors(mount, found):
+    """The sizes of the errors on the cone, without those of points that are wrong and not inexact."""
+    errors = [abs(error) for _, name, _, error in errors_of(Heap(mount), found) if name == "cone"]
+    return [error for error in errors if error <= WRONG]
+
+
+def settings():
+    """What windows and penalties do to the error of the disparity on the cone, and to the heap's volume."""
+    example, lines = calibration(), []
+    for window, p1 in ((None, None), *SETTINGS):
+        name = "%dx%d, %d" % (*(window or example.window), p1 or example.p1)
+        for mount in HEIGHTS:
+            kinds = heap_from(mount, window, p1)
+            whole, fine = (near_errors(mount, kinds[kind]) for kind in ("whole", "fine"))
+            fall = lambda mean: f"{100 * (1 - mean(fine) / mean(whole)):.1f} %"
+            means = [f"{statistics.fmean(errors):.3f}" for errors in (whole, fine)]
+            line = [name, f"{mount / METRE:.2f} m", *means, fall(statistics.fmean), fall(statistics.median)]
+            line.append(fall(lambda errors: statistics.fmean(error * error for error in errors)))
+            for cell in (100_000, 125_000):
+                line.append(f"{100 * heap_volume(kinds['fine'], mount, cell)[3]:+.1f} %")
+            lines.append(line)
+    falls = ["the mean falls by", "the median", "the mean square"]
+    volumes = ["volume, cells of 100 mm", "of 125 mm"]
+    print_table(["Window, P1", "Cameras", "whole: mean error", "sixteenths", *falls, *volumes], lines)
 
 
 def grid_of(cell):
@@ -316,7 +350,15 @@ def texture():
     print_table(["Contrast", *kinds, "pixels with a disparity", f"of these off by more than {WRONG}"], lines)
 
 
-TABLES = {"steps": steps, "pixels": pixels, "cells": cells, "heights": heights, "tilt": tilt, "texture": texture}
+TABLES = {
+    "steps": steps,
+    "pixels": pixels,
+    "cells": cells,
+    "heights": heights,
+    "settings": settings,
+    "tilt": tilt,
+    "texture": texture,
+}
 
 
 def main():
