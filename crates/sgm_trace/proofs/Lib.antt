@@ -1,0 +1,5 @@
+pub mod Bests
+pub mod Growing
+pub mod RayPlaces
+pub mod Texts
+pub mod Tracing
