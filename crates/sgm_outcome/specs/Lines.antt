@@ -79,16 +79,20 @@ abbrev pub sizes_line : Sides → Sides → List ℕ
 sizes_line left right =
     codes "sgm: sizes differ: " ++ decimal left.width ++ codes "x" ++ decimal left.height ++ codes " and " ++ decimal right.width ++ codes "x" ++ decimal right.height ++ codes "\n"
 
+-- what is wrong with an input
+abbrev pub input_line : Input → List ℕ → List ℕ
+input_line input what = codes "sgm: " ++ input_word input ++ what
+
 -- the line of a grid that is refused
 abbrev pub asc_line : Input → AscFault → List ℕ
-asc_line input (asc.Word at) = codes "sgm: " ++ input_word input ++ codes ": word " ++ decimal at ++ codes " is not as expected\n"
-asc_line input (asc.Range at) = codes "sgm: " ++ input_word input ++ codes ": word " ++ decimal at ++ codes " is out of range\n"
-asc_line input (asc.Count have need) = codes "sgm: " ++ input_word input ++ codes ": " ++ decimal have ++ codes " heights, " ++ decimal need ++ codes " needed\n"
-asc_line input (asc.Height index) = codes "sgm: " ++ input_word input ++ codes ": height " ++ decimal index ++ codes " is not in range\n"
+asc_line input (asc.Word at) = input_line input (codes ": word ") ++ decimal at ++ codes " is not as expected\n"
+asc_line input (asc.Range at) = input_line input (codes ": word ") ++ decimal at ++ codes " is out of range\n"
+asc_line input (asc.Count have need) = input_line input (codes ": ") ++ decimal have ++ codes " heights, " ++ decimal need ++ codes " needed\n"
+asc_line input (asc.Height index) = input_line input (codes ": height ") ++ decimal index ++ codes " is not in range\n"
 
 -- the line of a refusal
 abbrev pub refusal_line : Refusal → List ℕ
-refusal_line (TooLong input) = codes "sgm: " ++ input_word input ++ codes " is too long\n"
+refusal_line (TooLong input) = input_line input (codes " is too long\n")
 refusal_line (Pgm side fault) = pgm_line side fault
 refusal_line (Calib fault) = calib_line fault
 refusal_line (SizesDiffer left right) = sizes_line left right

@@ -1,9 +1,8 @@
 //! The lines of refusals.
 ghost use Rattle.std.specs.Prelude.{◌≡◌, ◌≤◌, ◌+◌, ◌++◌, length, codes, decimal};
-ghost use Rattle.sgm_words.specs.Files.{input_word};
 ghost use Rattle.sgm_calib.specs.Paths.{path_of};
 ghost use Rattle.sgm_rectify.specs.declared.warp.WarpFault.TheVariants.{MeshSize};
-ghost use Rattle.sgm_outcome.specs.Lines.{side_word, image_line, pgm_line, calib_line, warp_line, sizes_line, asc_line, refusal_line};
+ghost use Rattle.sgm_outcome.specs.Lines.{side_word, image_line, pgm_line, calib_line, warp_line, sizes_line, input_line, asc_line, refusal_line};
 
 use crate::Refusal;
 use crate::line::{Line, MAX_LINE};
@@ -152,7 +151,7 @@ fn volume_line(cells: u64) -> Line
 // What is wrong with an input.
 fn input_line(input: Input, what: &str) -> Line
     requires { length what.now ≤ 64 }
-    ensures bytes { result ≡ codes "sgm: " ++ input_word input ++ what.now }
+    ensures bytes { result ≡ input_line input what.now }
     ensures short { length result ≤ 16 + length what.now }
 {
     Line::new().text("sgm: ").text(input.word()).text(what)
