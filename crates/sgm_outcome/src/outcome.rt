@@ -25,11 +25,7 @@ pub enum Refusal {
     /// The bytes of this input are no grid's text.
     Asc(Input, AscFault),
     /// The word `at` of the two grids' heads, counted from 0, is the first number in which they differ.
-    GridsDiffer {
-        at: usize,
-        earlier: i64,
-        later: i64,
-    },
+    GridsDiffer { at: usize, earlier: i64, later: i64 },
 }
 
 /// How a run ended.
