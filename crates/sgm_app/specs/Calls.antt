@@ -3,6 +3,8 @@ use Rattle.std.specs.Prelude.{◌≡◌, ℕ, List, Result, Ok, Err}
 use Rattle.sgm_base.specs.Picture.{Picture}
 use Rattle.sgm_io.specs.Held.{Held}
 use Rattle.sgm_pgm.specs.declared.fault.PgmFault.{PgmFault}
+use Rattle.sgm_energy.specs.declared.dir.Dir.{Dir}
+use Rattle.sgm_refine.specs.Refining.{Refining}
 use Rattle.sgm_calib.specs.Calibration.{Calibration}
 use Rattle.sgm_calib.specs.declared.keys.CalibFault.{CalibFault}
 use Rattle.sgm_words.specs.Operands.{Operands, operands, ChangeOperands, change_operands}
@@ -20,6 +22,14 @@ pub record PairCallsFor (asked : Operands) (judged : Result Picture PgmFault →
   pub are_readings : AreReadings asked held readings
   pub is : pair_fetched asked held (judged readings.left readings.right (calib_of asked readings)) ≡ v
 
+-- a match of these operands, whose map is refined so, calls for the verdict
+abbrev pub MatchCallsFor : Operands → Refining → Held → Verdict → Type 0
+MatchCallsFor asked refine held v = PairCallsFor asked (matched asked.out refine) held v
+
+-- a trace of these operands, along the ray that comes to the pixel in the direction, calls for the verdict
+abbrev pub TraceCallsFor : Operands → Dir → ℕ → ℕ → ℕ → Held → Verdict → Type 0
+TraceCallsFor asked dir x y d held v = PairCallsFor asked (traced dir x y d) held v
+
 -- a change of these operands calls for the verdict
 abbrev pub ChangeCallsFor : ChangeOperands → Held → Verdict → Type 0
 ChangeCallsFor asked held v = grids_fetched asked held (changed asked held) ≡ v
@@ -27,9 +37,9 @@ ChangeCallsFor asked held v = grids_fetched asked held (changed asked held) ≡ 
 -- the words, as they are read, call for the verdict
 abbrev pub ReadCallsFor : Result Options UsageFault → List (List ℕ) → Held → Verdict → Type 0
 ReadCallsFor (Err fault) words held v = usage fault ≡ v
-ReadCallsFor (Ok (options.Match strips workers refine)) words held v = PairCallsFor (operands words) (matched (operands words).out refine) held v
+ReadCallsFor (Ok (options.Match strips workers refine)) words held v = MatchCallsFor (operands words) refine held v
 ReadCallsFor (Ok (options.Demo number strips workers refine)) words held v = demoed number refine ≡ v
-ReadCallsFor (Ok (options.Trace dir x y d)) words held v = PairCallsFor (operands words) (traced dir x y d) held v
+ReadCallsFor (Ok (options.Trace dir x y d)) words held v = TraceCallsFor (operands words) dir x y d held v
 ReadCallsFor (Ok options.Change) words held v = ChangeCallsFor (change_operands words) held v
 
 -- the words call for the verdict over what is held

@@ -5,8 +5,8 @@ ghost use Rattle.sgm_words.specs.Words.{read_of};
 ghost use Rattle.sgm_words.specs.declared.usage.UsageFault.{UsageFault};
 ghost use Rattle.sgm_outcome.specs.Lines.{line_of, TakesLine};
 ghost use Rattle.sgm_outcome.specs.declared.outcome.Outcome.TheVariants.{Done, Usage};
-ghost use Rattle.sgm_app.specs.Verdict.{Verdict, matched, outputs_of};
-ghost use Rattle.sgm_app.specs.Calls.{CallsFor, PairCallsFor};
+ghost use Rattle.sgm_app.specs.Verdict.{Verdict, outputs_of};
+ghost use Rattle.sgm_app.specs.Calls.{CallsFor, MatchCallsFor};
 ghost use Rattle.sgm_app.specs.Ends.{ShownBy, FilesStand, OutStands, OutUntouched, WritingStands, RunWriting};
 ghost use Rattle.sgm_app.specs.Ends.{CountsShow, RunCounts, faults};
 ghost use Rattle.sgm_app.specs.Unfinished.{AreFinished, UnfinishedStands, RunUnfinished};
@@ -42,15 +42,15 @@ fn run_match<R: Threads + Sync, S: Shelf, O: Sink, G: Gate + Sync>(
 ) -> Outcome
     requires strips { IsStrips strips }
     requires workers { IsWorkers workers }
-    ensures cause { IsTrue S.tells → (v : Verdict) → PairCallsFor operands.now (matched operands.now.out refine) (S.held shelf.old) v → ShownBy v result }
-    ensures files { IsTrue S.tells → (v : Verdict) → PairCallsFor operands.now (matched operands.now.out refine) (S.held shelf.old) v
+    ensures cause { IsTrue S.tells → (v : Verdict) → MatchCallsFor operands.now refine (S.held shelf.old) v → ShownBy v result }
+    ensures files { IsTrue S.tells → (v : Verdict) → MatchCallsFor operands.now refine (S.held shelf.old) v
         → FilesPut result v (S.held shelf.old) (S.held shelf.new) }
-    ensures out { IsTrue S.tells → IsTrue O.tells → (v : Verdict) → PairCallsFor operands.now (matched operands.now.out refine) (S.held shelf.old) v
+    ensures out { IsTrue S.tells → IsTrue O.tells → (v : Verdict) → MatchCallsFor operands.now refine (S.held shelf.old) v
         → OutStands result v (O.written out.old) (O.written out.new) }
     ensures untouched { IsTrue O.tells → OutUntouched result (O.written out.old) (O.written out.new) }
     ensures writing { WritingStands result (S.writing shelf.old) (S.writing shelf.new) }
     ensures unfinished { UnfinishedStands (of_match operands.now) result (S.unfinished shelf.old) (S.unfinished shelf.new) }
-    ensures finished { IsTrue S.tells → (v : Verdict) → PairCallsFor operands.now (matched operands.now.out refine) (S.held shelf.old) v
+    ensures finished { IsTrue S.tells → (v : Verdict) → MatchCallsFor operands.now refine (S.held shelf.old) v
         → result ≡ Done → AreFinished (outputs_of v) (S.unfinished shelf.new) }
     ensures counts { CountsShow (of_match operands.now) result
         (faults (S.read_faults shelf.old) (S.write_faults shelf.old) (O.faults out.old))
@@ -60,7 +60,7 @@ fn run_match<R: Threads + Sync, S: Shelf, O: Sink, G: Gate + Sync>(
         Ok(inputs) => inputs,
         Err(stop) => return stop.outcome(),
     };
-    let made = texts(
+    let texts = match texts(
         rt,
         alloc,
         &inputs.left,
@@ -70,8 +70,7 @@ fn run_match<R: Threads + Sync, S: Shelf, O: Sink, G: Gate + Sync>(
         workers,
         refine,
         gate,
-    );
-    let texts = match made {
+    ) {
         Ok(texts) => texts,
         Err(error) => return error.outcome(),
     };

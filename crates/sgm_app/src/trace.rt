@@ -1,9 +1,9 @@
 //! The certificate of an index at a pixel, from the words to what is written.
 ghost use Rattle.std.specs.Prelude.{◌≡◌, IsTrue};
 ghost use Rattle.sgm_words.specs.Operands.{of_trace};
-ghost use Rattle.sgm_app.specs.Calls.{PairCallsFor};
+ghost use Rattle.sgm_app.specs.Calls.{TraceCallsFor};
 ghost use Rattle.sgm_app.specs.Ends.{ShownBy, OutStands, OutUntouched, CountsShow, faults};
-ghost use Rattle.sgm_app.specs.Verdict.{Verdict, traced};
+ghost use Rattle.sgm_app.specs.Verdict.{Verdict};
 
 use crate::certificate::certificate;
 use crate::gather::gather;
@@ -24,9 +24,9 @@ pub fn run_trace<S: Shelf, O: Sink>(
     shelf: &mut S,
     out: &mut O,
 ) -> Outcome
-    ensures cause { IsTrue S.tells → (v : Verdict) → PairCallsFor operands.now (traced dir x y d) (S.held shelf.old) v → ShownBy v result }
+    ensures cause { IsTrue S.tells → (v : Verdict) → TraceCallsFor operands.now dir x y d (S.held shelf.old) v → ShownBy v result }
     ensures held { IsTrue S.tells → S.held shelf.new ≡ S.held shelf.old }
-    ensures out { IsTrue S.tells → IsTrue O.tells → (v : Verdict) → PairCallsFor operands.now (traced dir x y d) (S.held shelf.old) v
+    ensures out { IsTrue S.tells → IsTrue O.tells → (v : Verdict) → TraceCallsFor operands.now dir x y d (S.held shelf.old) v
         → OutStands result v (O.written out.old) (O.written out.new) }
     ensures untouched { IsTrue O.tells → OutUntouched result (O.written out.old) (O.written out.new) }
     ensures writing { S.writing shelf.new ≡ S.writing shelf.old }
