@@ -7,13 +7,14 @@ ghost use Rattle.sgm_base.specs.declared.limits.TheConstants.{MAX_STRIPS, MAX_WO
 use crate::fixtures::{
     LEFT, RIGHT, calib, even_image, image, image_of_rows, map_of, settings_2, span,
 };
-use crate::{SurveyError, SurveyFault, Surveyed, survey, survey_refined};
-use sgm_base::{Image, Side, Size};
+use sgm_base::{Side, Size};
 use sgm_calib::Calib;
 use sgm_example::{CAMERA, GRID, REGIONS, SETTINGS};
+use sgm_job::{SurveyError, SurveyFault, Surveyed, prepare, survey, survey_refined};
 use sgm_rectify::WarpFault;
 use sgm_refine::Refine;
 use sgm_report::RegionTally;
+use sgm_strip::Scene;
 use sgm_work::OpenGate;
 use std::alloc::Global;
 use std::test::Fail;
@@ -48,16 +49,6 @@ fn cells(alloc: Global, found: &Surveyed) -> Result<Vec<Option<i32>>, Fail> {
         cells.extend_from_slice(grid.row(row))?;
     }
     Ok(cells)
-}
-
-fn fault<R: Threads + Sync>(
-    rt: &R,
-    alloc: Global,
-    left: &Image,
-    right: &Image,
-    calib: &Calib,
-) -> Option<SurveyError> {
-    survey(rt, alloc, left, right, calib, 1, 1, &OpenGate).err()
 }
 
 // The index 1 lies at a depth of 100000, at x = 1000 * column and y = -1000 * row, and the index 0 has no point.
@@ -138,6 +129,31 @@ fn the_worked_example_refined(rt: HostRuntime) -> Result<(), Fail> {
     Ok(())
 }
 
+/// The cost of an index at the pixel (x, y); None where it is outside.
+fn cost(scene: &Scene, x: u32, y: u32, d: u32) -> Option<u8> {
+    let size = scene.size();
+    if x >= size.width || y >= size.height || d >= scene.span().count {
+        return None;
+    }
+    Some(scene.cost(x, y, d))
+}
+
+#[test]
+fn the_scene_of_the_worked_example(rt: HostRuntime) -> Result<(), Fail> {
+    let alloc = rt.alloc();
+    let calib = calib(alloc, &[SETTINGS, CAMERA, GRID, REGIONS])?;
+    let left = image_of_rows(alloc, &LEFT)?;
+    let right = image_of_rows(alloc, &RIGHT)?;
+    let scene = prepare(alloc, &left, &right, &calib);
+    let scene = scene.ok().ok_or("scene")?;
+    assert_eq!(rt; scene.size(), left.size());
+    assert_eq!(rt; scene.span(), calib.span());
+    for (x, y, d, want) in [(0, 0, 0, 8), (0, 1, 0, 8), (1, 1, 0, 6), (2, 1, 1, 0)] {
+        assert_eq!(rt; cost(&scene, x, y, d), Some(want), "{x} {y} {d}");
+    }
+    Ok(())
+}
+
 #[test]
 fn two_pixels(rt: HostRuntime) -> Result<(), Fail> {
     let alloc = rt.alloc();
@@ -186,17 +202,15 @@ fn warps_come_last(rt: HostRuntime) -> Result<(), Fail> {
         side: Side::Left,
         fault: WarpFault::Denominator { corner: 1 },
     };
-    assert_eq!(rt;
-        fault(&rt, alloc, &large, &square, &calib),
-        Some(SurveyError::Fault(sizes))
-    );
-    assert_eq!(rt;
-        fault(&rt, alloc, &large, &large, &calib),
-        Some(SurveyError::Fault(volume))
-    );
-    assert_eq!(rt;
-        fault(&rt, alloc, &square, &square, &calib),
-        Some(SurveyError::Fault(warp))
-    );
+    for (left, right, fault) in [
+        (&large, &square, sizes),
+        (&large, &large, volume),
+        (&square, &square, warp),
+    ] {
+        let want = Some(SurveyError::Fault(fault));
+        let found = survey(&rt, alloc, left, right, &calib, 1, 1, &OpenGate);
+        assert_eq!(rt; found.err(), want);
+        assert_eq!(rt; prepare(alloc, left, right, &calib).err(), want);
+    }
     Ok(())
 }
