@@ -1,4 +1,5 @@
 pub mod Bests
+pub mod Existing
 pub mod Growing
 pub mod RayPlaces
 pub mod Texts

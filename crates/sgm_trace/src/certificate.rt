@@ -1,7 +1,8 @@
-ghost use Rattle.std.specs.Prelude.{◌≡◌, ◌<◌, IfOk};
+ghost use Rattle.std.specs.Prelude.{◌≡◌, ◌+◌, ◌<◌, IfOk, sum_by};
 ghost use Rattle.sgm_energy.specs.Energies.{least_ending};
 ghost use Rattle.sgm_energy.specs.Rays.{pixel_at, ray};
 ghost use Rattle.sgm_strip.specs.Scenes.{problem_of};
+ghost use Rattle.sgm_trace.specs.declared.traced.Step.{Step};
 ghost use Rattle.sgm_trace.specs.Best.{best, steps_of};
 
 use crate::energies::energies;
@@ -31,6 +32,7 @@ pub fn trace(
         ≡ least_ending (problem_of scene.now) (ray (problem_of scene.now) dir (pixel_at x y)) d) }
     ensures steps { IfOk result (λ t. t.steps.items ≡ steps_of (problem_of scene.now) (ray (problem_of scene.now) dir (pixel_at x y))
         (best (problem_of scene.now) (ray (problem_of scene.now) dir (pixel_at x y)) d)) }
+    ensures adds { IfOk result (λ t. sum_by (λ (step : Step). step.cost + step.jump) t.steps.items ≡ t.energy) }
 {
     // Known from here on: what a scene keeps.
     let _size = scene.size();

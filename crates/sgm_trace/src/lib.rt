@@ -4,6 +4,7 @@
 
 mod certificate;
 mod energies;
+pub mod laws;
 mod place;
 mod steps;
 

@@ -1,12 +1,14 @@
-use Rattle.std.proofs.Common.{◌≡◌, ℕ, ◌+◌, ◌-◌, ◌<◌, ◌≤◌, List, take, get_or, length, map, ap, ◌∙◌, subst, arith}
+use Rattle.std.proofs.Common.{◌≡◌, ℕ, ◌+◌, ◌-◌, ◌<◌, ◌≤◌, List, take, get_or, length, map, sum_by, ap, ◌∙◌, subst, arith}
 use Rattle.std.proofs.lemmas.List.{length-map, take_all}
 use Rattle.std.proofs.lemmas.List.FromFn.{get_or-map-range_with_len}
 use Rattle.sgm_census.proofs.Limits.{matching-within}
-use Rattle.sgm_energy.specs.Energies.{least_ending}
+use Rattle.sgm_energy.specs.Energies.{energy, least_ending}
 use Rattle.sgm_energy.specs.Rays.{Pixel, pixel_at, ray}
 use Rattle.sgm_strip.specs.Scenes.{problem_of}
 use Rattle.sgm_trace.specs.declared.place.Place.{Place}
+use Rattle.sgm_trace.specs.Best.{best}
 use Rattle.sgm_trace.specs.Rows.{energies_of, first_energies, pixel_of}
+use Rattle.sgm_trace.proofs.Existing.{part, best_least, steps_sum}
 use Rattle.sgm_trace.proofs.Growing.{rows_length, row_at, energies_length}
 use Rattle.sgm_trace.proofs.certificate.trace.Goals as goal
 
@@ -58,3 +60,13 @@ returns-clause-energy c =
     ∙ get_or-map-range_with_len (least_ending g ps) 0 g.count c.args.d c.args.d r c.requires.index (omega arith) in
     let ray : least_ending g ps c.args.d ≡ least_ending g (ray g c.args.dir (pixel_at c.args.x c.args.y)) c.args.d = ap (λ (qs : List Pixel). least_ending g qs c.args.d) c.in_ok-places.ensures.ray in
     omega (arith, c.index-energy.ensures, is, ray)
+
+pub returns-clause-adds : goal.returns-clause-adds
+returns-clause-adds c =
+    let g = problem_of c.args.scene.now in
+    let p = pixel_at c.args.x c.args.y in
+    let ps = map pixel_of c.deref-2.result.now in
+    let along : ps ≡ ray g c.args.dir p = ap (map pixel_of) c.deref-2.ensures.value ∙ c.in_ok-places.ensures.ray in
+    let sum : sum_by part c.in_ok-steps.steps.items ≡ energy g ps (best g ps c.args.d) = ap (sum_by part) c.in_ok-steps.ensures ∙ steps_sum g ps (best g ps c.args.d) in
+    let least : energy g ps (best g ps c.args.d) ≡ least_ending g (ray g c.args.dir p) c.args.d = ap (λ (qs : List Pixel). energy g qs (best g qs c.args.d)) along ∙ best_least g c.args.dir p c.args.d c.requires.index in
+    omega (arith, sum, least, returns-clause-energy c)
