@@ -17,7 +17,8 @@ use sgm_pgm::write16;
 use sgm_report::{Region, RegionTally, write_report};
 use std::alloc::{AllocError, Global};
 
-/// All texts of a survey, under no names yet.
+/// All texts of a survey, under no names yet: the disparity image, the heights where the calibration has a
+/// grid, the report where it has regions, and the line of the summary.
 #[derive(Drop)]
 pub struct MadeTexts {
     pub disparity: Vec<u8>,

@@ -1,7 +1,7 @@
 use Rattle.std.proofs.Common.{◌≡◌, ◌≤◌, ◌*◌, map, take}
 use Rattle.std.specs.List.{sum}
 use Rattle.sgm_app.specs.Texts.{sample_of}
-use Rattle.sgm_app.proofs.texts.sample_sum.Given as goal
+use Rattle.sgm_app.proofs.made.sample_sum.Given as goal
 
 abbrev pub invariant-loop-entry : goal.invariant-loop-entry
 invariant-loop-entry l = record {
