@@ -3,6 +3,7 @@ pub mod Completing
 pub mod Delivering
 pub mod Filing
 pub mod Finishing
+pub mod Ground
 pub mod Holding
 pub mod Named
 pub mod OneVerdict

@@ -62,9 +62,9 @@ pub fn span(alloc: Global, first: i32, count: u32) -> Result<String, Fail> {
     )?)
 }
 
-/// What the calibration of the worked example begins with in version 2.
-pub fn settings_2(alloc: Global, adapt: bool) -> Result<String, Fail> {
+/// What the calibration of the worked example begins with in version 2, and with this penalty P2.
+pub fn settings_2(alloc: Global, p2: u32, adapt: bool) -> Result<String, Fail> {
     Ok(format!(in alloc;
-        "{{\"version\":2,\"disparities\":{{\"first\":0,\"count\":2}},\"census\":{{\"width\":3,\"height\":3}},\"penalties\":{{\"p1\":1,\"p2\":3,\"adapt\":{adapt}}}"
+        "{{\"version\":2,\"disparities\":{{\"first\":0,\"count\":2}},\"census\":{{\"width\":3,\"height\":3}},\"penalties\":{{\"p1\":1,\"p2\":{p2},\"adapt\":{adapt}}}"
     )?)
 }

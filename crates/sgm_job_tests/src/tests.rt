@@ -100,7 +100,7 @@ fn penalties_that_follow_the_image(rt: HostRuntime) -> Result<(), Fail> {
     let alloc = rt.alloc();
     let map = map_of(alloc, &["00111", "00111", "00111"])?;
     for adapt in [false, true] {
-        let settings = settings_2(alloc, adapt)?;
+        let settings = settings_2(alloc, 3, adapt)?;
         let calib = calib(alloc, &[settings.as_str(), CAMERA, GRID, REGIONS])?;
         let found = example(&rt, alloc, &calib, 2, 2)?;
         assert_eq!(rt; found.disp.entries(), map.as_slice(), "{adapt}");
@@ -138,19 +138,44 @@ fn cost(scene: &Scene, x: u32, y: u32, d: u32) -> Option<u8> {
     Some(scene.cost(x, y, d))
 }
 
+/// The penalty of a great change from a pixel to the next, both as (x, y); None where one is outside.
+fn far(scene: &Scene, before: (u32, u32), here: (u32, u32)) -> Option<u16> {
+    let size = scene.size();
+    if here.0 >= size.width || here.1 >= size.height {
+        return None;
+    }
+    if before.0 >= size.width || before.1 >= size.height {
+        return None;
+    }
+    Some(scene.far(here.0, here.1, before.0, before.1))
+}
+
+// Each row of the left image is 90 10 50 20 40.
 #[test]
 fn the_scene_of_the_worked_example(rt: HostRuntime) -> Result<(), Fail> {
     let alloc = rt.alloc();
-    let calib = calib(alloc, &[SETTINGS, CAMERA, GRID, REGIONS])?;
+    let settings = settings_2(alloc, 120, true)?;
+    let calib = calib(alloc, &[settings.as_str()])?;
     let left = image_of_rows(alloc, &LEFT)?;
     let right = image_of_rows(alloc, &RIGHT)?;
     let scene = prepare(alloc, &left, &right, &calib);
     let scene = scene.ok().ok_or("scene")?;
     assert_eq!(rt; scene.size(), left.size());
     assert_eq!(rt; scene.span(), calib.span());
-    for (x, y, d, want) in [(0, 0, 0, 8), (0, 1, 0, 8), (1, 1, 0, 6), (2, 1, 1, 0)] {
-        assert_eq!(rt; cost(&scene, x, y, d), Some(want), "{x} {y} {d}");
+    for (x, y, d, want) in [
+        (0, 0, 0, 8),
+        (1, 1, 0, 6),
+        (2, 1, 0, 6),
+        (2, 1, 1, 0),
+        (2, 0, 1, 8),
+    ] {
+        assert_eq!(rt; cost(&scene, x, y, d), Some(want));
     }
+    assert_eq!(rt; cost(&scene, 5, 1, 0), None);
+    for (x, want) in [(1, 1), (2, 3), (3, 4), (4, 6)] {
+        assert_eq!(rt; far(&scene, (x - 1, 0), (x, 0)), Some(want));
+    }
+    assert_eq!(rt; far(&scene, (0, 0), (0, 1)), Some(120));
     Ok(())
 }
 
