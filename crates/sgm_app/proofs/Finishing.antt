@@ -8,7 +8,7 @@ use Rattle.std.proofs.Math.Seq.{take-suc, drop-cons}
 use Rattle.sgm_io.specs.Keep.{name_of}
 use Rattle.sgm_io.specs.Unfinished.{NameSet, with_name, without_name}
 use Rattle.sgm_io.proofs.UnfinishedLaws.{without_name-same, without_name-false, without_name-with_name}
-use Rattle.sgm_words.specs.Operands.{Operands, IsOutputName}
+use Rattle.sgm_words.specs.Operands.{FileNames, IsOutputName}
 use Rattle.sgm_words.specs.declared.files.Output.{Output}
 use Rattle.sgm_app.specs.Outputs.{OutputFile, IsNamed, is_named}
 use Rattle.sgm_app.specs.Unfinished.{AreFinished, LeavesUnfinished, UnfinishedStands}
@@ -116,15 +116,15 @@ none_named (f ∷ files) name none = elim (bytes_eq name f.name) as (λ b. bytes
     later : (f : OutputFile) (files : List OutputFile) (file : OutputFile) → Contains files file → Contains (f ∷ files) file
     later f files file (k, lt, e) = (suc k, omega arith, e)
 
-no_output : (asked : Operands) (files : List OutputFile) (name : List ℕ) → All (IsNamed asked) files → ((output : Output) → ¬ IsOutputName asked output name) → is_named files name ≡ false
-no_output asked files name named none = none_named files name (λ file c same.
-    let P : List ℕ → Type 0 = λ n. IsOutputName asked file.output n in
-    none file.output (subst P (sym same) (All-contains (IsNamed asked) files file named c)))
+no_output : (names : FileNames) (files : List OutputFile) (name : List ℕ) → All (IsNamed names) files → ((output : Output) → ¬ IsOutputName names output name) → is_named files name ≡ false
+no_output names files name named none = none_named files name (λ file c same.
+    let P : List ℕ → Type 0 = λ n. IsOutputName names file.output n in
+    none file.output (subst P (sym same) (All-contains (IsNamed names) files file named c)))
 
-pub finished_stands : (asked : Operands) (IsLeft : List ℕ → Type 0) (files : List OutputFile) (old new : NameSet) → All (IsNamed asked) files → new ≡ after_finishing files old → LeavesUnfinished asked IsLeft old new
-finished_stands asked IsLeft files old new named is = record {
+pub finished_stands : (names : FileNames) (IsLeft : List ℕ → Type 0) (files : List OutputFile) (old new : NameSet) → All (IsNamed names) files → new ≡ after_finishing files old → LeavesUnfinished names IsLeft old new
+finished_stands names IsLeft files old new named is = record {
   no_more = λ name e. inl (no_more files old name (sym (ap (λ (u : NameSet). u name) is) ∙ e));
-  others = λ name none. ap (λ (u : NameSet). u name) is ∙ others_same files old name (no_output asked files name named none);
+  others = λ name none. ap (λ (u : NameSet). u name) is ∙ others_same files old name (no_output names files name named none);
 }
 
 left_true : (file : OutputFile) (before : List OutputFile) (old new : NameSet) (name : List ℕ) → LeavesFile file (after_finishing before old) new → new name ≡ true → (old name ≡ true) ⊎ (name ≡ file.name)
@@ -140,16 +140,16 @@ left_other file before old new name (inl same) none apart = ap (λ (u : NameSet)
 left_other file before old new name (inr begun) none apart =
     ap (λ (u : NameSet). u name) begun ∙ with_other file.name name (after_finishing before old) apart ∙ others_same before old name none
 
-stopped_stands : (asked : Operands) (files : List OutputFile) (stop : WriteStop) (old new : NameSet) (IsLeft : List ℕ → Type 0) → All (IsNamed asked) files → (left : LeavesOne files stop old new) →
-    ((name : List ℕ) → IsOutputName asked left.file.output name → IsLeft name) → LeavesUnfinished asked IsLeft old new
-stopped_stands asked files stop old new IsLeft named left as_left = record {
+stopped_stands : (names : FileNames) (files : List OutputFile) (stop : WriteStop) (old new : NameSet) (IsLeft : List ℕ → Type 0) → All (IsNamed names) files → (left : LeavesOne files stop old new) →
+    ((name : List ℕ) → IsOutputName names left.file.output name → IsLeft name) → LeavesUnfinished names IsLeft old new
+stopped_stands names files stop old new IsLeft named left as_left = record {
   no_more = λ name e. elim (left_true left.file left.before old new name left.left e) [
     | inl on ↦ inl on
-    | inr same ↦ let P : List ℕ → Type 0 = λ n. IsOutputName asked left.file.output n in inr (as_left name (subst P (sym same) is_file))
+    | inr same ↦ let P : List ℕ → Type 0 = λ n. IsOutputName names left.file.output n in inr (as_left name (subst P (sym same) is_file))
   ];
   others = λ name none.
       let apart : (is_named left.before name || (bytes_eq name left.file.name || is_named left.later name)) ≡ false =
-      sym (named-append left.before (left.file ∷ left.later) name) ∙ sym (ap (λ (fs : List OutputFile). is_named fs name) left.split) ∙ no_output asked files name named none in
+      sym (named-append left.before (left.file ∷ left.later) name) ∙ sym (ap (λ (fs : List OutputFile). is_named fs name) left.split) ∙ no_output names files name named none in
       left_other left.file left.before old new name left.left
       (or_left (is_named left.before name) _ apart)
       (or_left (bytes_eq name left.file.name) (is_named left.later name) (or_right (is_named left.before name) _ apart));
@@ -157,32 +157,32 @@ stopped_stands asked files stop old new IsLeft named left as_left = record {
   among : Contains files left.file
   among = let P : List OutputFile → Type 0 = λ fs. Contains fs left.file in subst P (sym left.split) (Contains-append_right left.before (left.file ∷ left.later) left.file (0, omega arith, refl))
 
-  is_file : IsOutputName asked left.file.output left.file.name
-  is_file = All-contains (IsNamed asked) files left.file named among
+  is_file : IsOutputName names left.file.output left.file.name
+  is_file = All-contains (IsNamed names) files left.file named among
 
-pub stop_stands : (asked : Operands) (files : List OutputFile) (stop : WriteStop) (old new : NameSet) → All (IsNamed asked) files → LeavesOne files stop old new → UnfinishedStands asked (write_outcome stop) old new
-stop_stands asked files (write.Unwritten output) old new named left =
-    stopped_stands asked files (write.Unwritten output) old new (IsOutputName asked output) named left
-    (λ name is. let P : Output → Type 0 = λ o. IsOutputName asked o name in subst P (sym left.is_stop) is)
-stop_stands asked files write.NoMemory old new named left =
-    stopped_stands asked files write.NoMemory old new (λ name. (output : Output) × IsOutputName asked output name) named left (λ name is. (left.file.output, is))
+pub stop_stands : (names : FileNames) (files : List OutputFile) (stop : WriteStop) (old new : NameSet) → All (IsNamed names) files → LeavesOne files stop old new → UnfinishedStands names (write_outcome stop) old new
+stop_stands names files (write.Unwritten output) old new named left =
+    stopped_stands names files (write.Unwritten output) old new (IsOutputName names output) named left
+    (λ name is. let P : Output → Type 0 = λ o. IsOutputName names o name in subst P (sym left.is_stop) is)
+stop_stands names files write.NoMemory old new named left =
+    stopped_stands names files write.NoMemory old new (λ name. (output : Output) × IsOutputName names output name) named left (λ name is. (left.file.output, is))
 
 pub leaves_along : (files wanted : List OutputFile) (stop : WriteStop) (old new : NameSet) → files ≡ wanted → LeavesOne files stop old new → LeavesOne wanted stop old new
 leaves_along files wanted stop old new same left = let P : List OutputFile → Type 0 = λ fs. LeavesOne fs stop old new in subst P same left
 
 -- ---- where nothing was written
 
-pub none_left : (asked : Operands) (IsLeft : List ℕ → Type 0) (old new : NameSet) → new ≡ old → LeavesUnfinished asked IsLeft old new
-none_left asked IsLeft old new same = record {
+pub none_left : (names : FileNames) (IsLeft : List ℕ → Type 0) (old new : NameSet) → new ≡ old → LeavesUnfinished names IsLeft old new
+none_left names IsLeft old new same = record {
   no_more = λ name e. inl (sym (ap (λ (u : NameSet). u name) same) ∙ e);
   others = λ name none. ap (λ (u : NameSet). u name) same;
 }
 
-pub fetch_stands : (asked : Operands) (stop : FetchStop) (old new : NameSet) → new ≡ old → UnfinishedStands asked (fetch_outcome stop) old new
-fetch_stands asked (fetch.Unread input) old new same = same
-fetch_stands asked (fetch.TooLong input) old new same = same
-fetch_stands asked fetch.NoMemory old new same = none_left asked _ old new same
+pub fetch_stands : (names : FileNames) (stop : FetchStop) (old new : NameSet) → new ≡ old → UnfinishedStands names (fetch_outcome stop) old new
+fetch_stands names (fetch.Unread input) old new same = same
+fetch_stands names (fetch.TooLong input) old new same = same
+fetch_stands names fetch.NoMemory old new same = none_left names _ old new same
 
-pub texts_stands : (asked : Operands) (stop : TextsError) (old new : NameSet) → new ≡ old → UnfinishedStands asked (texts_outcome stop) old new
-texts_stands asked (texts.Refused refusal) old new same = same
-texts_stands asked texts.NoMemory old new same = none_left asked _ old new same
+pub texts_stands : (names : FileNames) (stop : TextsError) (old new : NameSet) → new ≡ old → UnfinishedStands names (texts_outcome stop) old new
+texts_stands names (texts.Refused refusal) old new same = same
+texts_stands names texts.NoMemory old new same = none_left names _ old new same

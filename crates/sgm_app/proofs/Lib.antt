@@ -1,7 +1,9 @@
+pub mod CertificateSteps
 pub mod Completing
 pub mod Delivering
 pub mod Filing
 pub mod Finishing
+pub mod Ground
 pub mod Holding
 pub mod Named
 pub mod OneVerdict

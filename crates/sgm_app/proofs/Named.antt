@@ -1,32 +1,43 @@
--- The files of a match have the names of their outputs, which differ.
+-- The files of a match and those of a change have the names of their outputs, which differ.
 use Rattle.std.proofs.Common.{◌≡◌, ◌++◌, ℕ, true, false, ◌||◌, List, [], ◌∷◌, Option, Some, None, IsSomeAnd, refl, ap, ◌∙◌, All, codes, rules, unwrap_or}
 use Rattle.std.specs.Str.{bytes_eq}
 use Rattle.std.proofs.lemmas.Slice.Eq.{bytes_eq-Decides}
 use Rattle.std.proofs.lemmas.List.{append_cancel_left}
 use Rattle.std.proofs.lemmas.List.Elements.{All-append}
-use Rattle.sgm_words.specs.Operands.{Operands}
-use Rattle.sgm_words.specs.declared.files.Output.TheVariants.{Disparity, Heights, Report}
+use Rattle.sgm_words.specs.Operands.{Operands, ChangeOperands, of_match, of_change}
+use Rattle.sgm_words.specs.declared.files.Output.TheVariants.{Disparity, Heights, Report, Difference, Volumes}
+use Rattle.sgm_app.specs.Changing.{GridTexts}
 use Rattle.sgm_app.specs.Texts.{Texts}
-use Rattle.sgm_app.specs.Outputs.{IsNamed, file_of, files_with, files_of}
+use Rattle.sgm_app.specs.Outputs.{IsNamed, file_of, files_with, files_of, change_files_of}
 use Rattle.sgm_app.proofs.Holding.{Distinct}
 
 -- ---- the names are those of the outputs
 
-heights_named : (asked : Operands) (text : Option (List ℕ)) → All (IsNamed asked) (files_with asked.out Heights text)
+heights_named : (asked : Operands) (text : Option (List ℕ)) → All (IsNamed (of_match asked)) (files_with asked.out Heights text)
 heights_named asked None = search rules
 heights_named asked (Some text) = search rules
 
-report_named : (asked : Operands) (text : Option (List ℕ)) → All (IsNamed asked) (files_with asked.out Report text)
+report_named : (asked : Operands) (text : Option (List ℕ)) → All (IsNamed (of_match asked)) (files_with asked.out Report text)
 report_named asked None = search rules
 report_named asked (Some text) = search rules
 
-disparity_named : (asked : Operands) (text : List ℕ) → All (IsNamed asked) (file_of asked.out Disparity text ∷ [])
+disparity_named : (asked : Operands) (text : List ℕ) → All (IsNamed (of_match asked)) (file_of asked.out Disparity text ∷ [])
 disparity_named asked text = search rules
 
-pub all_named : (asked : Operands) (texts : Texts) → All (IsNamed asked) (files_of asked.out texts)
+pub all_named : (asked : Operands) (texts : Texts) → All (IsNamed (of_match asked)) (files_of asked.out texts)
 all_named asked texts =
-    All-append (IsNamed asked) (file_of asked.out Disparity texts.disparity ∷ []) _ (disparity_named asked texts.disparity)
-    (All-append (IsNamed asked) (files_with asked.out Heights texts.heights) _ (heights_named asked texts.heights) (report_named asked texts.report))
+    All-append (IsNamed (of_match asked)) (file_of asked.out Disparity texts.disparity ∷ []) _ (disparity_named asked texts.disparity)
+    (All-append (IsNamed (of_match asked)) (files_with asked.out Heights texts.heights) _ (heights_named asked texts.heights) (report_named asked texts.report))
+
+difference_named : (asked : ChangeOperands) (text : List ℕ) → All (IsNamed (of_change asked)) (file_of asked.out Difference text ∷ [])
+difference_named asked text = search rules
+
+volumes_named : (asked : ChangeOperands) (text : List ℕ) → All (IsNamed (of_change asked)) (file_of asked.out Volumes text ∷ [])
+volumes_named asked text = search rules
+
+pub all_change_named : (asked : ChangeOperands) (texts : GridTexts) → All (IsNamed (of_change asked)) (change_files_of asked.out texts)
+all_change_named asked texts =
+    All-append (IsNamed (of_change asked)) (file_of asked.out Difference texts.difference ∷ []) _ (difference_named asked texts.difference) (volumes_named asked texts.volumes)
 
 -- the name of an output's file
 pub name_is : (ending : Option (List ℕ)) (out name : List ℕ) → IsSomeAnd ending (λ e. name ≡ out ++ e) → name ≡ out ++ unwrap_or ending []
@@ -54,3 +65,6 @@ files_distinct out disparity (Some heights) (Some report) = (
 
 pub all_distinct : (out : List ℕ) (texts : Texts) → Distinct (files_of out texts)
 all_distinct out texts = files_distinct out texts.disparity texts.heights texts.report
+
+pub all_change_distinct : (out : List ℕ) (texts : GridTexts) → Distinct (change_files_of out texts)
+all_change_distinct out texts = (ap (λ b. b || false) (apart out (codes ".asc") (codes ".csv") refl), (refl, tt))

@@ -11,7 +11,7 @@ use Rattle.sgm_calib.specs.Read.{Reads as ReadsCalib}
 use Rattle.sgm_calib.specs.declared.keys.CalibFault.{CalibFault}
 use Rattle.sgm_calib.proofs.Answers.{some_answer, one_answer}
 use Rattle.sgm_refine.specs.Refining.{Refining}
-use Rattle.sgm_words.specs.Operands.{Operands, operands, is_plain}
+use Rattle.sgm_words.specs.Operands.{Operands, operands, change_operands, is_plain}
 use Rattle.sgm_words.specs.Words.{read_of}
 use Rattle.sgm_words.specs.declared.usage.UsageFault.{UsageFault}
 use Rattle.sgm_words.specs.declared.options.Options.{Options}
@@ -19,8 +19,8 @@ use Rattle.sgm_words.specs.declared.options.Options.TheVariants as options
 use Rattle.sgm_words.specs.declared.files.Input.{Input}
 use Rattle.sgm_words.specs.declared.files.Input.TheVariants as input
 use Rattle.sgm_app.specs.Readings.{Readings, IsReading, AreReadings}
-use Rattle.sgm_app.specs.Verdict.{Verdict, usage, matched, demoed, judged, fetched, calib_fetched, calib_of}
-use Rattle.sgm_app.specs.Calls.{ReadCallsFor, CallsFor}
+use Rattle.sgm_app.specs.Verdict.{Verdict, usage, pair_fetched, grids_fetched, matched, traced, changed, demoed, fetched, calib_fetched, calib_of}
+use Rattle.sgm_app.specs.Calls.{PairCallsFor, ReadCallsFor, CallsFor}
 
 -- ---- some verdict
 
@@ -39,15 +39,19 @@ readings_some asked held are =
     let calib = calib_some (held asked.calib) in
     (record { left = left.0; right = right.0; calib = calib.0 }, record { left = left.1; right = right.1; calib = calib.1 })
 
-some_by : (read : Result Options UsageFault) (asked : Operands) (held : Held) → HoldsBytes held → (v : Verdict) × ReadCallsFor read asked held v
-some_by (Err fault) asked held are = (usage fault, refl)
-some_by (Ok (options.Match strips workers refine)) asked held are =
-    let found = readings_some asked held are in
-    (matched asked refine held found.0, record { readings = found.0; are_readings = found.1; is = refl })
-some_by (Ok (options.Demo number strips workers refine)) asked held are = (demoed number refine, refl)
+some_by : (read : Result Options UsageFault) (words : List (List ℕ)) (held : Held) → HoldsBytes held → (v : Verdict) × ReadCallsFor read words held v
+some_by (Err fault) words held are = (usage fault, refl)
+some_by (Ok (options.Match strips workers refine)) words held are =
+    let asked = operands words in let found = readings_some asked held are in
+    (pair_fetched asked held (matched asked.out refine found.0.left found.0.right (calib_of asked found.0)), record { readings = found.0; are_readings = found.1; is = refl })
+some_by (Ok (options.Demo number strips workers refine)) words held are = (demoed number refine, refl)
+some_by (Ok (options.Trace dir x y d)) words held are =
+    let asked = operands words in let found = readings_some asked held are in
+    (pair_fetched asked held (traced dir x y d found.0.left found.0.right (calib_of asked found.0)), record { readings = found.0; are_readings = found.1; is = refl })
+some_by (Ok options.Change) words held are = let asked = change_operands words in (grids_fetched asked held (changed asked held), refl)
 
 pub verdict_some : (words : List (List ℕ)) (held : Held) → HoldsBytes held → (v : Verdict) × CallsFor words held v
-verdict_some words held are = some_by (read_of words) (operands words) held are
+verdict_some words held are = some_by (read_of words) words held are
 
 -- ---- only one
 
@@ -70,21 +74,27 @@ calib_fetched_same true held r s next one other = refl
 calib_fetched_same false held r s next one other =
     fetched_same input.Calibration held (next r) (next s) (λ contents e. ap (λ (c : Result Calibration CalibFault). next c) (calib_one held contents e r s one other))
 
-matched_one : (asked : Operands) (refine : Refining) (held : Held) (one other : Readings) → AreReadings asked held one → AreReadings asked held other → matched asked refine held one ≡ matched asked refine held other
-unfolding matched
-matched_one asked refine held one other a b =
+pair_one : (asked : Operands) (judged : Result Picture PgmFault → Result Picture PgmFault → Result Calibration CalibFault → Verdict) (held : Held) (one other : Readings) → AreReadings asked held one → AreReadings asked held other
+    → pair_fetched asked held (judged one.left one.right (calib_of asked one)) ≡ pair_fetched asked held (judged other.left other.right (calib_of asked other))
+unfolding pair_fetched
+pair_one asked judged held one other a b =
     fetched_same input.Left (held asked.left) _ _ (λ l on_left.
     let left = image_one (held asked.left) l on_left one.left other.left a.left b.left in
     fetched_same input.Right (held asked.right) _ _ (λ r on_right.
     let right = image_one (held asked.right) r on_right one.right other.right a.right b.right in
-    calib_fetched_same (is_plain asked) (held asked.calib) one.calib other.calib (λ c. judged asked.out one.left one.right c refine) a.calib b.calib
-    ∙ ap (λ (x : Result Picture PgmFault). calib_fetched (is_plain asked) (held asked.calib) (judged asked.out x one.right (calib_of asked other) refine)) left
-    ∙ ap (λ (x : Result Picture PgmFault). calib_fetched (is_plain asked) (held asked.calib) (judged asked.out other.left x (calib_of asked other) refine)) right))
+    calib_fetched_same (is_plain asked) (held asked.calib) one.calib other.calib (λ c. judged one.left one.right c) a.calib b.calib
+    ∙ ap (λ (x : Result Picture PgmFault). calib_fetched (is_plain asked) (held asked.calib) (judged x one.right (calib_of asked other))) left
+    ∙ ap (λ (x : Result Picture PgmFault). calib_fetched (is_plain asked) (held asked.calib) (judged other.left x (calib_of asked other))) right))
 
-one_by : (read : Result Options UsageFault) (asked : Operands) (held : Held) (one other : Verdict) → ReadCallsFor read asked held one → ReadCallsFor read asked held other → one ≡ other
-one_by (Err fault) asked held one other a b = sym a ∙ b
-one_by (Ok (options.Match strips workers refine)) asked held one other a b = sym a.is ∙ matched_one asked refine held a.readings b.readings a.are_readings b.are_readings ∙ b.is
-one_by (Ok (options.Demo number strips workers refine)) asked held one other a b = sym a ∙ b
+calls_one : (asked : Operands) (judged : Result Picture PgmFault → Result Picture PgmFault → Result Calibration CalibFault → Verdict) (held : Held) (one other : Verdict) → PairCallsFor asked judged held one → PairCallsFor asked judged held other → one ≡ other
+calls_one asked judged held one other a b = sym a.is ∙ pair_one asked judged held a.readings b.readings a.are_readings b.are_readings ∙ b.is
+
+one_by : (read : Result Options UsageFault) (words : List (List ℕ)) (held : Held) (one other : Verdict) → ReadCallsFor read words held one → ReadCallsFor read words held other → one ≡ other
+one_by (Err fault) words held one other a b = sym a ∙ b
+one_by (Ok (options.Match strips workers refine)) words held one other a b = calls_one (operands words) (matched (operands words).out refine) held one other a b
+one_by (Ok (options.Demo number strips workers refine)) words held one other a b = sym a ∙ b
+one_by (Ok (options.Trace dir x y d)) words held one other a b = calls_one (operands words) (traced dir x y d) held one other a b
+one_by (Ok options.Change) words held one other a b = sym a ∙ b
 
 pub verdict_one : (words : List (List ℕ)) (held : Held) (one other : Verdict) → CallsFor words held one → CallsFor words held other → one ≡ other
-verdict_one words held one other a b = one_by (read_of words) (operands words) held one other a b
+verdict_one words held one other a b = one_by (read_of words) words held one other a b

@@ -10,7 +10,8 @@ use Rattle.sgm_outcome.specs.declared.outcome.Refusal.{Refusal}
 use Rattle.sgm_app.specs.Judge.{StopsFor}
 use Rattle.sgm_app.specs.Ends.{ShownBy}
 use Rattle.sgm_app.specs.Stops.{texts_outcome, survey_stop}
-use Rattle.sgm_app.specs.Verdict.{Verdict, or_refused, ◌>>=◌, refusal_of, unless_refused}
+use Rattle.sgm_app.specs.Refusals.{or_refused, ◌>>=◌, refusal_of}
+use Rattle.sgm_app.specs.Verdict.{Verdict, unless_refused}
 use Rattle.sgm_app.specs.declared.stops.TextsError.{TextsError}
 use Rattle.sgm_app.specs.declared.stops.TextsError.TheVariants.{Refused, NoMemory}
 

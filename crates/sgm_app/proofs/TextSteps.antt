@@ -12,7 +12,8 @@ use Rattle.sgm_outcome.specs.declared.outcome.Refusal.TheVariants.{Pgm, Calib}
 use Rattle.sgm_pair.specs.Pair.{pair_image}
 use Rattle.sgm_app.specs.Judge.{StopsFor}
 use Rattle.sgm_app.specs.Texts.{Texts, texts_of, demo_text}
-use Rattle.sgm_app.specs.Verdict.{or_refused, ◌>>=◌, refusal_of, texts_for, demo_for}
+use Rattle.sgm_app.specs.Refusals.{or_refused, ◌>>=◌, refusal_of}
+use Rattle.sgm_app.specs.Verdict.{texts_for, demo_for}
 use Rattle.sgm_app.specs.declared.demo.TheConstants.{DEMO_WIDTH, DEMO_HEIGHT}
 use Rattle.sgm_app.specs.declared.stops.TextsError.{TextsError}
 use Rattle.sgm_app.proofs.Steps.{goes_on, stops_on, stops_along}

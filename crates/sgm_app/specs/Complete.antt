@@ -1,10 +1,9 @@
 -- What the outcome must be where no count of faults stands in the way.
 use Rattle.std.specs.Prelude.{◌≡◌, ◌≢◌, ◌⊎◌, ⊤, ℕ, List, Contains, Result, Ok, Err}
 use Rattle.sgm_io.specs.Counts.{Counts, Rose}
-use Rattle.sgm_words.specs.Operands.{Operands, IsInputName}
+use Rattle.sgm_words.specs.Operands.{FileNames, names_of, IsInputName}
 use Rattle.sgm_words.specs.declared.usage.UsageFault.{UsageFault}
 use Rattle.sgm_words.specs.declared.options.Options.{Options}
-use Rattle.sgm_words.specs.declared.options.Options.TheVariants as options
 use Rattle.sgm_words.specs.declared.files.Input.{Input}
 use Rattle.sgm_words.specs.declared.files.Output.TheVariants.{Summary}
 use Rattle.sgm_outcome.specs.declared.outcome.Refusal.{Refusal}
@@ -15,12 +14,12 @@ use Rattle.sgm_app.specs.Verdict.{Verdict, absent, refused, IsFiles, outputs_of}
 use Rattle.sgm_app.specs.Ends.{Faults}
 
 -- no count of reading an input's name rose
-abbrev pub NoReadRose : Operands → Faults → Faults → Type 0
-NoReadRose asked before now = (input : Input) (name : List ℕ) → IsInputName asked input name → Rose (before.reads name) (now.reads name) → ⊥
+abbrev pub NoReadRose : FileNames → Faults → Faults → Type 0
+NoReadRose names before now = (input : Input) (name : List ℕ) → IsInputName names input name → Rose (before.reads name) (now.reads name) → ⊥
 
 -- no count of reading an input's name rose, but perhaps that of this input's
-abbrev pub OnlyReadRose : Operands → Input → Faults → Faults → Type 0
-OnlyReadRose asked input before now = (other : Input) (mine name : List ℕ) → IsInputName asked input mine → IsInputName asked other name → name ≢ mine
+abbrev pub OnlyReadRose : FileNames → Input → Faults → Faults → Type 0
+OnlyReadRose names input before now = (other : Input) (mine name : List ℕ) → IsInputName names input mine → IsInputName names other name → name ≢ mine
     → Rose (before.reads name) (now.reads name) → ⊥
 
 -- no count of writing a file of the verdict rose, nor that of `out`
@@ -32,26 +31,20 @@ pub record NoWriteRose (verdict : Verdict) (before now : Faults) : Type 0 where
 abbrev pub IsUnlessMemory : Outcome → Outcome → Type 0
 IsUnlessMemory outcome wanted = (outcome ≡ wanted) ⊎ (outcome ≡ NoMemory)
 
-pub record IsComplete (asked : Operands) (verdict : Verdict) (outcome : Outcome) (before now : Faults) : Type 0 where
+pub record IsComplete (names : FileNames) (verdict : Verdict) (outcome : Outcome) (before now : Faults) : Type 0 where
   -- files that can be read and written are
-  pub files : IsFiles verdict → NoReadRose asked before now → NoWriteRose verdict before now → IsUnlessMemory outcome Done
+  pub files : IsFiles verdict → NoReadRose names before now → NoWriteRose verdict before now → IsUnlessMemory outcome Done
   -- inputs that can be read are refused for what they hold
-  pub refused_for : (refusal : Refusal) → verdict ≡ refused refusal → NoReadRose asked before now → IsUnlessMemory outcome (Refused refusal)
+  pub refused_for : (refusal : Refusal) → verdict ≡ refused refusal → NoReadRose names before now → IsUnlessMemory outcome (Refused refusal)
   -- an absent input is a fault of reading
   pub absent_one : (input : Input) → verdict ≡ absent input → ((at : Input) × (outcome ≡ ReadFault at)) ⊎ (outcome ≡ NoMemory)
   -- of that input, where the count of no other input's name rose
-  pub absent_only : (input : Input) → verdict ≡ absent input → OnlyReadRose asked input before now → IsUnlessMemory outcome (ReadFault input)
-
--- a demo is done, or there was no memory, where the count of `out` didn't rise
-pub record IsDemoComplete (verdict : Verdict) (outcome : Outcome) (before now : Faults) : Type 0 where
-  pub files : IsFiles verdict → (Rose before.out now.out → ⊥) → IsUnlessMemory outcome Done
-  pub refused_for : (refusal : Refusal) → verdict ≡ refused refusal → IsUnlessMemory outcome (Refused refusal)
+  pub absent_only : (input : Input) → verdict ≡ absent input → OnlyReadRose names input before now → IsUnlessMemory outcome (ReadFault input)
 
 -- over the words, whose faults have a clause of their own
-abbrev pub RunComplete : Result Options UsageFault → Operands → Verdict → Outcome → Faults → Faults → Type 0
-RunComplete (Err fault) asked verdict outcome before now = ⊤
-RunComplete (Ok (options.Match strips workers refine)) asked verdict outcome before now = IsComplete asked verdict outcome before now
-RunComplete (Ok (options.Demo number strips workers refine)) asked verdict outcome before now = IsDemoComplete verdict outcome before now
+abbrev pub RunComplete : Result Options UsageFault → List (List ℕ) → Verdict → Outcome → Faults → Faults → Type 0
+RunComplete (Err fault) words verdict outcome before now = ⊤
+RunComplete (Ok options) words verdict outcome before now = IsComplete (names_of options words) verdict outcome before now
 
 -- no fault of reading, and none of writing a file
 abbrev pub IsNoFileFault : Outcome → Type 0

@@ -2,7 +2,7 @@
 use Rattle.std.specs.Prelude.{◌≡◌, ◌⊎◌, ⊤, ℕ, List, [], ◌∷◌, ◌++◌, Option, None, All, Result, Ok, Err}
 use Rattle.sgm_io.specs.Held.{Held, put, IsPrefix}
 use Rattle.sgm_io.specs.Unfinished.{NameSet, with_name, without_name}
-use Rattle.sgm_words.specs.Operands.{Operands}
+use Rattle.sgm_words.specs.Operands.{FileNames}
 use Rattle.sgm_words.specs.declared.files.Output.{Output}
 use Rattle.sgm_words.specs.declared.files.Output.TheVariants.{Summary}
 use Rattle.sgm_outcome.specs.declared.outcome.Outcome.{Outcome}
@@ -106,8 +106,8 @@ FinishesFiles wanted (Err stop) old new = LeavesOne wanted stop old new
 
 -- where the file has the name of its output, the counts show the stop
 abbrev pub FileCounts : OutputFile → WriteStop → Faults → Faults → Type 0
-FileCounts file stop before now = (asked : Operands) → IsNamed asked file → CountsShow asked (write_outcome stop) before now
+FileCounts file stop before now = (names : FileNames) → IsNamed names file → CountsShow names (write_outcome stop) before now
 
 -- where the files have the names of their outputs, the counts show the stop
 abbrev pub FilesCounts : List OutputFile → WriteStop → Faults → Faults → Type 0
-FilesCounts wanted stop before now = (asked : Operands) → All (IsNamed asked) wanted → CountsShow asked (write_outcome stop) before now
+FilesCounts wanted stop before now = (names : FileNames) → All (IsNamed names) wanted → CountsShow names (write_outcome stop) before now

@@ -3,12 +3,12 @@ use Rattle.std.specs.Prelude.{◌≡◌, ◌≢◌, ◌⊎◌, ℕ, ◌<◌, ◌
 use Rattle.sgm_io.specs.Held.{Held, IsPrefix}
 use Rattle.sgm_io.specs.Counts.{Counts, NoneFell, RoseAt, Rose}
 use Rattle.sgm_io.specs.Sink.{GrowsByPrefix}
-use Rattle.sgm_words.specs.Operands.{Operands, IsInputName, IsOutputName}
+use Rattle.sgm_words.specs.Operands.{FileNames, names_of, IsInputName, IsOutputName}
 use Rattle.sgm_words.specs.declared.usage.UsageFault.{UsageFault}
 use Rattle.sgm_words.specs.declared.options.Options.{Options}
 use Rattle.sgm_words.specs.declared.options.Options.TheVariants as options
 use Rattle.sgm_words.specs.declared.files.Input.{Input}
-use Rattle.sgm_words.specs.declared.files.Input.TheVariants.{Left, Right, Calibration}
+use Rattle.sgm_words.specs.declared.files.Input.TheVariants.{Left, Right, Calibration, Earlier, Later}
 use Rattle.sgm_words.specs.declared.files.Output.{Output}
 use Rattle.sgm_words.specs.declared.files.Output.TheVariants.{Summary}
 use Rattle.sgm_outcome.specs.declared.outcome.Refusal.TheVariants.{TooLong}
@@ -61,7 +61,7 @@ OutUntouched (ReadFault input) old new = new ≡ old
 OutUntouched (WriteFault output) old new = output ≢ Summary → new ≡ old
 OutUntouched NoMemory old new = new ≡ old
 
--- which name is being written after an outcome of a match: none after Done; after a fault of writing, and where
+-- which name is being written after an outcome of a run that writes files: none after Done; after a fault of writing, and where
 -- there was no memory, it isn't said; else the one that was being written before
 abbrev pub WritingStands : Outcome → Option (List ℕ) → Option (List ℕ) → Type 0
 WritingStands Done old new = new ≡ None
@@ -71,11 +71,13 @@ WritingStands (ReadFault input) old new = new ≡ old
 WritingStands (WriteFault output) old new = ⊤
 WritingStands NoMemory old new = ⊤
 
--- the order in which the inputs are fetched
+-- the order in which a run fetches those inputs that it asks for
 abbrev pub order_of : Input → ℕ
 order_of Left = 0
 order_of Right = 1
 order_of Calibration = 2
+order_of Earlier = 3
+order_of Later = 4
 
 -- none of the first n inputs is absent or too long
 pub record NoneBefore (n : ℕ) (verdict : Verdict) : Type 0 where
@@ -107,17 +109,17 @@ pub record SameFaults (before now : Faults) : Type 0 where
   pub out : now.out ≡ before.out
 
 -- the count of reading the input's name rose, no count fell, and that of `out` is as before
-pub record ReadRose (asked : Operands) (input : Input) (before now : Faults) : Type 0 where
+pub record ReadRose (names : FileNames) (input : Input) (before now : Faults) : Type 0 where
   pub name : List ℕ
-  pub is_name : IsInputName asked input name
+  pub is_name : IsInputName names input name
   pub reads : RoseAt name before.reads now.reads
   pub writes : NoneFell before.writes now.writes
   pub out : now.out ≡ before.out
 
 -- the count of writing the output's name rose, no count fell, and that of `out` is as before
-pub record FileRose (asked : Operands) (output : Output) (before now : Faults) : Type 0 where
+pub record FileRose (names : FileNames) (output : Output) (before now : Faults) : Type 0 where
   pub name : List ℕ
-  pub is_name : IsOutputName asked output name
+  pub is_name : IsOutputName names output name
   pub writes : RoseAt name before.writes now.writes
   pub reads : NoneFell before.reads now.reads
   pub out : now.out ≡ before.out
@@ -130,13 +132,13 @@ pub record OutRose (before now : Faults) : Type 0 where
   pub out : Rose before.out now.out
 
 -- the part of an outcome's cause that the counts show
-abbrev pub CountsShow : Operands → Outcome → Faults → Faults → Type 0
-CountsShow asked Done before now = SameFaults before now
-CountsShow asked (Usage fault) before now = ⊥
-CountsShow asked (Refused refusal) before now = SameFaults before now
-CountsShow asked (ReadFault input) before now = ReadRose asked input before now
-CountsShow asked (WriteFault output) before now = FileRose asked output before now ⊎ ((output ≡ Summary) × OutRose before now)
-CountsShow asked NoMemory before now = SameFaults before now
+abbrev pub CountsShow : FileNames → Outcome → Faults → Faults → Type 0
+CountsShow names Done before now = SameFaults before now
+CountsShow names (Usage fault) before now = ⊥
+CountsShow names (Refused refusal) before now = SameFaults before now
+CountsShow names (ReadFault input) before now = ReadRose names input before now
+CountsShow names (WriteFault output) before now = FileRose names output before now ⊎ ((output ≡ Summary) × OutRose before now)
+CountsShow names NoMemory before now = SameFaults before now
 
 -- the part of an outcome's cause that the counts show, where no file is read or written
 abbrev pub OutCountsShow : Outcome → Faults → Faults → Type 0
@@ -148,17 +150,17 @@ OutCountsShow (WriteFault output) before now = (output ≡ Summary) × OutRose b
 OutCountsShow NoMemory before now = SameFaults before now
 
 -- over the words: a fault of the words is the outcome, and no count changed
-abbrev pub RunCounts : Result Options UsageFault → Operands → Outcome → Faults → Faults → Type 0
-RunCounts (Err fault) asked outcome before now = (outcome ≡ Usage fault) × SameFaults before now
-RunCounts (Ok (options.Match strips workers refine)) asked outcome before now = CountsShow asked outcome before now
-RunCounts (Ok (options.Demo number strips workers refine)) asked outcome before now = OutCountsShow outcome before now
+abbrev pub RunCounts : Result Options UsageFault → List (List ℕ) → Outcome → Faults → Faults → Type 0
+RunCounts (Err fault) words outcome before now = (outcome ≡ Usage fault) × SameFaults before now
+RunCounts (Ok options) words outcome before now = CountsShow (names_of options words) outcome before now
 
--- which name is being written after an outcome: after Done of a match none; where a file was not written to its
--- end, it isn't said; else the one that was being written before
+-- which name is being written after an outcome: where no file is written, the one that was being written before
 abbrev pub RunWriting : Result Options UsageFault → Outcome → Option (List ℕ) → Option (List ℕ) → Type 0
 RunWriting (Err fault) outcome old new = new ≡ old
 RunWriting (Ok (options.Match strips workers refine)) outcome old new = WritingStands outcome old new
 RunWriting (Ok (options.Demo number strips workers refine)) outcome old new = new ≡ old
+RunWriting (Ok (options.Trace dir x y d)) outcome old new = new ≡ old
+RunWriting (Ok options.Change) outcome old new = WritingStands outcome old new
 
 -- a stage over the shelf alone: at Ok no count changed; a stop is shown by the counts, whatever `out` has counted
 abbrev pub StageCounts : {T S : Type 0} → (S → Faults → Faults → Type 0) → Result T S → Counts → Counts → Counts → Counts → Type 0

@@ -2,12 +2,13 @@
 use Rattle.std.specs.Prelude.{◌≡◌, ⊤, ℕ, List, Bool, true, false, Option, None, Some, Result, Ok, Err, Vec}
 use Rattle.std.specs.declared.alloc.Global.{Global}
 use Rattle.sgm_io.specs.Held.{Held}
-use Rattle.sgm_words.specs.Operands.{Operands, is_plain}
+use Rattle.sgm_words.specs.Operands.{Operands, ChangeOperands, FileNames, is_plain, IsInputName, IsPairInput, IsChangeInput}
 use Rattle.sgm_words.specs.declared.files.Input.{Input}
 use Rattle.sgm_words.specs.declared.files.Input.TheVariants as input
 use Rattle.sgm_app.specs.Verdict.{Verdict, fetched, calib_fetched}
 use Rattle.sgm_app.specs.Ends.{ShownBy, NoneBefore, order_of, CountsShow, Faults}
 use Rattle.sgm_app.specs.Stops.{fetch_outcome}
+use Rattle.sgm_app.specs.declared.gather.Grids.{Grids}
 use Rattle.sgm_app.specs.declared.gather.Inputs.{Inputs}
 use Rattle.sgm_app.specs.declared.stops.FetchStop.{FetchStop}
 
@@ -38,6 +39,19 @@ pub record AtHand (asked : Operands) (held : Held) (inputs : Inputs) : Type 0 wh
   pub right : held asked.right ≡ Some inputs.right.items
   pub calib : HasCalib (is_plain asked) (held asked.calib) inputs.calib
 
+-- the grids at hand are what is held
+pub record GridsAtHand (asked : ChangeOperands) (held : Held) (grids : Grids) : Type 0 where
+  pub earlier : held asked.earlier ≡ Some grids.earlier.items
+  pub later : held asked.later ≡ Some grids.later.items
+
+-- the inputs of a match or a trace are asked for under their names
+abbrev pub HavePair : Operands → FileNames → Type 0
+HavePair asked names = (input : Input) (name : List ℕ) → IsPairInput asked input name → IsInputName names input name
+
+-- the grids of a change are
+abbrev pub HaveGrids : ChangeOperands → FileNames → Type 0
+HaveGrids asked names = (input : Input) (name : List ℕ) → IsChangeInput asked input name → IsInputName names input name
+
 -- the counts show the stop
-abbrev pub StopCounts : Operands → FetchStop → Faults → Faults → Type 0
-StopCounts asked stop before now = CountsShow asked (fetch_outcome stop) before now
+abbrev pub StopCounts : FileNames → FetchStop → Faults → Faults → Type 0
+StopCounts names stop before now = CountsShow names (fetch_outcome stop) before now

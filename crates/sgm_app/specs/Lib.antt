@@ -1,4 +1,6 @@
 pub mod Calls
+pub mod Certificates
+pub mod Changing
 pub mod Complete
 pub mod Deliver
 pub mod Ends
@@ -7,6 +9,7 @@ pub mod Judge
 pub mod Made
 pub mod Outputs
 pub mod Readings
+pub mod Refusals
 pub mod Stops
 pub mod Texts
 pub mod Unfinished

@@ -3,9 +3,10 @@ use Rattle.std.specs.Prelude.{ℕ, List, [], ◌∷◌, ◌++◌, Bool, Option, 
 use Rattle.std.specs.List.{list_any}
 use Rattle.std.specs.Str.{bytes_eq}
 use Rattle.sgm_words.specs.Files.{ending_of}
-use Rattle.sgm_words.specs.Operands.{Operands, IsOutputName}
+use Rattle.sgm_words.specs.Operands.{FileNames, IsOutputName}
 use Rattle.sgm_words.specs.declared.files.Output.{Output}
-use Rattle.sgm_words.specs.declared.files.Output.TheVariants.{Disparity, Heights, Report}
+use Rattle.sgm_words.specs.declared.files.Output.TheVariants.{Disparity, Heights, Report, Difference, Volumes}
+use Rattle.sgm_app.specs.Changing.{GridTexts}
 use Rattle.sgm_app.specs.Texts.{Texts}
 
 -- a file that is to be written
@@ -23,13 +24,17 @@ abbrev pub files_with : List ℕ → Output → Option (List ℕ) → List Outpu
 files_with out output None = []
 files_with out output (Some text) = file_of out output text ∷ []
 
--- the files of these texts, in this order
+-- the files of the texts of a match, in this order
 abbrev pub files_of : List ℕ → Texts → List OutputFile
 files_of out texts = file_of out Disparity texts.disparity ∷ files_with out Heights texts.heights ++ files_with out Report texts.report
 
+-- the files of the texts of a change, in this order
+abbrev pub change_files_of : List ℕ → GridTexts → List OutputFile
+change_files_of out texts = file_of out Difference texts.difference ∷ file_of out Volumes texts.volumes ∷ []
+
 -- the file has the name that its output is to have
-abbrev pub IsNamed : Operands → OutputFile → Type 0
-IsNamed asked file = IsOutputName asked file.output file.name
+abbrev pub IsNamed : FileNames → OutputFile → Type 0
+IsNamed names file = IsOutputName names file.output file.name
 
 -- the name is that of one of the files
 abbrev pub is_named : List OutputFile → List ℕ → Bool

@@ -4,7 +4,7 @@ use Rattle.sgm_job.specs.declared.job.SurveyError.TheVariants as survey
 use Rattle.sgm_outcome.specs.declared.outcome.Refusal.TheVariants.{TooLong}
 use Rattle.sgm_outcome.specs.declared.outcome.Outcome.{Outcome}
 use Rattle.sgm_outcome.specs.declared.outcome.Outcome.TheVariants as outcome
-use Rattle.sgm_app.specs.Verdict.{refusal_of}
+use Rattle.sgm_app.specs.Refusals.{refusal_of}
 use Rattle.sgm_app.specs.declared.stops.FetchStop.{FetchStop}
 use Rattle.sgm_app.specs.declared.stops.FetchStop.TheVariants as fetch
 use Rattle.sgm_app.specs.declared.stops.TextsError.{TextsError}

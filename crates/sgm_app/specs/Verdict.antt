@@ -7,20 +7,23 @@ use Rattle.sgm_io.specs.Held.{Held}
 use Rattle.sgm_pgm.specs.declared.fault.PgmFault.{PgmFault}
 use Rattle.sgm_calib.specs.Calibration.{Calibration, plain}
 use Rattle.sgm_calib.specs.declared.keys.CalibFault.{CalibFault}
+use Rattle.sgm_energy.specs.declared.dir.Dir.{Dir}
 use Rattle.sgm_refine.specs.Refining.{Refining}
 use Rattle.sgm_job.specs.Survey.{surveyed}
-use Rattle.sgm_job.specs.declared.job.SurveyFault.{SurveyFault}
-use Rattle.sgm_job.specs.declared.job.SurveyFault.TheVariants as fault
-use Rattle.sgm_words.specs.Operands.{Operands, is_plain}
+use Rattle.sgm_words.specs.Operands.{Operands, ChangeOperands, is_plain}
 use Rattle.sgm_words.specs.declared.usage.UsageFault.{UsageFault}
+use Rattle.sgm_words.specs.declared.files.TheConstants.{MAX_GRID_BYTES}
 use Rattle.sgm_words.specs.declared.files.Input.{Input}
 use Rattle.sgm_words.specs.declared.files.Input.TheVariants as input
 use Rattle.sgm_outcome.specs.declared.outcome.Refusal.{Refusal}
-use Rattle.sgm_outcome.specs.declared.outcome.Refusal.TheVariants.{TooLong, Pgm, Calib, SizesDiffer, VolumeTooLarge, Warp}
+use Rattle.sgm_outcome.specs.declared.outcome.Refusal.TheVariants.{TooLong, Pgm, Calib}
 use Rattle.sgm_pair.specs.Pair.{pair_image}
-use Rattle.sgm_app.specs.Readings.{Readings}
+use Rattle.sgm_app.specs.Refusals.{or_refused, ◌>>=◌, refusal_of}
+use Rattle.sgm_app.specs.Readings.{Readings, grid_reading}
 use Rattle.sgm_app.specs.Texts.{Texts, texts_of, demo_text}
-use Rattle.sgm_app.specs.Outputs.{OutputFile, files_of}
+use Rattle.sgm_app.specs.Certificates.{certificate_for}
+use Rattle.sgm_app.specs.Changing.{GridTexts, change_for}
+use Rattle.sgm_app.specs.Outputs.{OutputFile, files_of, change_files_of}
 use Rattle.sgm_app.specs.declared.demo.TheConstants.{DEMO_WIDTH, DEMO_HEIGHT}
 
 -- the first of these that applies
@@ -41,6 +44,8 @@ abbrev pub most_bytes : Input → ℕ
 most_bytes input.Left = MAX_IMAGE_BYTES
 most_bytes input.Right = MAX_IMAGE_BYTES
 most_bytes input.Calibration = MAX_CALIB_BYTES
+most_bytes input.Earlier = MAX_GRID_BYTES
+most_bytes input.Later = MAX_GRID_BYTES
 
 -- an input as it is fetched: absent, longer than it may be, or at hand
 abbrev pub fetched : Input → Option (List ℕ) → Verdict → Verdict
@@ -52,24 +57,15 @@ abbrev pub calib_fetched : Bool → Option (List ℕ) → Verdict → Verdict
 calib_fetched true held next = next
 calib_fetched false held next = fetched input.Calibration held next
 
+-- the inputs of a match or a trace as they are fetched
+unfoldable pub pair_fetched : Operands → Held → Verdict → Verdict
+pair_fetched asked held next = fetched input.Left (held asked.left) (fetched input.Right (held asked.right) (calib_fetched (is_plain asked) (held asked.calib) next))
+
+-- the grids of a change as they are fetched
+unfoldable pub grids_fetched : ChangeOperands → Held → Verdict → Verdict
+grids_fetched asked held next = fetched input.Earlier (held asked.earlier) (fetched input.Later (held asked.later) next)
+
 -- ---- the inputs as they are judged
-
--- what is read, or the refusal for its fault
-abbrev pub or_refused : {T F : Type 0} → (F → Refusal) → Result T F → Result T Refusal
-or_refused refusal (Ok value) = Ok value
-or_refused refusal (Err fault) = Err (refusal fault)
-
--- what comes next of a value; a refusal stays
-infixl 10 ◌>>=◌
-abbrev pub ◌>>=◌ : {T U : Type 0} → Result T Refusal → (T → Result U Refusal) → Result U Refusal
-Ok value >>= next = next value
-Err refusal >>= next = Err refusal
-
--- the refusal for a survey's fault
-abbrev pub refusal_of : SurveyFault → Refusal
-refusal_of (fault.SizesDiffer left right) = SizesDiffer left right
-refusal_of (fault.VolumeTooLarge cells) = VolumeTooLarge cells
-refusal_of (fault.Warp side found) = Warp side found
 
 -- the texts that inputs with these readings call for, their map being refined so, or their first refusal
 unfoldable pub texts_for : Result Picture PgmFault → Result Picture PgmFault → Result Calibration CalibFault → Refining → Result Texts Refusal
@@ -97,17 +93,18 @@ unless_refused (Err refusal) next = refused refusal
 abbrev pub calib_of : Operands → Readings → Result Calibration CalibFault
 calib_of asked readings = if is_plain asked then Ok plain else readings.calib
 
--- what inputs with these readings call for: their texts under OUT, and the summary
-abbrev pub judged : List ℕ → Result Picture PgmFault → Result Picture PgmFault → Result Calibration CalibFault → Refining → Verdict
-judged out left right calib refine = unless_refused (texts_for left right calib refine) (λ texts. files (files_of out texts) texts.summary)
+-- what a match calls for whose inputs have these readings: their texts under OUT, and the summary
+abbrev pub matched : List ℕ → Refining → Result Picture PgmFault → Result Picture PgmFault → Result Calibration CalibFault → Verdict
+matched out refine left right calib = unless_refused (texts_for left right calib refine) (λ texts. files (files_of out texts) texts.summary)
 
--- what a match calls for
-unfoldable pub matched : Operands → Refining → Held → Readings → Verdict
-matched asked refine held readings =
-    fetched input.Left (held asked.left) (
-    fetched input.Right (held asked.right) (
-    calib_fetched (is_plain asked) (held asked.calib) (
-    judged asked.out readings.left readings.right (calib_of asked readings) refine)))
+-- what a trace calls for whose inputs have these readings: no file, and the certificate
+abbrev pub traced : Dir → ℕ → ℕ → ℕ → Result Picture PgmFault → Result Picture PgmFault → Result Calibration CalibFault → Verdict
+traced dir x y d left right calib = unless_refused (certificate_for left right calib dir x y d) (λ text. files [] text)
+
+-- what a change calls for whose grids are held: their texts under OUT, and the summary
+abbrev pub changed : ChangeOperands → Held → Verdict
+changed asked held =
+    unless_refused (change_for (grid_reading (held asked.earlier)) (grid_reading (held asked.later))) (λ texts. files (change_files_of asked.out texts) texts.summary)
 
 -- what a demo calls for
 abbrev pub demoed : ℕ → Refining → Verdict

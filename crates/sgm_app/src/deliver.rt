@@ -1,6 +1,6 @@
 //! Writing the files, and then the summary.
 ghost use Rattle.std.specs.Prelude.{◌≡◌, ◌<◌, length, IsTrue, All};
-ghost use Rattle.sgm_words.specs.Operands.{Operands};
+ghost use Rattle.sgm_words.specs.Operands.{FileNames};
 ghost use Rattle.sgm_outcome.specs.declared.outcome.Outcome.TheVariants.{Done};
 ghost use Rattle.sgm_app.specs.Outputs.{IsNamed};
 ghost use Rattle.sgm_app.specs.Verdict.{files};
@@ -62,10 +62,10 @@ pub fn deliver<S: Shelf, O: Sink>(shelf: &mut S, out: &mut O, delivery: &Deliver
     ensures out { IsTrue O.tells → OutStands result (files delivery.now.files.items delivery.now.summary.items) (O.written out.old) (O.written out.new) }
     ensures untouched { IsTrue O.tells → OutUntouched result (O.written out.old) (O.written out.new) }
     ensures writing { WritingStands result (S.writing shelf.old) (S.writing shelf.new) }
-    ensures unfinished { (asked : Operands) → All (IsNamed asked) delivery.now.files.items
-        → UnfinishedStands asked result (S.unfinished shelf.old) (S.unfinished shelf.new) }
+    ensures unfinished { (names : FileNames) → All (IsNamed names) delivery.now.files.items
+        → UnfinishedStands names result (S.unfinished shelf.old) (S.unfinished shelf.new) }
     ensures finished { result ≡ Done → AreFinished delivery.now.files.items (S.unfinished shelf.new) }
-    ensures counts { (asked : Operands) → All (IsNamed asked) delivery.now.files.items → CountsShow asked result
+    ensures counts { (names : FileNames) → All (IsNamed names) delivery.now.files.items → CountsShow names result
         (faults (S.read_faults shelf.old) (S.write_faults shelf.old) (O.faults out.old))
         (faults (S.read_faults shelf.new) (S.write_faults shelf.new) (O.faults out.new)) }
 {

@@ -6,8 +6,8 @@ ghost use Rattle.sgm_app.specs.Judge.{StopsFor};
 ghost use Rattle.sgm_app.specs.Ends.{ShownBy, OutStands, OutUntouched, OutCountsShow, faults};
 ghost use Rattle.sgm_app.specs.Verdict.{demo_for, demoed};
 
+use crate::made::demo_text;
 use crate::stops::TextsError;
-use crate::texts::demo_text;
 use crate::{Outcome, Output, pair};
 use sgm_base::Size;
 use sgm_calib::Calib;

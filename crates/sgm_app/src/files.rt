@@ -1,12 +1,14 @@
 //! The files that are written: the texts under the names of their outputs.
 ghost use Rattle.std.specs.Prelude.{◌≡◌, ◌<◌, ◌++◌, length, All, IsSome, IfOk, OnOk, option_map};
 ghost use Rattle.sgm_words.specs.Files.{ending_of};
-ghost use Rattle.sgm_app.specs.Made.{texts_in};
-ghost use Rattle.sgm_app.specs.Outputs.{IsNamed, file_of, files_with, files_of};
+ghost use Rattle.sgm_words.specs.Operands.{of_match, of_change};
+ghost use Rattle.sgm_app.specs.Made.{texts_in, change_texts_in};
+ghost use Rattle.sgm_app.specs.Outputs.{IsNamed, file_of, files_with, files_of, change_files_of};
 
 use crate::Output;
-use crate::texts::MadeTexts;
-use sgm_words::OperandWords;
+use crate::changing::ChangeTexts;
+use crate::made::MadeTexts;
+use sgm_words::{ChangeWords, OperandWords};
 use std::alloc::{AllocError, Global};
 use std::marker::Model;
 
@@ -61,7 +63,7 @@ impl OutputText {
     }
 }
 
-/// All that a match is to write: at least one file, and the summary.
+/// All that a match or a change is to write: at least one file, and the summary.
 #[derive(Drop)]
 pub struct Delivery {
     pub files: Vec<OutputText>,
@@ -86,7 +88,7 @@ fn add_file(
     Ok(())
 }
 
-/// Puts the texts under the names of their outputs. All memory of a run is taken once this is done.
+/// Puts the texts of a match under the names of their outputs. All memory of a run is taken once this is done.
 pub fn name_texts(
     alloc: Global,
     operands: &OperandWords<'_>,
@@ -94,7 +96,7 @@ pub fn name_texts(
 ) -> Result<Delivery, AllocError>
     ensures files { IfOk result (λ delivery. delivery.files.items ≡ files_of operands.now.out (texts_in texts)) }
     ensures summary { IfOk result (λ delivery. delivery.summary.items ≡ (texts_in texts).summary) }
-    ensures named { IfOk result (λ delivery. All (IsNamed operands.now) delivery.files.items) }
+    ensures named { IfOk result (λ delivery. All (IsNamed (of_match operands.now)) delivery.files.items) }
 {
     let MadeTexts {
         disparity,
@@ -107,5 +109,27 @@ pub fn name_texts(
     add_file(alloc, out, Output::Disparity, Some(disparity), &mut files)?;
     add_file(alloc, out, Output::Heights, heights, &mut files)?;
     add_file(alloc, out, Output::Report, report, &mut files)?;
+    Ok(Delivery { files, summary })
+}
+
+/// The same of the texts of a change.
+pub fn name_change(
+    alloc: Global,
+    operands: &ChangeWords<'_>,
+    texts: ChangeTexts,
+) -> Result<Delivery, AllocError>
+    ensures files { IfOk result (λ delivery. delivery.files.items ≡ change_files_of operands.now.out (change_texts_in texts)) }
+    ensures summary { IfOk result (λ delivery. delivery.summary.items ≡ (change_texts_in texts).summary) }
+    ensures named { IfOk result (λ delivery. All (IsNamed (of_change operands.now)) delivery.files.items) }
+{
+    let ChangeTexts {
+        difference,
+        volumes,
+        summary,
+    } = texts;
+    let out = operands.out();
+    let mut files = Vec::with_capacity(alloc, 2)?;
+    add_file(alloc, out, Output::Difference, Some(difference), &mut files)?;
+    add_file(alloc, out, Output::Volumes, Some(volumes), &mut files)?;
     Ok(Delivery { files, summary })
 }

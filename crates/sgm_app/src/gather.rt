@@ -1,26 +1,42 @@
 //! Fetching the inputs, in their order.
-ghost use Rattle.std.specs.Prelude.{◌≡◌, IsTrue, MatchResult, IfOk};
-ghost use Rattle.sgm_refine.specs.Refining.{Refining};
-ghost use Rattle.sgm_words.specs.Operands.{is_plain, input_name, IsInputName};
-ghost use Rattle.sgm_app.specs.Ends.{StageCounts, ShownBy};
+ghost use Rattle.std.specs.Prelude.{◌≡◌, IsTrue, MatchResult, IfOk, option_map};
+ghost use Rattle.sgm_words.specs.Operands.{FileNames, is_plain, IsInputName};
+ghost use Rattle.sgm_app.specs.Ends.{StageCounts, ShownBy, NoneBefore};
 ghost use Rattle.sgm_app.specs.Stops.{fetch_outcome};
-ghost use Rattle.sgm_app.specs.Readings.{Readings};
-ghost use Rattle.sgm_app.specs.Gather.{FetchesInput, FetchesCalib, AtHand, StopCounts};
-ghost use Rattle.sgm_app.specs.Verdict.{most_bytes, matched, judged, calib_of};
+ghost use Rattle.sgm_app.specs.Gather.{FetchesInput, FetchesCalib, AtHand, GridsAtHand, HavePair, HaveGrids, StopCounts};
+ghost use Rattle.sgm_app.specs.Verdict.{Verdict, most_bytes, pair_fetched, grids_fetched};
 
 use crate::Input;
 use crate::stops::FetchStop;
 use sgm_base::{MAX_CALIB_BYTES, MAX_IMAGE_BYTES};
 use sgm_io::{FetchError, Shelf};
-use sgm_words::OperandWords;
+use sgm_words::{ChangeWords, MAX_GRID_BYTES, OperandWords};
 use std::alloc::Global;
 
-/// The bytes of the inputs; those of the calibration where it isn't the plain one.
+/// The bytes of the inputs of a match or a trace; those of the calibration where it isn't the plain one.
 #[derive(Drop)]
 pub struct Inputs {
     pub left: Vec<u8>,
     pub right: Vec<u8>,
     pub calib: Option<Vec<u8>>,
+}
+
+/// The bytes of the grids of a change.
+#[derive(Drop)]
+pub struct Grids {
+    pub earlier: Vec<u8>,
+    pub later: Vec<u8>,
+}
+
+impl Inputs {
+    pub fn calib(&self) -> Option<&[u8]>
+        ensures { option_map (λ bytes. bytes.now) result ≡ option_map (λ bytes. bytes.items) self.now.calib }
+    {
+        match &self.calib {
+            Some(bytes) => Some(bytes.as_slice()),
+            None => None,
+        }
+    }
 }
 
 // How many bytes an input may have.
@@ -30,25 +46,25 @@ fn most_bytes(input: Input) -> usize
     match input {
         Input::Left | Input::Right => MAX_IMAGE_BYTES,
         Input::Calibration => MAX_CALIB_BYTES,
+        Input::Earlier | Input::Later => MAX_GRID_BYTES,
     }
 }
 
 fn fetch_input<S: Shelf>(
     alloc: Global,
     shelf: &mut S,
-    operands: &OperandWords<'_>,
     input: Input,
+    name: &str,
 ) -> Result<Vec<u8>, FetchStop>
-    requires { IsInputName operands.now input (input_name operands.now input) }
     ensures held { IsTrue S.tells → S.held shelf.new ≡ S.held shelf.old }
-    ensures bytes { IsTrue S.tells → FetchesInput input (S.held shelf.old (input_name operands.now input)) result }
+    ensures bytes { IsTrue S.tells → FetchesInput input (S.held shelf.old name.now) result }
     ensures writing { S.writing shelf.new ≡ S.writing shelf.old }
     ensures unfinished { S.unfinished shelf.new ≡ S.unfinished shelf.old }
-    ensures counts { StageCounts (StopCounts operands.now) result
+    ensures counts { (names : FileNames) → IsInputName names input name.now → StageCounts (StopCounts names) result
         (S.read_faults shelf.old) (S.write_faults shelf.old) (S.read_faults shelf.new) (S.write_faults shelf.new) }
 {
     let mut bytes = Vec::new(alloc);
-    match shelf.fetch(operands.input(input), most_bytes(input), &mut bytes) {
+    match shelf.fetch(name, most_bytes(input), &mut bytes) {
         Ok(()) => Ok(bytes),
         Err(FetchError::Failed) => Err(FetchStop::Unread(input)),
         Err(FetchError::TooLong) => Err(FetchStop::TooLong(input)),
@@ -65,19 +81,19 @@ fn fetch_calib<S: Shelf>(
     ensures bytes { IsTrue S.tells → FetchesCalib (is_plain operands.now) (S.held shelf.old operands.now.calib) result }
     ensures writing { S.writing shelf.new ≡ S.writing shelf.old }
     ensures unfinished { S.unfinished shelf.new ≡ S.unfinished shelf.old }
-    ensures counts { StageCounts (StopCounts operands.now) result
+    ensures counts { (names : FileNames) → HavePair operands.now names → StageCounts (StopCounts names) result
         (S.read_faults shelf.old) (S.write_faults shelf.old) (S.read_faults shelf.new) (S.write_faults shelf.new) }
 {
     if operands.is_plain() {
         return Ok(None);
     }
-    match fetch_input(alloc, shelf, operands, Input::Calibration) {
+    match fetch_input(alloc, shelf, Input::Calibration, operands.calib()) {
         Ok(bytes) => Ok(Some(bytes)),
         Err(stop) => Err(stop),
     }
 }
 
-/// Fetches the inputs, in their order.
+/// Fetches the inputs of a match or a trace, in their order.
 pub fn gather<S: Shelf>(
     alloc: Global,
     shelf: &mut S,
@@ -85,20 +101,45 @@ pub fn gather<S: Shelf>(
 ) -> Result<Inputs, FetchStop>
     ensures held { IsTrue S.tells → S.held shelf.new ≡ S.held shelf.old }
     ensures at_hand { IsTrue S.tells → IfOk result (λ inputs. AtHand operands.now (S.held shelf.old) inputs) }
-    ensures verdict { IsTrue S.tells → (refine : Refining) (r : Readings) → MatchResult result
-        (λ _. matched operands.now refine (S.held shelf.old) r ≡ judged operands.now.out r.left r.right (calib_of operands.now r) refine)
-        (λ stop. ShownBy (matched operands.now refine (S.held shelf.old) r) (fetch_outcome stop)) }
+    ensures verdict { IsTrue S.tells → (next : Verdict) → NoneBefore 3 next → MatchResult result
+        (λ _. pair_fetched operands.now (S.held shelf.old) next ≡ next)
+        (λ stop. ShownBy (pair_fetched operands.now (S.held shelf.old) next) (fetch_outcome stop)) }
     ensures writing { S.writing shelf.new ≡ S.writing shelf.old }
     ensures unfinished { S.unfinished shelf.new ≡ S.unfinished shelf.old }
-    ensures counts { StageCounts (StopCounts operands.now) result
+    ensures counts { (names : FileNames) → HavePair operands.now names → StageCounts (StopCounts names) result
         (S.read_faults shelf.old) (S.write_faults shelf.old) (S.read_faults shelf.new) (S.write_faults shelf.new) }
 {
-    match fetch_input(alloc, shelf, operands, Input::Left) {
-        Ok(left) => match fetch_input(alloc, shelf, operands, Input::Right) {
+    match fetch_input(alloc, shelf, Input::Left, operands.left()) {
+        Ok(left) => match fetch_input(alloc, shelf, Input::Right, operands.right()) {
             Ok(right) => match fetch_calib(alloc, shelf, operands) {
                 Ok(calib) => Ok(Inputs { left, right, calib }),
                 Err(stop) => Err(stop),
             },
+            Err(stop) => Err(stop),
+        },
+        Err(stop) => Err(stop),
+    }
+}
+
+/// Fetches the grids of a change, in their order.
+pub fn gather_grids<S: Shelf>(
+    alloc: Global,
+    shelf: &mut S,
+    operands: &ChangeWords<'_>,
+) -> Result<Grids, FetchStop>
+    ensures held { IsTrue S.tells → S.held shelf.new ≡ S.held shelf.old }
+    ensures at_hand { IsTrue S.tells → IfOk result (λ grids. GridsAtHand operands.now (S.held shelf.old) grids) }
+    ensures verdict { IsTrue S.tells → (next : Verdict) → NoneBefore 5 next → MatchResult result
+        (λ _. grids_fetched operands.now (S.held shelf.old) next ≡ next)
+        (λ stop. ShownBy (grids_fetched operands.now (S.held shelf.old) next) (fetch_outcome stop)) }
+    ensures writing { S.writing shelf.new ≡ S.writing shelf.old }
+    ensures unfinished { S.unfinished shelf.new ≡ S.unfinished shelf.old }
+    ensures counts { (names : FileNames) → HaveGrids operands.now names → StageCounts (StopCounts names) result
+        (S.read_faults shelf.old) (S.write_faults shelf.old) (S.read_faults shelf.new) (S.write_faults shelf.new) }
+{
+    match fetch_input(alloc, shelf, Input::Earlier, operands.earlier()) {
+        Ok(earlier) => match fetch_input(alloc, shelf, Input::Later, operands.later()) {
+            Ok(later) => Ok(Grids { earlier, later }),
             Err(stop) => Err(stop),
         },
         Err(stop) => Err(stop),

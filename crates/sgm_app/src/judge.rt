@@ -1,5 +1,5 @@
 //! From bytes to readings: an image, a calibration, or the refusal for its first fault.
-ghost use Rattle.std.specs.Prelude.{◌≡◌, Ok, Result, MatchResult};
+ghost use Rattle.std.specs.Prelude.{◌≡◌, Ok, Result, MatchResult, option_map};
 ghost use Rattle.sgm_base.specs.Picture.{Picture};
 ghost use Rattle.sgm_pgm.specs.Read.{Reads};
 ghost use Rattle.sgm_pgm.specs.declared.fault.PgmFault.{PgmFault};
@@ -7,7 +7,7 @@ ghost use Rattle.sgm_calib.specs.Calibration.{Calibration};
 ghost use Rattle.sgm_calib.specs.declared.keys.CalibFault.{CalibFault};
 ghost use Rattle.sgm_outcome.specs.declared.outcome.Refusal.TheVariants as refusal;
 ghost use Rattle.sgm_app.specs.Judge.{CalibReads, StopsFor};
-ghost use Rattle.sgm_app.specs.Verdict.{or_refused};
+ghost use Rattle.sgm_app.specs.Refusals.{or_refused};
 
 use crate::Refusal;
 use crate::stops::TextsError;
@@ -29,8 +29,8 @@ pub fn judge_image(alloc: Global, side: Side, bytes: &[u8]) -> Result<Image, Tex
 }
 
 /// The calibration: the plain one where there are no bytes.
-pub fn judge_calib(alloc: Global, bytes: &Option<Vec<u8>>) -> Result<Calib, TextsError>
-    ensures { (reading : Result Calibration CalibFault) → CalibReads bytes.now reading → MatchResult result
+pub fn judge_calib(alloc: Global, bytes: Option<&[u8]>) -> Result<Calib, TextsError>
+    ensures { (reading : Result Calibration CalibFault) → CalibReads (option_map (λ b. b.now) bytes.entry) reading → MatchResult result
         (λ calib. or_refused refusal.Calib reading ≡ Ok calib) (StopsFor (or_refused refusal.Calib reading)) }
 {
     match bytes {

@@ -1,5 +1,5 @@
 //! From the bytes of the inputs to the texts: judging, the survey, and the making of the texts.
-ghost use Rattle.std.specs.Prelude.{◌≡◌, Ok, Result, MatchResult};
+ghost use Rattle.std.specs.Prelude.{◌≡◌, Ok, Result, MatchResult, option_map};
 ghost use Rattle.sgm_base.specs.Picture.{Picture};
 ghost use Rattle.sgm_pgm.specs.Read.{Reads};
 ghost use Rattle.sgm_pgm.specs.declared.fault.PgmFault.{PgmFault};
@@ -10,10 +10,9 @@ ghost use Rattle.sgm_app.specs.Judge.{CalibReads, StopsFor};
 ghost use Rattle.sgm_app.specs.Made.{texts_in};
 ghost use Rattle.sgm_app.specs.Verdict.{texts_for};
 
-use crate::gather::Inputs;
 use crate::judge::{judge_calib, judge_image};
+use crate::made::MadeTexts;
 use crate::stops::TextsError;
-use crate::texts::MadeTexts;
 use sgm_base::Side;
 use sgm_job::survey_refined;
 use sgm_refine::Refine;
@@ -21,12 +20,16 @@ use sgm_work::Gate;
 use std::alloc::Global;
 use std::thread::Threads;
 
-/// The texts that the inputs call for: they are judged, surveyed with a map that is refined so, and all texts
-/// are made.
+/// The texts that the bytes of a pair of PGM images and of its calibration call for, the map of disparities
+/// being refined so; `calib` of None is the plain calibration. They are refused for the first fault that
+/// stands, in the order in which the inputs are judged: left, right, calibration, sizes, volume, left warp,
+/// right warp. So many workers as asked for match so many strips, as `run` has it; the texts rest on neither.
 pub fn texts<R: Threads + Sync, G: Gate + Sync>(
     rt: &R,
     alloc: Global,
-    inputs: &Inputs,
+    left: &[u8],
+    right: &[u8],
+    calib: Option<&[u8]>,
     strips: u32,
     workers: u32,
     refine: Refine,
@@ -34,14 +37,15 @@ pub fn texts<R: Threads + Sync, G: Gate + Sync>(
 ) -> Result<MadeTexts, TextsError>
     requires strips { IsStrips strips }
     requires workers { IsWorkers workers }
-    ensures { (left right : Result Picture PgmFault) (calib : Result Calibration CalibFault)
-        → Reads inputs.now.left.items left → Reads inputs.now.right.items right → CalibReads inputs.now.calib calib
+    ensures { (left_reads right_reads : Result Picture PgmFault) (calib_reads : Result Calibration CalibFault)
+        → Reads left.now left_reads → Reads right.now right_reads → CalibReads (option_map (λ b. b.now) calib.entry) calib_reads
         → MatchResult result
-        (λ made. texts_for left right calib refine ≡ Ok (texts_in made)) (StopsFor (texts_for left right calib refine)) }
+        (λ made. texts_for left_reads right_reads calib_reads refine ≡ Ok (texts_in made))
+        (StopsFor (texts_for left_reads right_reads calib_reads refine)) }
 {
-    let left = judge_image(alloc, Side::Left, &inputs.left)?;
-    let right = judge_image(alloc, Side::Right, &inputs.right)?;
-    let calib = judge_calib(alloc, &inputs.calib)?;
+    let left = judge_image(alloc, Side::Left, left)?;
+    let right = judge_image(alloc, Side::Right, right)?;
+    let calib = judge_calib(alloc, calib)?;
     let surveyed = survey_refined(
         rt, alloc, &left, &right, &calib, strips, workers, refine, gate,
     )?;

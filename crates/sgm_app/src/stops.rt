@@ -1,7 +1,7 @@
 //! What ends a stage of a run before its end.
 ghost use Rattle.std.specs.Prelude.{◌≡◌};
 ghost use Rattle.sgm_app.specs.Stops.{fetch_outcome, texts_outcome, write_outcome};
-ghost use Rattle.sgm_app.specs.Verdict.{refusal_of};
+ghost use Rattle.sgm_app.specs.Refusals.{refusal_of};
 
 use crate::{Input, Outcome, Output, Refusal};
 use sgm_job::{SurveyError, SurveyFault};
@@ -15,7 +15,7 @@ pub enum FetchStop {
     NoMemory,
 }
 
-/// What ends the judging of the inputs, the survey and the making of the texts.
+/// Why there are no texts: the inputs are refused, or there was no memory.
 #[derive(Clone, Copy, Debug, PartialEq, Eq)]
 pub enum TextsError {
     Refused(Refusal),

@@ -1,5 +1,5 @@
 ghost use Rattle.std.specs.Prelude.{◌≡◌, ◌↔◌, ◌≤◌, IsTrue, Err};
-ghost use Rattle.sgm_words.specs.Operands.{operands, bytes_of};
+ghost use Rattle.sgm_words.specs.Operands.{of_match, bytes_of};
 ghost use Rattle.sgm_words.specs.Ranges.{IsStrips, IsWorkers};
 ghost use Rattle.sgm_words.specs.Words.{read_of};
 ghost use Rattle.sgm_words.specs.declared.usage.UsageFault.{UsageFault};
@@ -13,15 +13,17 @@ ghost use Rattle.sgm_app.specs.Unfinished.{AreFinished, UnfinishedStands, RunUnf
 ghost use Rattle.sgm_app.specs.Complete.{RunComplete, IsNoFileFault, NoneRose};
 ghost use Rattle.sgm_app.specs.Deliver.{FilesPut};
 
+use crate::change::run_change;
 use crate::deliver::deliver;
 use crate::demo::run_demo;
 use crate::files::name_texts;
 use crate::gather::gather;
 use crate::pipeline::texts;
+use crate::trace::run_trace;
 use crate::{Options, Outcome, read_words, write_fault};
 use sgm_io::{Shelf, Sink};
 use sgm_refine::Refine;
-use sgm_words::OperandWords;
+use sgm_words::{ChangeWords, OperandWords};
 use sgm_work::Gate;
 use std::alloc::Global;
 use std::thread::Threads;
@@ -47,10 +49,10 @@ fn run_match<R: Threads + Sync, S: Shelf, O: Sink, G: Gate + Sync>(
         → OutStands result v (O.written out.old) (O.written out.new) }
     ensures untouched { IsTrue O.tells → OutUntouched result (O.written out.old) (O.written out.new) }
     ensures writing { WritingStands result (S.writing shelf.old) (S.writing shelf.new) }
-    ensures unfinished { UnfinishedStands operands.now result (S.unfinished shelf.old) (S.unfinished shelf.new) }
+    ensures unfinished { UnfinishedStands (of_match operands.now) result (S.unfinished shelf.old) (S.unfinished shelf.new) }
     ensures finished { IsTrue S.tells → (v : Verdict) → MatchCallsFor operands.now refine (S.held shelf.old) v
         → result ≡ Done → AreFinished (outputs_of v) (S.unfinished shelf.new) }
-    ensures counts { CountsShow operands.now result
+    ensures counts { CountsShow (of_match operands.now) result
         (faults (S.read_faults shelf.old) (S.write_faults shelf.old) (O.faults out.old))
         (faults (S.read_faults shelf.new) (S.write_faults shelf.new) (O.faults out.new)) }
 {
@@ -58,7 +60,17 @@ fn run_match<R: Threads + Sync, S: Shelf, O: Sink, G: Gate + Sync>(
         Ok(inputs) => inputs,
         Err(stop) => return stop.outcome(),
     };
-    let texts = match texts(rt, alloc, &inputs, strips, workers, refine, gate) {
+    let texts = match texts(
+        rt,
+        alloc,
+        &inputs.left,
+        &inputs.right,
+        inputs.calib(),
+        strips,
+        workers,
+        refine,
+        gate,
+    ) {
         Ok(texts) => texts,
         Err(error) => return error.outcome(),
     };
@@ -83,11 +95,11 @@ fn carry_out<R: Threads + Sync, S: Shelf, O: Sink, G: Gate + Sync>(
         → OutStands result v (O.written out.old) (O.written out.new) }
     ensures untouched { IsTrue O.tells → OutUntouched result (O.written out.old) (O.written out.new) }
     ensures writing { RunWriting (read_of (bytes_of words.now)) result (S.writing shelf.old) (S.writing shelf.new) }
-    ensures unfinished { RunUnfinished (read_of (bytes_of words.now)) (operands (bytes_of words.now)) result
+    ensures unfinished { RunUnfinished (read_of (bytes_of words.now)) (bytes_of words.now) result
         (S.unfinished shelf.old) (S.unfinished shelf.new) }
     ensures finished { IsTrue S.tells → (v : Verdict) → CallsFor (bytes_of words.now) (S.held shelf.old) v
         → result ≡ Done → AreFinished (outputs_of v) (S.unfinished shelf.new) }
-    ensures counts { RunCounts (read_of (bytes_of words.now)) (operands (bytes_of words.now)) result
+    ensures counts { RunCounts (read_of (bytes_of words.now)) (bytes_of words.now) result
         (faults (S.read_faults shelf.old) (S.write_faults shelf.old) (O.faults out.old))
         (faults (S.read_faults shelf.new) (S.write_faults shelf.new) (O.faults out.new)) }
 {
@@ -115,6 +127,10 @@ fn carry_out<R: Threads + Sync, S: Shelf, O: Sink, G: Gate + Sync>(
                 workers,
                 refine,
             } => run_demo(rt, alloc, number, strips, workers, refine, out, gate),
+            Options::Trace { dir, x, y, d } => {
+                run_trace(alloc, &OperandWords::of(words), dir, x, y, d, shelf, out)
+            }
+            Options::Change => run_change(alloc, &ChangeWords::of(words), shelf, out),
         },
         Err(fault) => Outcome::Usage(fault),
     }
@@ -144,7 +160,7 @@ pub fn run<R: Threads + Sync, S: Shelf, O: Sink, E: Sink, G: Gate + Sync>(
     ensures writing { RunWriting (read_of (bytes_of words.now)) result (S.writing shelf.old) (S.writing shelf.new) }
 
     // No name is left begun, but that of an output whose writing stopped; after Done each output is finished.
-    ensures unfinished { RunUnfinished (read_of (bytes_of words.now)) (operands (bytes_of words.now)) result
+    ensures unfinished { RunUnfinished (read_of (bytes_of words.now)) (bytes_of words.now) result
         (S.unfinished shelf.old) (S.unfinished shelf.new) }
     ensures finished { IsTrue S.tells → (v : Verdict) → CallsFor (bytes_of words.now) (S.held shelf.old) v
         → result ≡ Done → AreFinished (outputs_of v) (S.unfinished shelf.new) }
@@ -155,7 +171,7 @@ pub fn run<R: Threads + Sync, S: Shelf, O: Sink, E: Sink, G: Gate + Sync>(
     ensures untouched { IsTrue O.tells → OutUntouched result (O.written out.old) (O.written out.new) }
 
     // A fault of reading or writing comes only where its count rose; without one no count changed.
-    ensures counts { RunCounts (read_of (bytes_of words.now)) (operands (bytes_of words.now)) result
+    ensures counts { RunCounts (read_of (bytes_of words.now)) (bytes_of words.now) result
         (faults (S.read_faults shelf.old) (S.write_faults shelf.old) (O.faults out.old))
         (faults (S.read_faults shelf.new) (S.write_faults shelf.new) (O.faults out.new)) }
 
@@ -164,7 +180,7 @@ pub fn run<R: Threads + Sync, S: Shelf, O: Sink, E: Sink, G: Gate + Sync>(
 
     // Where no count stands in the way, the outcome is the one that is called for, or there was no memory.
     ensures complete { IsTrue S.tells → (v : Verdict) → CallsFor (bytes_of words.now) (S.held shelf.old) v
-        → RunComplete (read_of (bytes_of words.now)) (operands (bytes_of words.now)) v result
+        → RunComplete (read_of (bytes_of words.now)) (bytes_of words.now) v result
         (faults (S.read_faults shelf.old) (S.write_faults shelf.old) (O.faults out.old))
         (faults (S.read_faults shelf.new) (S.write_faults shelf.new) (O.faults out.new)) }
     ensures sure { NoneRose (S.read_faults shelf.old) (S.read_faults shelf.new)

@@ -1,4 +1,6 @@
 mod calls;
+mod certificates;
+mod changes;
 mod ended;
 mod fixtures;
 mod outputs;

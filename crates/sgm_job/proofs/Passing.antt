@@ -26,7 +26,7 @@ use Rattle.sgm_report.specs.Areas.{Area, IsArea}
 use Rattle.sgm_report.specs.declared.volumes.RegionTally.{RegionTally}
 use Rattle.sgm_job.specs.Heights.{grid_of, highest, points_of}
 use Rattle.sgm_refine.specs.Refining.{Refining}
-use Rattle.sgm_job.specs.Survey.{final, tallies_of, cells_of, pair_fault, same_sides, side_fault, Survey, survey_of, surveyed, unless}
+use Rattle.sgm_job.specs.Survey.{final, tallies_of, cells_of, pair_fault, Prepared, prepared, prepared_of, same_sides, side_fault, Survey, survey_of, surveyed, unless}
 
 -- the sides are the same, the volume isn't too large, and both warps suit them
 pub record Passes (left right : Sides) (calib : Calibration) : Type 0 where
@@ -80,6 +80,19 @@ pub fault_answered : (left right : Picture) (calib : Calibration) (refine : Refi
 unfolding surveyed
 fault_answered left right calib refine a b found ea eb e =
     ap (λ o. unless o (survey_of left right calib refine)) (ap (λ s. pair_fault s (sides_of right) calib) (sym ea) ∙ ap (λ s. pair_fault a s calib) (sym eb) ∙ sym e)
+
+pub fault_prepared : (left right : Picture) (calib : Calibration) (a b : Sides) (found : SurveyFault) → a ≡ sides_of left → b ≡ sides_of right
+    → Some found ≡ pair_fault a b calib → prepared left right calib ≡ Err found
+unfolding prepared
+fault_prepared left right calib a b found ea eb e =
+    ap (λ o. unless o (prepared_of left right calib)) (ap (λ s. pair_fault s (sides_of right) calib) (sym ea) ∙ ap (λ s. pair_fault a s calib) (sym eb) ∙ sym e)
+
+pub scene_prepared : (left right : Picture) (calib : Calibration) (a b : Sides) (matched : Prepared) → a ≡ sides_of left → b ≡ sides_of right
+    → None ≡ pair_fault a b calib → matched ≡ prepared_of left right calib → prepared left right calib ≡ Ok matched
+unfolding prepared
+scene_prepared left right calib a b matched ea eb e is =
+    ap (λ o. unless o (prepared_of left right calib)) (ap (λ s. pair_fault s (sides_of right) calib) (sym ea) ∙ ap (λ s. pair_fault a s calib) (sym eb) ∙ sym e)
+    ∙ ap (λ (m : Prepared). Ok m) (sym is)
 
 pub survey_answered : (left right : Picture) (calib : Calibration) (refine : Refining) (a b : Sides) (survey : Survey) → a ≡ sides_of left → b ≡ sides_of right
     → None ≡ pair_fault a b calib → survey ≡ survey_of left right calib refine → surveyed left right calib refine ≡ Ok survey

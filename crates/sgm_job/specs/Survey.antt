@@ -54,6 +54,16 @@ abbrev pub final : Picture → Picture → Calibration → Refining → Values
 final left right calib refine =
     refined_disparities (problem left right calib) (left_plane left calib) (right_plane right calib) calib.span refine
 
+-- ---- what is matched
+
+-- the problem, and the disparities that its indices stand for
+pub record Prepared : Type 0 where
+  pub problem : Problem
+  pub span : Disparities
+
+abbrev pub prepared_of : Picture → Picture → Calibration → Prepared
+prepared_of left right calib = record { problem = problem left right calib; span = calib.span }
+
 -- ---- what a survey answers
 
 -- the refined disparities, their grid where one is asked for, and its tallies where regions are
@@ -96,9 +106,13 @@ pair_fault left right calib =
     else if nat_lt MAX_VOLUME (cells_of left calib.span.count) then Some (fault.VolumeTooLarge (cells_of left calib.span.count))
     else option_or (side_fault Left calib.left left) (side_fault Right calib.right right)
 
-abbrev pub unless : Option SurveyFault → Survey → Result Survey SurveyFault
-unless None survey = Ok survey
-unless (Some found) survey = Err found
+abbrev pub unless : {X : Type 0} → Option SurveyFault → X → Result X SurveyFault
+unless None made = Ok made
+unless (Some found) made = Err found
+
+-- what is matched of two images, or the fault of the pair
+unfoldable pub prepared : Picture → Picture → Calibration → Result Prepared SurveyFault
+prepared left right calib = unless (pair_fault (sides_of left) (sides_of right) calib) (prepared_of left right calib)
 
 -- the survey of two images, or the fault of the pair
 unfoldable pub surveyed : Picture → Picture → Calibration → Refining → Result Survey SurveyFault

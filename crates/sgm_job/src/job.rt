@@ -5,12 +5,12 @@ ghost use Rattle.sgm_base.specs.declared.limits.TheConstants.{MAX_DISPARITY, MAX
 ghost use Rattle.sgm_census.specs.Matching.{matching_problem};
 ghost use Rattle.sgm_energy.specs.Pens.{guide_of};
 ghost use Rattle.sgm_refine.specs.Refining.{plain};
-ghost use Rattle.sgm_job.specs.Survey.{pair_fault, refined_disparities, side_fault, surveyed};
-ghost use Rattle.sgm_job.specs.Answers.{Answers};
+ghost use Rattle.sgm_job.specs.Survey.{pair_fault, prepared, refined_disparities, side_fault, surveyed};
+ghost use Rattle.sgm_job.specs.Answers.{Answers, Prepares};
 
 use crate::heights::heights;
 use crate::matching::complete_parcels;
-use crate::planes::{Coded, prepare_both};
+use crate::planes::{Coded, coded_image, guided_scene, prepare_both};
 use crate::refining::refined_map;
 use crate::selecting::select_all;
 use crate::tallies::tallies;
@@ -20,7 +20,7 @@ use sgm_grid::Grid;
 use sgm_rectify::{Warp, WarpFault};
 use sgm_refine::Refine;
 use sgm_report::RegionTally;
-use sgm_strip::{Guide, Scene};
+use sgm_strip::Scene;
 use sgm_work::Gate;
 use std::alloc::{AllocError, Global};
 use std::thread::Threads;
@@ -134,8 +134,7 @@ fn disparity_map<R: Threads + Sync, G: Gate + Sync>(
     let span = calib.span();
     // Known from here on: the range of the span.
     let _ = &span.count;
-    let guide = Guide::make(alloc, &left.plane, maxval)?;
-    let scene = Scene::make(left.codes, right.codes, span, calib.pen(), guide);
+    let scene = guided_scene(alloc, left.codes, right.codes, calib, &left.plane, maxval)?;
     let parcels = complete_parcels(rt, alloc, &scene, strips, workers, gate)?;
     let map = select_all(
         rt,
@@ -222,4 +221,26 @@ pub fn survey_refined<R: Threads + Sync, G: Gate + Sync>(
         grid,
         tallies,
     })
+}
+
+/// The scene that [`survey`] matches, or the fault that it answers. It is made in one thread. Faults are seen to
+/// before memory is taken, in the order of [`SurveyFault`].
+pub fn prepare(
+    alloc: Global,
+    left: &Image,
+    right: &Image,
+    calib: &Calib,
+) -> Result<Scene, SurveyError>
+    ensures { Prepares (prepared left.now right.now calib.now) result }
+{
+    if let Some(fault) = pair_fault(left.size(), right.size(), calib) {
+        return Err(SurveyError::Fault(fault));
+    }
+    let maxval = left.maxval();
+    // Known from here on: that no sample of the left image is above it.
+    let _samples = left.samples();
+    let window = calib.window();
+    let left = coded_image(alloc, left, calib.left(), window)?;
+    let right = coded_image(alloc, right, calib.right(), window)?;
+    Ok(guided_scene(alloc, left.codes, right.codes, calib, &left.plane, maxval)?)
 }

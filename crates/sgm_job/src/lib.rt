@@ -12,9 +12,4 @@ mod selecting;
 mod sharing;
 mod tallies;
 
-pub use job::{SurveyError, SurveyFault, Surveyed, survey, survey_refined};
-
-#[cfg(test)]
-mod fixtures;
-#[cfg(test)]
-mod tests;
+pub use job::{SurveyError, SurveyFault, Surveyed, prepare, survey, survey_refined};

@@ -1,13 +1,18 @@
-//! From the images to what is matched: rectified planes, and their codes.
+//! From the images to what is matched: rectified planes, their codes, and the scene of these.
 
-ghost use Rattle.std.specs.Prelude.{◌≡◌, IfOk};
+ghost use Rattle.std.specs.Prelude.{◌≡◌, ◌≤◌, IfOk};
+ghost use Rattle.sgm_base.specs.Values.{AtMost};
+ghost use Rattle.sgm_energy.specs.Pens.{guide_of};
 ghost use Rattle.sgm_rectify.specs.Faults.{Suits};
 ghost use Rattle.sgm_rectify.specs.Rectified.{sides_of};
+ghost use Rattle.sgm_strip.specs.Scenes.{scene_of};
 ghost use Rattle.sgm_job.specs.Matching.{IsMade};
 
 use sgm_base::{Image, Plane};
+use sgm_calib::Calib;
 use sgm_census::{CodePlane, Window, codes};
 use sgm_rectify::{Warp, rectify};
+use sgm_strip::{Guide, Scene};
 use std::alloc::{AllocError, Global};
 use std::thread::{Threads, join};
 
@@ -19,7 +24,7 @@ pub(crate) struct Coded {
 }
 
 /// The image, rectified by the warp, with the codes of the window.
-fn prepare(alloc: Global, image: &Image, warp: &Warp, window: Window) -> Result<Coded, AllocError>
+pub(crate) fn coded_image(alloc: Global, image: &Image, warp: &Warp, window: Window) -> Result<Coded, AllocError>
     requires { Suits warp.now (sides_of image.now) }
     ensures { IfOk result (λ made. IsMade image.now warp.now window made.plane made.codes) }
 {
@@ -45,8 +50,30 @@ pub(crate) fn prepare_both<R: Threads>(
 {
     let (left, right) = join(
         rt,
-        || prepare(alloc, left, left_warp, window),
-        || prepare(alloc, right, right_warp, window),
+        || coded_image(alloc, left, left_warp, window),
+        || coded_image(alloc, right, right_warp, window),
     );
     Ok((left?, right?))
+}
+
+/// The scene of two planes of codes, with the left plane, whose values go up to `maxval`, as the guide.
+pub(crate) fn guided_scene(
+    alloc: Global,
+    left: CodePlane,
+    right: CodePlane,
+    calib: &Calib,
+    plane: &Plane,
+    maxval: u16,
+) -> Result<Scene, AllocError>
+    requires same_width { left.width ≡ right.width }
+    requires same_height { left.height ≡ right.height }
+    requires same_window { left.window ≡ right.window }
+    requires plane_width { plane.now.width ≡ left.width }
+    requires plane_height { plane.now.height ≡ left.height }
+    requires maxval { 1 ≤ maxval }
+    requires values { AtMost maxval plane.now.entries }
+    ensures { IfOk result (λ scene. scene ≡ scene_of left right calib.now.span calib.now.penalties (guide_of plane.now maxval)) }
+{
+    let guide = Guide::make(alloc, plane, maxval)?;
+    Ok(Scene::make(left, right, calib.span(), calib.pen(), guide))
 }

@@ -2,7 +2,9 @@
 
 use super::ended::{assert_ended, assert_held, end_on, shelf_of};
 use super::fixtures::{DISPARITIES, HEIGHTS, REPORT, SUMMARY, example, file, files_with};
-use sgm_example::{CAMERA, END, GRID, LEFT, SETTINGS};
+use sgm_app::{Refine, texts};
+use sgm_example::{CALIBRATION, CAMERA, END, GRID, LEFT, RIGHT, SETTINGS};
+use sgm_work::OpenGate;
 use std::test::Fail;
 
 #[test]
@@ -19,6 +21,38 @@ fn the_worked_example_is_written_whole(rt: HostRuntime) -> Result<(), Fail> {
         assert_held(&rt, alloc, &mut shelf, whole, line)?;
     }
     Ok(())
+}
+
+#[test]
+fn the_texts_of_the_worked_example_are_those_that_are_written(rt: HostRuntime) -> Result<(), Fail> {
+    let alloc = rt.alloc();
+    let mut calib = String::new(alloc);
+    for part in CALIBRATION {
+        calib.push_str(part)?;
+    }
+    let calib = Some(calib.as_bytes());
+    match texts(
+        &rt,
+        alloc,
+        LEFT,
+        RIGHT,
+        calib,
+        3,
+        2,
+        Refine::PLAIN,
+        &OpenGate,
+    ) {
+        Ok(made) => {
+            assert_eq!(rt; made.disparity.as_slice(), DISPARITIES);
+            let heights = made.heights.as_ref().map(|text| text.as_slice());
+            assert_eq!(rt; heights, Some(HEIGHTS));
+            let report = made.report.as_ref().map(|text| text.as_slice());
+            assert_eq!(rt; report, Some(REPORT));
+            assert_eq!(rt; made.summary.as_slice(), SUMMARY);
+            Ok(())
+        }
+        Err(_) => Err(Fail::new("the worked example is refused")),
+    }
 }
 
 #[test]

@@ -1,7 +1,4 @@
-use Rattle.std.proofs.Common.{◌≡◌, ◌∙◌, ap, sym, subst, List, ℕ, Result, Ok}
-use Rattle.sgm_base.specs.Picture.{Picture}
-use Rattle.sgm_pgm.specs.Read.{Reads}
-use Rattle.sgm_pgm.specs.declared.fault.PgmFault.{PgmFault}
+use Rattle.std.proofs.Common.{◌∙◌, ap, sym, Result, Ok}
 use Rattle.sgm_job.specs.Answers.{seen}
 use Rattle.sgm_outcome.specs.declared.outcome.Refusal.{Refusal}
 use Rattle.sgm_app.specs.Stops.{survey_stop}
@@ -11,35 +8,32 @@ use Rattle.sgm_app.proofs.TextSteps.{texts_made, stop_left, stop_right, stop_cal
 use Rattle.sgm_app.proofs.Tallied.{tallied}
 use Rattle.sgm_app.proofs.pipeline.texts.Goals as goal
 
-along : (a b : List ℕ) (r : Result Picture PgmFault) → a ≡ b → Reads b r → Reads a r
-along a b r same reads = let P : List ℕ → Type 0 = λ bytes. Reads bytes r in subst P (sym same) reads
-
 pub returns-in_err-left : goal.returns-in_err-left
 returns-in_err-left g c = λ left right calib on_left on_right on_calib.
     handed_on _ _ c.from_residual.result c.in_err-left.field-0.0 c.from_residual.ensures.1
-    (stop_left left right calib c.args.refine c.in_err-left.field-0.0 (c.in_err-left.ensures left (along _ _ left c.deref.ensures.value on_left)))
+    (stop_left left right calib c.args.refine c.in_err-left.field-0.0 (c.in_err-left.ensures left on_left))
 
 pub returns-in_err-right : goal.returns-in_err-right
 returns-in_err-right g c = λ left right calib on_left on_right on_calib.
     handed_on _ _ c.from_residual-in_err-right.result c.in_err-right.field-0.0 c.from_residual-in_err-right.ensures.1
     (stop_right left right calib c.args.refine c.in_err-right.field-0.0 c.in_ok-left.left
-    (c.in_ok-left.ensures left (along _ _ left c.deref.ensures.value on_left))
-    (c.in_err-right.ensures right (along _ _ right c.deref-2.ensures.value on_right)))
+    (c.in_ok-left.ensures left on_left)
+    (c.in_err-right.ensures right on_right))
 
 pub returns-in_err-calib : goal.returns-in_err-calib
 returns-in_err-calib g c = λ left right calib on_left on_right on_calib.
     handed_on _ _ c.from_residual-in_err-calib.result c.in_err-calib.field-0.0 c.from_residual-in_err-calib.ensures.1
     (stop_calib left right calib c.args.refine c.in_err-calib.field-0.0 c.in_ok-left.left c.in_ok-right.right
-    (c.in_ok-left.ensures left (along _ _ left c.deref.ensures.value on_left))
-    (c.in_ok-right.ensures right (along _ _ right c.deref-2.ensures.value on_right))
+    (c.in_ok-left.ensures left on_left)
+    (c.in_ok-right.ensures right on_right)
     (c.in_err-calib.ensures calib on_calib))
 
 pub returns-in_err-surveyed : goal.returns-in_err-surveyed
 returns-in_err-surveyed g c = λ left right calib on_left on_right on_calib.
     handed_on _ _ c.from_residual-in_err-surveyed.result (survey_stop c.in_err-surveyed.field-0.0) c.from_residual-in_err-surveyed.ensures.1
     (stop_survey left right calib c.args.refine (survey_stop c.in_err-surveyed.field-0.0) c.in_ok-left.left c.in_ok-right.right c.in_ok-calib.calib
-    (c.in_ok-left.ensures left (along _ _ left c.deref.ensures.value on_left))
-    (c.in_ok-right.ensures right (along _ _ right c.deref-2.ensures.value on_right))
+    (c.in_ok-left.ensures left on_left)
+    (c.in_ok-right.ensures right on_right)
     (c.in_ok-calib.ensures calib on_calib)
     (survey_stops _ c.in_err-surveyed.field-0.0 c.in_err-surveyed.ensures.exact))
 
@@ -49,8 +43,8 @@ of-requires-clause-tallies g c = tallied c.in_ok-left.left c.in_ok-right.right c
 pub returns : goal.returns
 returns g c = λ left right calib on_left on_right on_calib.
     texts_made left right calib c.args.refine c.in_ok-left.left c.in_ok-right.right c.in_ok-calib.calib (seen c.in_ok-surveyed.surveyed)
-    (c.in_ok-left.ensures left (along _ _ left c.deref.ensures.value on_left))
-    (c.in_ok-right.ensures right (along _ _ right c.deref-2.ensures.value on_right))
+    (c.in_ok-left.ensures left on_left)
+    (c.in_ok-right.ensures right on_right)
     (c.in_ok-calib.ensures calib on_calib)
     (survey_goes _ (seen c.in_ok-surveyed.surveyed) c.in_ok-surveyed.ensures.exact)
     ∙ ap (λ (t : Texts). let r : Result Texts Refusal = Ok t in r) (sym c.in_ok-made.ensures)

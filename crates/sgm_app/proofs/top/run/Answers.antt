@@ -1,15 +1,15 @@
-use Rattle.sgm_app.proofs.Completing.{proper_verdict, completes_run, no_file_fault}
+use Rattle.sgm_app.proofs.Completing.{distinct_verdict, completes_run, no_file_fault}
 use Rattle.sgm_app.proofs.Holding.{stand}
 use Rattle.sgm_app.proofs.top.run.Goals as goal
 
 pub returns-clause-files : goal.returns-clause-files
 returns-clause-files g c = λ told v calls.
-    stand c.carry_out-outcome.result v _ _ (proper_verdict _ _ _ v calls).distinct (c.carry_out-outcome.ensures.files told v calls)
+    stand c.carry_out-outcome.result v _ _ (distinct_verdict _ _ _ v calls) (c.carry_out-outcome.ensures.files told v calls)
 
 pub returns-clause-complete : goal.returns-clause-complete
 returns-clause-complete g c = λ told v calls.
     completes_run _ _ _ _ v c.carry_out-outcome.result _ _ calls (c.carry_out-outcome.ensures.cause told v calls)
-    (stand c.carry_out-outcome.result v _ _ (proper_verdict _ _ _ v calls).distinct (c.carry_out-outcome.ensures.files told v calls))
+    (stand c.carry_out-outcome.result v _ _ (distinct_verdict _ _ _ v calls) (c.carry_out-outcome.ensures.files told v calls))
     c.carry_out-outcome.ensures.counts
 
 pub returns-clause-sure : goal.returns-clause-sure

@@ -3,7 +3,7 @@ use Rattle.sgm_base.specs.Disparities.{Disparities, IsCount}
 use Rattle.sgm_base.specs.Values.{Values}
 use Rattle.sgm_base.specs.declared.limits.TheConstants.{MAX_DISPARITY}
 use Rattle.sgm_census.specs.Matching.{matching_problem}
-use Rattle.sgm_energy.specs.Pens.{Penalties, guide_of, penalties_of}
+use Rattle.sgm_energy.specs.Pens.{guide_of}
 use Rattle.sgm_strip.specs.Scenes.{SceneParts, problem_of, scene_of}
 use Rattle.sgm_strip.specs.Strips.{AreStrips}
 use Rattle.sgm_select.proofs.Strips.{low_from}
@@ -14,20 +14,20 @@ use Rattle.sgm_job.proofs.job.disparity_map.Goals as goal
 
 pub refined_map-requires-clause-map_width : goal.refined_map-requires-clause-map_width
 refined_map-requires-clause-map_width g c =
-    let scene = c.make-scene.result in
+    let scene = c.in_ok-scene.scene in
     let cut = c.in_ok-parcels.ensures.cut in
     let strips = subst (AreStrips scene cut) (sym c.deref.ensures.value) c.in_ok-parcels.ensures.strips in
-    let wide = c.requires.left_width ∙ sym (ap (λ (s : SceneParts). s.left.width) c.make-scene.ensures) in
-    let high = c.requires.left_height ∙ sym (ap (λ (s : SceneParts). s.left.height) c.make-scene.ensures) in
+    let wide = c.requires.left_width ∙ sym (ap (λ (s : SceneParts). s.left.width) c.in_ok-scene.ensures) in
+    let high = c.requires.left_height ∙ sym (ap (λ (s : SceneParts). s.left.height) c.in_ok-scene.ensures) in
     ap (λ (v : Values). v.width) (c.in_ok-map.ensures scene cut strips wide high)
 
 pub refined_map-requires-clause-map_height : goal.refined_map-requires-clause-map_height
 refined_map-requires-clause-map_height g c =
-    let scene = c.make-scene.result in
+    let scene = c.in_ok-scene.scene in
     let cut = c.in_ok-parcels.ensures.cut in
     let strips = subst (AreStrips scene cut) (sym c.deref.ensures.value) c.in_ok-parcels.ensures.strips in
-    let wide = c.requires.left_width ∙ sym (ap (λ (s : SceneParts). s.left.width) c.make-scene.ensures) in
-    let high = c.requires.left_height ∙ sym (ap (λ (s : SceneParts). s.left.height) c.make-scene.ensures) in
+    let wide = c.requires.left_width ∙ sym (ap (λ (s : SceneParts). s.left.width) c.in_ok-scene.ensures) in
+    let high = c.requires.left_height ∙ sym (ap (λ (s : SceneParts). s.left.height) c.in_ok-scene.ensures) in
     ap (λ (v : Values). v.height) (c.in_ok-map.ensures scene cut strips wide high)
 
 pub returns-clause-exact : goal.returns-clause-exact
@@ -35,16 +35,12 @@ returns-clause-exact g c =
     let left = c.args.left in
     let right = c.args.right in
     let calib = c.args.calib.now in
-    let scene = c.make-scene.result in
+    let scene = c.in_ok-scene.scene in
     let cut = c.in_ok-parcels.ensures.cut in
     let strips = subst (AreStrips scene cut) (sym c.deref.ensures.value) c.in_ok-parcels.ensures.strips in
-    let wide = c.requires.left_width ∙ sym (ap (λ (s : SceneParts). s.left.width) c.make-scene.ensures) in
-    let high = c.requires.left_height ∙ sym (ap (λ (s : SceneParts). s.left.height) c.make-scene.ensures) in
-    let same : scene ≡ scene_of left.codes right.codes calib.span calib.penalties (guide_of left.plane c.args.maxval) =
-    c.make-scene.ensures
-    ∙ ap (λ (s : Disparities). scene_of left.codes right.codes s (penalties_of c.pen.result) c.in_ok-guide.guide) c.span-span.ensures
-    ∙ ap (λ (p : Penalties). scene_of left.codes right.codes calib.span p c.in_ok-guide.guide) c.pen.ensures
-    ∙ ap (λ (v : Values). scene_of left.codes right.codes calib.span calib.penalties v) c.in_ok-guide.ensures in
+    let wide = c.requires.left_width ∙ sym (ap (λ (s : SceneParts). s.left.width) c.in_ok-scene.ensures) in
+    let high = c.requires.left_height ∙ sym (ap (λ (s : SceneParts). s.left.height) c.in_ok-scene.ensures) in
+    let same : scene ≡ scene_of left.codes right.codes calib.span calib.penalties (guide_of left.plane c.args.maxval) = c.in_ok-scene.ensures in
     if_ok c.refined_map.result
     (λ m e. final_of scene left.plane right.plane c.in_ok-map.map m c.args.refine (c.in_ok-map.ensures scene cut strips wide high) e
     ∙ ap (λ (s : SceneParts). refined_disparities (problem_of s) left.plane right.plane s.span c.args.refine) same)

@@ -1,0 +1,81 @@
+//! What a trace prints, and how it ends else.
+
+use super::ended::{assert_ended, assert_held, end_on, shelf_of};
+use super::fixtures::{example, words_of};
+use sgm_app::run;
+use sgm_io::MemorySink;
+use sgm_work::OpenGate;
+use std::alloc::Global;
+use std::process::Abort;
+use std::test::Fail;
+use std::thread::Threads;
+
+// That the run of a line over the worked example ends so, and writes no file.
+fn assert_traced<R: Abort + Threads + Sync>(
+    rt: &R,
+    alloc: Global,
+    line: &str,
+    status: u8,
+    out: &str,
+    err: &str,
+) -> Result<(), Fail> {
+    let mut shelf = shelf_of(alloc, example(alloc)?)?;
+    let ended = end_on(rt, alloc, line, &mut shelf)?;
+    assert_ended(rt, &ended, status, out.as_bytes(), err.as_bytes(), line);
+    assert_held(rt, alloc, &mut shelf, [None; 3], line)
+}
+
+// The row 1 of the pair has the costs (8,8), (6,8), (6,0), .. of the indices 0 and 1, and a change by one costs 1:
+// along the first three pixels the least energy that ends in 1 is 8 + 6 + 0 and one change.
+#[test]
+fn the_certificate_adds_up_to_the_least_energy(rt: HostRuntime) -> Result<(), Fail> {
+    let alloc = rt.alloc();
+    let line = "trace l.pgm r.pgm c.json right 2 1 1";
+    let out = "least 15\n0 1 0 8 0\n1 1 0 6 0\n2 1 1 0 1\n";
+    assert_traced(&rt, alloc, line, 0, out, "")?;
+
+    // A pixel that begins its ray has its cost.
+    let line = "trace l.pgm r.pgm c.json down 0 0 0";
+    assert_traced(&rt, alloc, line, 0, "least 8\n0 0 0 8 0\n", "")
+}
+
+#[test]
+fn a_pixel_or_an_index_that_there_is_not_is_refused(rt: HostRuntime) -> Result<(), Fail> {
+    let alloc = rt.alloc();
+    let err = "sgm: no pixel 9 1 with index 1\n";
+    let line = "trace l.pgm r.pgm c.json right 9 1 1";
+    assert_traced(&rt, alloc, line, 3, "", err)?;
+    let err = "sgm: no pixel 2 1 with index 2\n";
+    let line = "trace l.pgm r.pgm c.json right 2 1 2";
+    assert_traced(&rt, alloc, line, 3, "", err)
+}
+
+#[test]
+fn words_and_absent_files_end_a_trace(rt: HostRuntime) -> Result<(), Fail> {
+    let alloc = rt.alloc();
+    let err = "sgm: word 4 is not a direction\n";
+    let line = "trace l.pgm r.pgm c.json sideways 2 1 1";
+    assert_traced(&rt, alloc, line, 2, "", err)?;
+    let err = "sgm: word 8 is not an option\n";
+    let line = "trace l.pgm r.pgm c.json right 2 1 1 strips=1";
+    assert_traced(&rt, alloc, line, 2, "", err)?;
+    let err = "sgm: cannot read calibration\n";
+    let line = "trace l.pgm r.pgm none right 2 1 1";
+    assert_traced(&rt, alloc, line, 4, "", err)
+}
+
+#[test]
+fn a_certificate_that_cannot_be_written_is_begun_at_most(rt: HostRuntime) -> Result<(), Fail> {
+    let alloc = rt.alloc();
+    let mut shelf = shelf_of(alloc, example(alloc)?)?;
+    let mut out = MemorySink::make(alloc, 4096, Some(6))?;
+    let mut err = MemorySink::make(alloc, 4096, None)?;
+    let words = words_of(alloc, "trace l.pgm r.pgm c.json down 0 0 0")?;
+    let outcome = run(
+        &rt, alloc, &words, &mut shelf, &mut out, &mut err, &OpenGate,
+    );
+    assert_eq!(rt; outcome.status(), 5);
+    assert_eq!(rt; out.taken(), b"least ".as_slice());
+    assert_eq!(rt; err.taken(), b"sgm: cannot write summary\n".as_slice());
+    Ok(())
+}
