@@ -1,3 +1,4 @@
+pub mod CertificateSteps
 pub mod Completing
 pub mod Delivering
 pub mod Filing

@@ -3,19 +3,31 @@ ghost use Rattle.std.specs.Prelude.{◌≡◌, Ok, Result, MatchResult, option_m
 ghost use Rattle.sgm_base.specs.Picture.{Picture};
 ghost use Rattle.sgm_pgm.specs.Read.{Reads};
 ghost use Rattle.sgm_pgm.specs.declared.fault.PgmFault.{PgmFault};
+ghost use Rattle.sgm_energy.specs.Rays.{pixel_at};
+ghost use Rattle.sgm_strip.specs.Scenes.{problem_of};
+ghost use Rattle.sgm_trace.specs.Texts.{trace_text};
 ghost use Rattle.sgm_calib.specs.Calibration.{Calibration};
 ghost use Rattle.sgm_calib.specs.declared.keys.CalibFault.{CalibFault};
 ghost use Rattle.sgm_app.specs.Judge.{CalibReads, StopsFor};
-ghost use Rattle.sgm_app.specs.Certificates.{certificate_for};
+ghost use Rattle.sgm_app.specs.Refusals.{unless};
+ghost use Rattle.sgm_app.specs.Certificates.{certificate_for, inside_refusal, is_inside};
 
+use crate::Refusal;
+use crate::judge::{judge_calib, judge_image};
 use crate::stops::TextsError;
+use sgm_base::Side;
 use sgm_energy::Dir;
+use sgm_job::prepare;
+use sgm_strip::Scene;
+use sgm_trace::{trace, write_trace};
 use std::alloc::Global;
 
 /// The certificate's text that the bytes of a pair of PGM images and of its calibration call for, at the pixel
-/// (x, y), the index d and the direction; `calib` of None is the plain calibration.
+/// (x, y), the index d and the direction; `calib` of None is the plain calibration. It is refused for the first
+/// fault that stands: left, right, calibration, sizes, volume, left warp, right warp, then a pixel or an index
+/// that there isn't.
 pub(crate) fn certificate(
-    _alloc: Global,
+    alloc: Global,
     left: &[u8],
     right: &[u8],
     calib: Option<&[u8]>,
@@ -30,5 +42,39 @@ pub(crate) fn certificate(
         (λ text. certificate_for left_reads right_reads calib_reads dir x y d ≡ Ok text.items)
         (StopsFor (certificate_for left_reads right_reads calib_reads dir x y d)) }
 {
-    Err(TextsError::NoMemory)
+    let left = judge_image(alloc, Side::Left, left)?;
+    let right = judge_image(alloc, Side::Right, right)?;
+    let calib = judge_calib(alloc, calib)?;
+    let scene = prepare(alloc, &left, &right, &calib)?;
+    certificate_of(alloc, &scene, dir, x, y, d)
+}
+
+/// The certificate's text of a scene, where it has the pixel and the index.
+fn certificate_of(
+    alloc: Global,
+    scene: &Scene,
+    dir: Dir,
+    x: u32,
+    y: u32,
+    d: u32,
+) -> Result<Vec<u8>, TextsError>
+    ensures { MatchResult result
+        (λ text. unless (inside_refusal (problem_of scene.now) x y d) (trace_text (problem_of scene.now) dir (pixel_at x y) d) ≡ Ok text.items)
+        (StopsFor (unless (inside_refusal (problem_of scene.now) x y d) (trace_text (problem_of scene.now) dir (pixel_at x y) d))) }
+{
+    if !is_inside(scene, x, y, d) {
+        return Err(TextsError::Refused(Refusal::NotInside { x, y, d }));
+    }
+    let traced = trace(alloc, scene, dir, x, y, d)?;
+    let mut text = Vec::new(alloc);
+    write_trace(&traced, &mut text)?;
+    Ok(text)
+}
+
+/// Whether a scene has the pixel and the index.
+fn is_inside(scene: &Scene, x: u32, y: u32, d: u32) -> bool
+    ensures { result ≡ is_inside (problem_of scene.now) x y d }
+{
+    let size = scene.size();
+    x < size.width && y < size.height && d < scene.span().count
 }

@@ -1,0 +1,6 @@
+pub mod Bests
+pub mod Existing
+pub mod Growing
+pub mod RayPlaces
+pub mod Texts
+pub mod Tracing

@@ -1,0 +1,3 @@
+pub mod Best
+pub mod Rows
+pub mod Texts
