@@ -194,9 +194,8 @@ fn two_pixels(rt: HostRuntime) -> Result<(), Fail> {
 #[test]
 fn volume_too_large(rt: HostRuntime) -> Result<(), Fail> {
     let alloc = rt.alloc();
-    let left = even_image(alloc, (4096, 4096))?;
-    let right = even_image(alloc, (4096, 4096))?;
-    let found = survey(&rt, alloc, &left, &right, &Calib::plain(), 1, 1, &OpenGate);
+    let image = even_image(alloc, (4096, 4096))?;
+    let found = survey(&rt, alloc, &image, &image, &Calib::plain(), 1, 1, &OpenGate);
     let fault = SurveyFault::VolumeTooLarge {
         cells: 1_073_741_824,
     };
