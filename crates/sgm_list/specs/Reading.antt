@@ -1,5 +1,5 @@
 -- Words of the reader's own functions. No public clause cites them.
-use Rattle.std.specs.Prelude.{◌≡◌, ℕ, List, [], Option, None, Some}
+use Rattle.std.specs.Prelude.{◌≡◌, ℕ, suc, List, [], length, Option, None, Some}
 use Rattle.std.specs.Borrow.{Bor}
 use Rattle.std.specs.BTreeMap.{BTreeMap, get_by}
 use Rattle.std.specs.Cmp.Lexicographic.{slice_cmp}
@@ -13,6 +13,11 @@ use Rattle.sgm_list.specs.Entries.{EntryNames}
 abbrev pub lines_left : Option (Bor (List ℕ)) → List (List ℕ)
 lines_left None = []
 lines_left (Some rest) = lines_of rest.now
+
+-- one more than its bytes, none where its last line is done
+abbrev pub size_left : Option (Bor (List ℕ)) → ℕ
+size_left None = 0
+size_left (Some rest) = suc (length rest.now)
 
 -- a text finds the first entry of which it is OUT
 abbrev pub AreFirsts : BTreeMap (Bor (List ℕ)) ℕ → List EntryNames → Type 0

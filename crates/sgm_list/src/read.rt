@@ -86,7 +86,8 @@ fn four_words(line: &str) -> Option<FourWords<'_>>
 
 /// The entry of four words.
 fn make_entry(alloc: Global, words: FourWords<'_>) -> Result<Entry, AllocError>
-    ensures { IfOk result (λ entry. entry ≡ entry_of words.left.now words.right.now words.calib.now words.out.now) }
+    ensures { IfOk result (λ entry.
+        entry ≡ entry_of words.entry.left.now words.entry.right.now words.entry.calib.now words.entry.out.now) }
 {
     let calib = if words.calib == "-" {
         None

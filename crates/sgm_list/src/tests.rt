@@ -19,13 +19,21 @@ fn fault_of(alloc: Global, bytes: &[u8]) -> Result<Option<ListFault>, AllocError
 #[test]
 fn lines_with_four_words_are_entries(rt: HostRuntime) -> Result<(), Fail> {
     let text = "l.pgm r.pgm - o1\r\n\n \t\r\n\tl.pgm  r\u{e9}.pgm\tc.json  o\u{c}2";
-    let entries = read_list(rt.alloc(), text.as_bytes(), "list").ok().ok_or("a list")?;
+    let entries = read_list(rt.alloc(), text.as_bytes(), "list")
+        .ok()
+        .ok_or("a list")?;
     assert_eq!(rt; entries.len(), 2);
-    assert_eq!(rt; (entries[0].left.as_str(), entries[0].right.as_str()), ("l.pgm", "r.pgm"));
+    assert_eq!(rt;
+        (entries[0].left.as_str(), entries[0].right.as_str()),
+        ("l.pgm", "r.pgm")
+    );
     assert!(rt; entries[0].calib.is_none());
     assert_eq!(rt; entries[0].out.as_str(), "o1");
     assert_eq!(rt; entries[1].right.as_str(), "r\u{e9}.pgm");
-    assert_eq!(rt; entries[1].calib.as_ref().map(|calib| calib.as_str()), Some("c.json"));
+    assert_eq!(rt;
+        entries[1].calib.as_ref().map(|calib| calib.as_str()),
+        Some("c.json")
+    );
     assert_eq!(rt; entries[1].out.as_str(), "o\u{c}2");
     Ok(())
 }
@@ -40,11 +48,34 @@ fn each_fault_is_the_first_that_stands(rt: HostRuntime) -> Result<(), Fail> {
         (b"\na b - o p\na\n", Some(ListFault::Line { number: 2 })),
         (b"a b - o\na b -\n", Some(ListFault::Line { number: 2 })),
         (b"o.pgm b - o\na b -\n", Some(ListFault::Line { number: 2 })),
-        (b"a b - o\nc d - p\ne f - o", Some(ListFault::Clash { entry: 2 })),
-        (b"a b - o\n\nc d - o\ne f - o", Some(ListFault::Clash { entry: 1 })),
-        (b"a p.csv - o\nc d - p\n", Some(ListFault::Clash { entry: 0 })),
-        (b"a b p.asc o\nc d - p\n", Some(ListFault::Clash { entry: 0 })),
-        (b"a b - o\no.pgm d - p\n", Some(ListFault::Clash { entry: 1 })),
+        (
+            b"l.pgm r.pgm c.json o\nl.pgm o.pgm - p\n",
+            Some(ListFault::Clash { entry: 1 }),
+        ),
+        (
+            b"l.pgm r.pgm c.json o\nl.pgm r.pgm p\n",
+            Some(ListFault::Line { number: 2 }),
+        ),
+        (
+            b"a b - o\nc d - p\ne f - o",
+            Some(ListFault::Clash { entry: 2 }),
+        ),
+        (
+            b"a b - o\n\nc d - o\ne f - o",
+            Some(ListFault::Clash { entry: 1 }),
+        ),
+        (
+            b"a p.csv - o\nc d - p\n",
+            Some(ListFault::Clash { entry: 0 }),
+        ),
+        (
+            b"a b p.asc o\nc d - p\n",
+            Some(ListFault::Clash { entry: 0 }),
+        ),
+        (
+            b"a b - o\no.pgm d - p\n",
+            Some(ListFault::Clash { entry: 1 }),
+        ),
         (b"a b - o\nc o.txt - p\n", None),
         (b"a b o o\na b .pgm p\n", None),
     ] {
@@ -94,7 +125,10 @@ fn each_fault_has_its_line(rt: HostRuntime) {
             ListFault::TooMany { entries: 1001 },
             "sgm_series: too many entries\n",
         ),
-        (ListFault::Clash { entry: 1 }, "sgm_series: entry 1 clashes\n"),
+        (
+            ListFault::Clash { entry: 1 },
+            "sgm_series: entry 1 clashes\n",
+        ),
     ] {
         assert_eq!(rt; fault_line(fault).as_bytes(), line.as_bytes(), "{line}");
     }
