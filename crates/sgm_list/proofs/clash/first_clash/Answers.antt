@@ -1,6 +1,5 @@
-use Rattle.std.proofs.Common.{◌∙◌, ap, sym, length, List}
+use Rattle.std.proofs.Common.{◌∙◌, sym, length}
 use Rattle.sgm_list.specs.Clashes.{clashes, first_clash}
-use Rattle.sgm_list.specs.Entries.{EntryNames}
 use Rattle.sgm_list.proofs.Found.{find_next}
 use Rattle.sgm_list.proofs.clash.first_clash.Goals as goal
 

@@ -1,7 +1,6 @@
-use Rattle.std.proofs.Common.{◌≡◌, ◌∙◌, ap, sym, subst, List, ℕ, Option, Some, None, length}
+use Rattle.std.proofs.Common.{◌≡◌, ◌∙◌, ap, sym, List, ℕ, Some, None, length}
 use Rattle.std.specs.List.{position_from}
-use Rattle.std.specs.Str.{IsUtf8}
-use Rattle.sgm_list.specs.Entries.{EntryNames, entries_of}
+use Rattle.sgm_list.specs.Entries.{entries_of}
 use Rattle.sgm_list.specs.Words.{lines_of}
 use Rattle.sgm_list.specs.Clashes.{first_clash}
 use Rattle.sgm_list.specs.Faults.{is_faulty}

@@ -1,7 +1,6 @@
 use Rattle.std.proofs.Common.{◌≡◌, ◌<◌, length, true, get_or, ◌∙◌, sym, arith}
-use Rattle.std.proofs.lemmas.Str.{IsCharBoundary-end}
 use Rattle.sgm_list.specs.Words.{is_space}
-use Rattle.sgm_list.proofs.WordLaws.{cut_before, word_ends}
+use Rattle.sgm_list.proofs.WordLaws.{word_ends}
 use Rattle.sgm_list.proofs.words.word_len.Goals as goal
 
 pub returns-else-not-is_space-clause-word : goal.returns-else-not-is_space-clause-word
