@@ -1,0 +1,6 @@
+pub mod WordLaws
+pub mod LineLaws
+pub mod Joins
+pub mod Found
+pub mod ClashLaws
+pub mod FaultLaws

@@ -1,0 +1,6 @@
+pub mod Words
+pub mod Entries
+pub mod Clashes
+pub mod Faults
+pub mod Lines
+pub mod Reading

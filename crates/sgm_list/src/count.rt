@@ -1,0 +1,44 @@
+//! Counting the entries, before memory is taken for them.
+ghost use Rattle.std.specs.Prelude.{◌≡◌, ◌≤◌, ◌<◌, ◌+◌, length, None, Some, IfOk, IfErr};
+ghost use Rattle.std.specs.List.{position_from};
+ghost use Rattle.sgm_list.specs.Words.{lines_of, words_of};
+ghost use Rattle.sgm_list.specs.Entries.{entries_of};
+ghost use Rattle.sgm_list.specs.Faults.{is_faulty};
+
+use crate::words::{split_line, split_word};
+
+/// The number of words of a line.
+fn count_words(line: &str) -> usize
+    ensures count { result ≡ length (words_of line.now) }
+    ensures within { result ≤ length line.now }
+{
+    let mut count = 0;
+    let mut rest = line;
+    while let Some((_word, behind)) = split_word(rest) {
+        count += 1;
+        rest = behind;
+    }
+    count
+}
+
+/// The number of entries of a text; the number of the first line, from 1, that has words, but not four.
+pub fn count_entries(text: &str) -> Result<usize, usize>
+    ensures none { IfOk result (λ _. position_from is_faulty 1 (lines_of text.now) ≡ None) }
+    ensures count { IfOk result (λ count. count ≡ length (entries_of text.now)) }
+    ensures first { IfErr result (λ number. position_from is_faulty 1 (lines_of text.now) ≡ Some number) }
+{
+    let mut count = 0;
+    let mut number = 0;
+    let mut left = Some(text);
+    while let Some(rest) = left {
+        let (line, behind) = split_line(rest);
+        number += 1;
+        match count_words(line) {
+            0 => {}
+            4 => count += 1,
+            _ => return Err(number),
+        }
+        left = behind;
+    }
+    Ok(count)
+}

@@ -1,0 +1,20 @@
+//! The list of a series of pairs: its entries, or its first fault.
+#![tactic(auto)]
+
+mod clash;
+mod count;
+mod entry;
+mod fault;
+mod limits;
+mod line;
+mod read;
+mod words;
+
+pub use entry::Entry;
+pub use fault::{ListError, ListFault};
+pub use limits::{MAX_ENTRIES, MAX_LIST_BYTES};
+pub use line::{Line, fault_line};
+pub use read::read_list;
+
+#[cfg(test)]
+mod tests;
