@@ -1,0 +1,5 @@
+pub mod Sums
+pub mod Numbers
+pub mod Steps
+pub mod Seats
+pub mod Dealing
