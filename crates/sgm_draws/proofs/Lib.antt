@@ -3,3 +3,4 @@ pub mod Numbers
 pub mod Steps
 pub mod Seats
 pub mod Dealing
+pub mod Crossing
