@@ -1,0 +1,6 @@
+pub mod Sums
+pub mod Numbers
+pub mod Steps
+pub mod Seats
+pub mod Dealing
+pub mod Crossing
