@@ -24,8 +24,10 @@ done
 begin() {
     case=$1
     repository=$work/$1
-    mkdir -p "$repository"/{bin,crates/sgm_cli/{src,out},crates/low/{src,specs,proofs,must-fail},docs} || exit 1
+    mkdir -p "$repository"/{bin,crates/sgm_cli/{src,out},crates/low/{src,specs,proofs,must-fail},docs,packaging} || exit 1
     cp "$top/sgm" "$repository/sgm"
+    cp "$top/packaging/help.txt" "$repository/packaging/"
+    echo 7.8.9 >"$repository/VERSION"
     touch "$repository/crates.txt" "$repository"/crates/{sgm_cli/src/main.rt,low/src/lib.rt,low/specs/Lib.antt}
     cat >"$work/made" <<'PROGRAM'
 #!/usr/bin/env bash
@@ -84,21 +86,22 @@ help=$out
 started -h
 is "status of -h" "$status" 0
 is "what -h prints" "$out" "$help"
+is "the man page that it names" "$(grep -c 'man page sgm(1)' <<<"$out")" 1
 is "builds" "$(calls)" 0
 
 begin version
 started --version
 is status "$status" 0
 is "standard error" "$err" ""
-is version "$out" "sgm, commit unknown, calibration versions 1 and 2"
+is version "$out" "sgm 7.8.9, commit unknown, calibration versions 1 and 2"
 if has git; then
     git -c init.defaultBranch=one init -q . && git add sgm &&
         git -c user.name=a -c user.email=a@b commit -qm one || exit 1
     started --version
-    is "version of a commit" "$out" "sgm, commit $(git rev-parse --short HEAD), calibration versions 1 and 2"
+    is "version of a commit" "$out" "sgm 7.8.9, commit $(git rev-parse --short HEAD), calibration versions 1 and 2"
     echo >>sgm
     started --version
-    is "version after a change" "$out" "sgm, commit $(git rev-parse --short HEAD)-dirty, calibration versions 1 and 2"
+    is "version after a change" "$out" "sgm 7.8.9, commit $(git rev-parse --short HEAD)-dirty, calibration versions 1 and 2"
 fi
 is "builds" "$(calls)" 0
 
