@@ -56,7 +56,7 @@ git rev-parse --git-dir >/dev/null 2>&1 || fail "this is no git checkout, so the
 changed=
 if [ -n "$(git status --porcelain)" ]; then
     [ $is_changed_allowed = yes ] || fail "the checkout has changes (git status); commit them, or see --help, --changed"
-    changed=", and of changes to it that were not committed"
+    changed=", with changes that were not committed"
 fi
 read -r version <VERSION
 version_line=$(./sgm --version)
@@ -67,7 +67,7 @@ export SOURCE_DATE_EPOCH
 tree=$work/tree
 usr=$tree/usr
 doc=$usr/share/doc/sgm
-mkdir -p "$usr"/{bin,lib/sgm} "$usr"/share/{sgm,man/man1,bash-completion/completions,lintian/overrides} "$doc"
+mkdir -p "$usr"/{bin,lib/sgm} "$usr"/share/{sgm,man/man1,bash-completion/completions} "$doc"
 
 # put MODE FOLDER FILE..
 put() {
@@ -121,7 +121,7 @@ libc=$(objdump -T "${binaries[@]}" | grep -o 'GLIBC_[0-9.]*' | sort -uV | tail -
 # The tools, under names of their own, and what comes with them. Installed text names them so.
 
 git ls-files tools | grep -vE '/test_' | while read -r file; do put 644 "$usr/share/sgm/tools" "$file"; done
-git ls-files examples/stockpile | grep -vE '/(accuracy|settings)\.py$' | while read -r file; do
+git ls-files examples | grep -vE '/(accuracy|settings)\.py$' | while read -r file; do
     put 644 "$usr/share/sgm/$(dirname "$file")" "$file"
 done
 git ls-files docs README.md CHANGELOG.md | while read -r file; do put 644 "$doc/$(dirname "$file")" "$file"; done
@@ -130,6 +130,7 @@ edits=(-e 's#\./sgm #sgm #g')
 install -m 644 packaging/completion.bash "$usr/share/bash-completion/completions/sgm"
 put 644 "$usr/share/man/man1" packaging/man/sgm.1
 names=packaging/names.txt
+# shellcheck disable=SC2094
 while read -r tool name; do
     if [ -e "$usr/share/sgm/tools/$tool.py" ]; then
         edits+=(-e "s#tools/$tool\\.py#$name#g")
@@ -154,9 +155,7 @@ trusted=$(sed -n 's/^\*\*Trusted\*\*: //p' README.md)
 (cd "$usr" && sha256sum lib/sgm/*) >"$work/sums"
 fold -s -w 112 <<<"$trusted" | sed 's/^/    /; s/ *$//' >"$work/trusted"
 sed -e "s/@VERSION@/$version/" -e "s/@COMMIT@/$commit/" -e "s/@KIT@/$(rt version)/" -e "s/@CHANGED@/$changed/" \
-    -e "/@SUMS@/{s/.*//;r $work/sums
-    N}" -e "/@TRUSTED@/{s/.*//;r $work/trusted
-    N}" packaging/provenance.txt >"$doc/PROVENANCE"
+    -e "/@SUMS@/r $work/sums" -e "/@TRUSTED@/r $work/trusted" -e '/@SUMS@\|@TRUSTED@/d' packaging/provenance.txt >"$doc/PROVENANCE"
 sed "s/@YEAR@/$(date -u -d "@$SOURCE_DATE_EPOCH" +%Y)/" packaging/copyright.txt >"$doc/copyright"
 maintainer=$(git log -1 --format='%cn <%ce>')
 cat >"$doc/changelog" <<CHANGES
@@ -170,7 +169,6 @@ gzip -9n "$doc/changelog" "$usr"/share/man/man1/*
 
 # The package and the archive. Every time in them is the commit's.
 
-install -m 644 packaging/lintian-overrides "$usr/share/lintian/overrides/sgm"
 mkdir "$tree/DEBIAN"
 size=$(find "$usr" \( -type f -printf '%s\n' \) -o -printf '1\n' | awk '{ total += int(($1 + 1023) / 1024) } END { print total }')
 sed -e "s/@VERSION@/$version/" -e "s/@MAINTAINER@/$maintainer/" -e "s/@SIZE@/$size/" -e "s/@LIBC@/${libc#GLIBC_}/" \
@@ -182,7 +180,7 @@ archive=$out/sgm-$version-x86_64.tar.xz
 # One thread: xz writes other bytes with other numbers of them.
 DPKG_DEB_THREADS_MAX=1 dpkg-deb --root-owner-group -Zxz --build "$tree" "$work/made.deb" >/dev/null
 tar -C "$tree" --sort=name --owner=0 --group=0 --numeric-owner --format=gnu --mtime="@$SOURCE_DATE_EPOCH" \
-    --exclude=usr/share/lintian --transform="flags=r;s#^usr#sgm-$version#" -cf - usr | xz -T1 >"$work/made.tar.xz"
+    --transform="flags=r;s#^usr#sgm-$version#" -cf - usr | xz -T1 >"$work/made.tar.xz"
 mv "$work/made.deb" "$package"
 mv "$work/made.tar.xz" "$archive"
 sha256sum "$package" "$archive"

@@ -21,7 +21,10 @@ class Wrong(Exception):
 
 def installed_names(file):
     with open(file, encoding="utf-8") as lines:
-        return dict(line.split() for line in lines if line.strip())
+        pairs = [line.split() for line in lines if line.strip()]
+    if any(len(pair) != 2 for pair in pairs):
+        raise Wrong(f"{file}: a line has a tool's file and its name")
+    return dict(pairs)
 
 
 def renamed(text, names):

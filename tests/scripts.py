@@ -31,6 +31,7 @@ READERS = {
     "tools/calibrate_pair.py": "--left FILE --right FILE --board 9x6 --square 1 --out made.json",
     "tools/middlebury_calibration.py": "FILE --out made.json",
     "bench/accuracy.py": "FILE FILE FILE FILE",
+    "packaging/tool_page.py": "FILE --names FILE",
     "examples/stockpile/compare_truth.py": "FILE",
 }
 WRITERS = ["tests/make_cases.py", "tests/calibration_cases.py", "tests/definitions.py"]
