@@ -15,7 +15,7 @@ tunables=$tunables:glibc.malloc.arena_max=1:glibc.malloc.top_pad=67108864
 # The commands that the launcher uses, and git where it is there: a folder without another rt.
 plain=$work/commands
 mkdir "$plain"
-for command in bash basename cat cp dirname env find git grep realpath sed touch wc; do
+for command in bash basename cat cp dirname env find git grep mv realpath rm sed touch wc; do
     has "$command" && ln -s "$(command -v "$command")" "$plain/"
 done
 
@@ -146,6 +146,47 @@ touch unchanged crates.txt
 started demo 1
 started demo 1
 is "builds after one that changed nothing" "$(calls)" $((count + 2))
+
+# The names of the sources that it keeps: of what came since, and where the program was made by someone else.
+count=$(calls)
+started demo 1
+echo "fn new() {}" >crates/low/src/new.rt
+started demo 1
+is "builds after a source came" "$(calls)" $((count + 1))
+age
+touch crates/sgm_cli/out/sgm_cli
+started demo 1
+started demo 1
+is "builds where nothing changed" "$(calls)" $((count + 1))
+ls crates/sgm_cli/out/sources.* >/dev/null
+is "whether it has kept the names (0: yes)" $? 0
+sleep 0.01
+echo "fn newer() {}" >>crates/low/src/new.rt
+started demo 1
+is "builds after that source changed" "$(calls)" $((count + 2))
+echo >crates/low/proofs/Other.antt
+age
+touch crates/sgm_cli/out/sgm_cli
+touch -d '30 minutes ago' crates/sgm_cli/out/sources.*
+sleep 0.01
+echo >>crates/low/proofs/Other.antt
+started demo 1
+is "builds after a change of a source that came while another built" "$(calls)" $((count + 3))
+age
+touch crates/sgm_cli/out/sgm_cli
+started demo 1
+mkdir crates/sgm_cli/specs
+sleep 0.01
+echo >crates/sgm_cli/specs/Lib.antt
+started demo 1
+is "builds after a folder of sources came" "$(calls)" $((count + 4))
+age
+touch crates/sgm_cli/out/sgm_cli
+started demo 1
+rm -r crates/sgm_cli/specs
+started demo 1
+started demo 1
+is "builds after one is taken out" "$(calls)" $((count + 5))
 
 begin unbuilt
 touch broken
