@@ -167,6 +167,15 @@ tried() {
         "$("$@" man -M "$prefix/share/man" -P cat sgm 2>/dev/null | grep -c 'EXIT STATUS')" 1
     is "the tool's man page" \
         "$("$@" man -M "$prefix/share/man" -P cat sgm-cubic-metres 2>/dev/null | grep -c '^ *--digits N')" 1
+    # It needs a file beside it, and packages that may be missing, which it then names.
+    "$@" "$prefix/bin/sgm-page" /tmp/sgm-heap-$$ --calib "$example/calibration.json" >"$work/out" 2>&1
+    word=$?
+    if "$@" /usr/bin/python3 -c 'import numpy, PIL' 2>/dev/null; then
+        is "status of the page" $word 0
+    else
+        is "status of the page without packages" "$word $(cat "$work/out")" \
+            "1 sgm-page: numpy and PIL of Python needed: apt-get install python3-numpy python3-pil on Debian"
+    fi
     rm -f "$where/tmp/sgm-heap-$$".*
 }
 
@@ -176,6 +185,11 @@ tar -C "$made" --no-same-owner -xf "$archive"
 # shellcheck disable=SC2317
 plain() { env -i PATH=/usr/bin:/bin HOME=/nonexistent "$@"; }
 tried "" "$made/sgm-$version" plain
+mkdir "$work/local"
+ln -s "$made/sgm-$version/bin"/* "$work/local/"
+is "the version by a link" "$(plain "$work/local/sgm" --version)" "$("$top/sgm" --version)"
+is "a tool by a link" "$(plain "$work/local/sgm-cubic-metres" --help | grep -o '^usage: sgm-cubic-metres')" \
+    "usage: sgm-cubic-metres"
 
 # A fresh Debian.
 
