@@ -101,13 +101,12 @@ build_program() {
     cc -O2 -fPIE -pie -fstack-protector-strong -fcf-protection -D_FORTIFY_SOURCE=2 -Wall -Wextra -Werror -s \
         -Wl,-z,relro,-z,now,--build-id=none "-DPROGRAM=\"$name\"" "-DVERSION_LINE=\"$name${version_line#sgm}\"" \
         "-DHELP=\"$(help_of "$name")\"" packaging/launcher.c -o "$usr/bin/$name"
-    programs+=("$name")
+    put 644 "$usr/share/man/man1" "packaging/man/$name.1"
 }
 
 # The file with the words of the program: help.txt, or help_NAME.txt.
 help_of() { if [ "$1" = sgm ]; then echo packaging/help.txt; else echo "packaging/help_$1.txt"; fi; }
 
-programs=()
 build_program sgm demo 0
 build_program sgm_series /dev/null
 
@@ -128,7 +127,6 @@ git ls-files docs README.md CHANGELOG.md | while read -r file; do put 644 "$doc/
 ln -s ../../sgm/examples "$doc/examples"
 edits=(-e 's#\./sgm #sgm #g')
 install -m 644 packaging/completion.bash "$usr/share/bash-completion/completions/sgm"
-put 644 "$usr/share/man/man1" packaging/man/sgm.1
 names=packaging/names.txt
 # shellcheck disable=SC2094
 while read -r tool name; do

@@ -84,6 +84,10 @@ int main(int count, char **words) {
     if (count > 1 && strcmp(words[1], "--version") == 0)
         return print(VERSION_LINE "\n", sizeof VERSION_LINE);
 
+    if (!__builtin_cpu_supports("x86-64-v2")) {
+        fputs(PROGRAM ": this processor lacks what x86-64-v2 has, which the program needs\n", stderr);
+        return 1;
+    }
     char path[PATH_MAX + 64];
     set_path(path, sizeof path, __builtin_cpu_supports("x86-64-v3") ? "x86-64-v3" : "x86-64-v2");
     if (ask_for_huge_pages() != 0)
