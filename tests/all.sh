@@ -23,7 +23,7 @@ table() {
     cat <<TABLE
 launcher            -           tests/launcher.sh
 scripts             opencv      tests/scripts.py
-shellcheck          shellcheck  shellcheck -x sgm .ci/run $(cd "$top" && echo tests/*.sh)
+shellcheck          shellcheck  shellcheck -x sgm .ci/run $(cd "$top" && echo tests/*.sh packaging/*.sh packaging/*.bash)
 reference           -           tests/test_reference.py
 stored_runs         -           tests/stored_runs.py
 least_energies      -           tests/least_energies.py --check
@@ -48,6 +48,7 @@ pgm_tools           program,netpbm  tests/pgm_tools.sh
 unrectified_heap    program,opencv  tests/unrectified_heap.py
 guide               program,opencv,gdal tests/guide.py
 compare             program     tests/compare.sh
+package             rt,package  tests/package.sh
 definitions         rt          tests/definitions.sh
 TABLE
 }
@@ -98,6 +99,10 @@ need() {
     gdal) commands="gdalinfo gdallocationinfo gdal_calc.py" packages="gdal-bin python3-gdal" ;;
     netpbm) commands="pgmmake pamdepth pnmtopng pngtopnm" ;;
     gcc) commands=gcc packages="gcc libc6-dev" ;;
+    package)
+        commands="dpkg-deb lintian objdump cc xz man"
+        packages="dpkg-dev lintian binutils gcc libc6-dev xz-utils man-db mmdebstrap"
+        ;;
     shellcheck) commands=shellcheck ;;
     esac
     for command in $commands; do

@@ -15,7 +15,7 @@ tunables=$tunables:glibc.malloc.arena_max=1:glibc.malloc.top_pad=67108864
 # The commands that the launcher uses, and git where it is there: a folder without another rt.
 plain=$work/commands
 mkdir "$plain"
-for command in bash basename cat cp dirname env find git grep realpath sed touch wc; do
+for command in bash basename cat cp dirname env find git grep mv realpath rm sed touch wc; do
     has "$command" && ln -s "$(command -v "$command")" "$plain/"
 done
 
@@ -24,8 +24,10 @@ done
 begin() {
     case=$1
     repository=$work/$1
-    mkdir -p "$repository"/{bin,crates/sgm_cli/{src,out},crates/low/{src,specs,proofs,must-fail},docs} || exit 1
+    mkdir -p "$repository"/{bin,crates/sgm_cli/{src,out},crates/low/{src,specs,proofs,must-fail},docs,packaging} || exit 1
     cp "$top/sgm" "$repository/sgm"
+    cp "$top/packaging/help.txt" "$repository/packaging/"
+    echo 7.8.9 >"$repository/VERSION"
     touch "$repository/crates.txt" "$repository"/crates/{sgm_cli/src/main.rt,low/src/lib.rt,low/specs/Lib.antt}
     cat >"$work/made" <<'PROGRAM'
 #!/usr/bin/env bash
@@ -84,21 +86,22 @@ help=$out
 started -h
 is "status of -h" "$status" 0
 is "what -h prints" "$out" "$help"
+is "the man page that it names" "$(grep -c 'man page sgm(1)' <<<"$out")" 1
 is "builds" "$(calls)" 0
 
 begin version
 started --version
 is status "$status" 0
 is "standard error" "$err" ""
-is version "$out" "sgm, commit unknown, calibration versions 1 and 2"
+is version "$out" "sgm 7.8.9, commit unknown, calibration versions 1 and 2"
 if has git; then
     git -c init.defaultBranch=one init -q . && git add sgm &&
         git -c user.name=a -c user.email=a@b commit -qm one || exit 1
     started --version
-    is "version of a commit" "$out" "sgm, commit $(git rev-parse --short HEAD), calibration versions 1 and 2"
+    is "version of a commit" "$out" "sgm 7.8.9, commit $(git rev-parse --short HEAD), calibration versions 1 and 2"
     echo >>sgm
     started --version
-    is "version after a change" "$out" "sgm, commit $(git rev-parse --short HEAD)-dirty, calibration versions 1 and 2"
+    is "version after a change" "$out" "sgm 7.8.9, commit $(git rev-parse --short HEAD)-dirty, calibration versions 1 and 2"
 fi
 is "builds" "$(calls)" 0
 
@@ -143,6 +146,47 @@ touch unchanged crates.txt
 started demo 1
 started demo 1
 is "builds after one that changed nothing" "$(calls)" $((count + 2))
+
+# The names of the sources that it keeps: of what came since, and where the program was made by someone else.
+count=$(calls)
+started demo 1
+echo "fn new() {}" >crates/low/src/new.rt
+started demo 1
+is "builds after a source came" "$(calls)" $((count + 1))
+age
+touch crates/sgm_cli/out/sgm_cli
+started demo 1
+started demo 1
+is "builds where nothing changed" "$(calls)" $((count + 1))
+ls crates/sgm_cli/out/sources.* >/dev/null
+is "whether it has kept the names (0: yes)" $? 0
+sleep 0.01
+echo "fn newer() {}" >>crates/low/src/new.rt
+started demo 1
+is "builds after that source changed" "$(calls)" $((count + 2))
+echo >crates/low/proofs/Other.antt
+age
+touch crates/sgm_cli/out/sgm_cli
+touch -d '30 minutes ago' crates/sgm_cli/out/sources.*
+sleep 0.01
+echo >>crates/low/proofs/Other.antt
+started demo 1
+is "builds after a change of a source that came while another built" "$(calls)" $((count + 3))
+age
+touch crates/sgm_cli/out/sgm_cli
+started demo 1
+mkdir crates/sgm_cli/specs
+sleep 0.01
+echo >crates/sgm_cli/specs/Lib.antt
+started demo 1
+is "builds after a folder of sources came" "$(calls)" $((count + 4))
+age
+touch crates/sgm_cli/out/sgm_cli
+started demo 1
+rm -r crates/sgm_cli/specs
+started demo 1
+started demo 1
+is "builds after one is taken out" "$(calls)" $((count + 5))
 
 begin unbuilt
 touch broken

@@ -17,7 +17,7 @@ import tempfile
 import unittest
 
 TOP = os.path.realpath(os.path.join(os.path.dirname(os.path.abspath(__file__)), ".."))
-FOLDERS = ["tests", "tools", "bench", "examples/pair", "examples/photographs", "examples/stockpile"]
+FOLDERS = ["tests", "tools", "bench", "packaging", "examples/pair", "examples/photographs", "examples/stockpile"]
 # It takes the words of the program and no others; the program has no --help either.
 REFERENCE = "tests/reference.py"
 # What reads a file, with the words around the file's name, and what writes into a folder.
@@ -31,6 +31,7 @@ READERS = {
     "tools/calibrate_pair.py": "--left FILE --right FILE --board 9x6 --square 1 --out made.json",
     "tools/middlebury_calibration.py": "FILE --out made.json",
     "bench/accuracy.py": "FILE FILE FILE FILE",
+    "packaging/tool_page.py": "FILE --names FILE",
     "examples/stockpile/compare_truth.py": "FILE",
 }
 WRITERS = ["tests/make_cases.py", "tests/calibration_cases.py", "tests/definitions.py"]
@@ -89,7 +90,9 @@ class Manners(unittest.TestCase):
         for path in files():
             can_run = os.access(os.path.join(TOP, path), os.X_OK)
             self.assertEqual(can_run, path in scripts(), path)
-        for path in ("sgm", ".ci/run", *scripts()):
+        self.assertEqual(first_line("sgm"), b"#!/bin/sh\n")
+        self.assertTrue(os.access(os.path.join(TOP, "sgm"), os.X_OK), "sgm")
+        for path in (".ci/run", *scripts()):
             self.assertTrue(os.access(os.path.join(TOP, path), os.X_OK), path)
             program = b"python3" if path.endswith(".py") else b"bash"
             self.assertEqual(first_line(path), b"#!/usr/bin/env " + program + b"\n", path)

@@ -23,7 +23,7 @@ import sgm_files
 import stretch
 from sgm_files import Image, Wrong, numpy
 
-TEMPLATE = os.path.join(os.path.dirname(os.path.abspath(__file__)), "survey_page.html")
+TEMPLATE = os.path.join(os.path.dirname(os.path.realpath(__file__)), "survey_page.html")
 MOST_CELLS = 4_000_000
 LONGEST_SIDE = 1600
 EMPTY = -(2**31)
