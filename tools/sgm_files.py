@@ -274,6 +274,16 @@ def read_json(name):
     return top
 
 
+def whole(top, *keys):
+    """The whole number that stands at these keys of a calibration."""
+    value = top
+    for key in keys:
+        value = value.get(key) if isinstance(value, dict) else None
+    if isinstance(value, bool) or not isinstance(value, int):
+        raise Wrong(f"the calibration has no whole number at {'.'.join(keys)}")
+    return value
+
+
 # Numbers in words
 
 

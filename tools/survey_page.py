@@ -21,7 +21,7 @@ import os
 import heights_picture
 import sgm_files
 import stretch
-from sgm_files import Image, Wrong, numpy
+from sgm_files import Image, Wrong, numpy, whole
 
 TEMPLATE = os.path.join(os.path.dirname(os.path.abspath(__file__)), "survey_page.html")
 MOST_CELLS = 4_000_000
@@ -30,16 +30,6 @@ EMPTY = -(2**31)
 
 
 # The calibration
-
-
-def whole(top, *keys):
-    """The whole number that stands at these keys."""
-    value = top
-    for key in keys:
-        value = value.get(key) if isinstance(value, dict) else None
-    if isinstance(value, bool) or not isinstance(value, int):
-        raise Wrong(f"the calibration has no whole number at {'.'.join(keys)}")
-    return value
 
 
 def regions_in(calibration):
