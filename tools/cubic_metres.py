@@ -1,5 +1,6 @@
 #!/usr/bin/env python3
 """Turns the report (OUT.csv) into a table in metres and cubic metres, exactly, and says the volume above the ground.
+Reads the volumes of `sgm change` too.
 
     tools/cubic_metres.py OUT.csv [--ground NAME --calibration CALIB.json] [--out FILE.csv] [--digits N]
 
@@ -19,6 +20,9 @@ to be measured, and each line has two words more, `ground_m,above_m3`:
   cells * cell * cell for each micrometre by which the base moves. It is exactly the fill less the cut of a
   survey whose base for the region is ground_m. The ground's own line has none.
 
+The volumes of a change become `both,come,gone,empty,fill_m3,cut_m3,net_m3`; they have no regions and no ground
+(tools/change_volumes.py has those).
+
 Base and cell come from the calibration of the survey. Without --digits every digit stays and zeros at the end
 fall away; with it the numbers are rounded to so many decimals, halves away from 0. The table goes to standard
 output where --out isn't given. Needs Python alone.
@@ -37,6 +41,8 @@ from rasters import fault
 HEAD = ["region", "cells", "empty", "fill", "cut", "lowest", "highest"]
 NEW_HEAD = ["region", "cells", "empty", "fill_m3", "cut_m3", "net_m3", "lowest_m", "highest_m"]
 ABOVE_HEAD = ["ground_m", "above_m3"]
+CHANGE_HEAD = ["both", "come", "gone", "empty", "fill", "cut"]
+NEW_CHANGE_HEAD = ["both", "come", "gone", "empty", "fill_m3", "cut_m3", "net_m3"]
 WHOLE = re.compile("-?[0-9]+")
 
 
@@ -74,6 +80,14 @@ def report(lines):
         if not is_line(line):
             raise ValueError(f"line {number} isn't one of a report")
         yield [line[0], *(int(word) if word else None for word in line[1:])]
+
+
+def change_table(lines, digits):
+    """The table of a change's volumes."""
+    if len(lines) != 2 or len(lines[1]) != len(CHANGE_HEAD) or not all(WHOLE.fullmatch(word) for word in lines[1]):
+        raise ValueError("not the volumes of a change of sgm")
+    *counts, fill, cut = map(int, lines[1])
+    return [NEW_CHANGE_HEAD, [*counts, *(moved(volume, 18, digits) for volume in (fill, cut, fill - cut))]]
 
 
 def table(regions, digits):
@@ -146,7 +160,12 @@ def named(name):
 def made(words):
     """All lines of the table that the words ask for."""
     with named(words.file), open(words.file, newline="", encoding="ascii", errors="replace") as file:
-        regions = list(report(list(csv.reader(file))))
+        given = list(csv.reader(file))
+        if given[:1] == [CHANGE_HEAD]:
+            if words.ground is not None:
+                raise ValueError("the volumes of a change have no ground")
+            return change_table(given, words.digits)
+        regions = list(report(given))
     lines = [NEW_HEAD, *table(regions, words.digits)]
     if words.ground is None:
         return lines
@@ -162,7 +181,7 @@ def made(words):
 def main():
     epilog = "Example: tools/cubic_metres.py heap.csv --ground ground --calibration heap.json --digits 3"
     parser = argparse.ArgumentParser(description=__doc__.split("\n\n")[0], epilog=epilog)
-    parser.add_argument("file", metavar="OUT.csv", help="the report that sgm has written")
+    parser.add_argument("file", metavar="OUT.csv", help="the report, or the volumes, that sgm has written")
     parser.add_argument("--ground", metavar="NAME", help="the region of flat ground above which others are measured")
     parser.add_argument("--calibration", metavar="CALIB.json", help="that of the survey; --ground takes it")
     parser.add_argument("--out", metavar="FILE.csv", help="the new table (standard output if not given)")

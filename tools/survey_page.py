@@ -32,18 +32,9 @@ EMPTY = -(2**31)
 # The calibration
 
 
-def regions_in(calibration):
-    listed = calibration.get("regions", [])
-    if not isinstance(listed, list):
-        raise Wrong("the calibration's regions aren't a list")
-    if not all(isinstance(region, dict) for region in listed):
-        raise Wrong("a region of the calibration isn't an object")
-    return listed
-
-
 def regions_of(calibration, report):
     """The regions with their lines of the report."""
-    listed = regions_in(calibration)
+    listed = sgm_files.regions_in(calibration)
     if [region.get("name") for region in listed] != [line["region"] for line in report]:
         raise Wrong("the regions of the calibration aren't those of the report: is it the calibration of this survey?")
     made = []
@@ -53,18 +44,6 @@ def regions_of(calibration, report):
         line = {**line, "fill": str(line["fill"]), "cut": str(line["cut"])}
         made.append({"name": region["name"], **numbers, "report": line})
     return made
-
-
-def check_grid(calibration, grid):
-    """Stops where the calibration's grid isn't that of the heights."""
-    rows, cols = grid.heights.shape
-    theirs = [whole(calibration, "grid", key) for key in ("west", "south", "cell", "cols", "rows")]
-    if theirs != [grid.west, grid.south, grid.cell, cols, rows]:
-        raise Wrong("the calibration's grid isn't that of the heights: is it the calibration of this survey?")
-    for region in regions_in(calibration):
-        col, row, across, down = (whole(region, key) for key in ("col", "row", "cols", "rows"))
-        if not (0 <= col < cols and 0 <= row < rows and 1 <= across <= cols - col and 1 <= down <= rows - row):
-            raise Wrong("a region of the calibration sticks out of the grid")
 
 
 # Heights
@@ -141,7 +120,7 @@ def span_of(calibration, values, filled):
 def survey(out, calibration, left):
     """Everything that the page knows."""
     grid = sgm_files.read_grid(out + ".asc")
-    check_grid(calibration, grid)
+    sgm_files.check_grid(calibration, grid)
     report = sgm_files.read_report(out + ".csv") if "regions" in calibration else []
     regions = regions_of(calibration, report)
     values, filled = sgm_files.read_disparities(out + ".pgm")
