@@ -31,10 +31,15 @@ READERS = {
     "tools/calibrate_pair.py": "--left FILE --right FILE --board 9x6 --square 1 --out made.json",
     "tools/middlebury_calibration.py": "FILE --out made.json",
     "bench/accuracy.py": "FILE FILE FILE FILE",
+    "tools/change_volumes.py": "FILE --calib FILE",
+    "tools/cell_pixels.py": "FILE 0 0 --calib FILE",
+    "tools/check_trace.py": "FILE FILE FILE right 0 0 0 FILE",
+    "tools/explain_pixel.py": "FILE FILE FILE 0 0",
     "examples/stockpile/compare_truth.py": "FILE",
+    "examples/stockpile/compare_change.py": "FILE",
 }
 WRITERS = ["tests/make_cases.py", "tests/calibration_cases.py", "tests/definitions.py"]
-WRITERS += ["examples/photographs/make_photographs.py"]
+WRITERS += ["examples/photographs/make_photographs.py", "examples/stockpile/make_later.py"]
 
 
 # Tools with words that make something of the files of this repository, the output's name being OUT.

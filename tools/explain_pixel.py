@@ -106,7 +106,8 @@ def columns(lines):
     """Lines of words in columns, the first to the left and the others to the right."""
     widths = [max(len(str(line[at])) for line in lines) for at in range(len(lines[0]))]
     for line in lines:
-        yield "  ".join([str(line[0]).ljust(widths[0]), *(str(word).rjust(width) for word, width in zip(line[1:], widths[1:]))])
+        words = [str(line[0]).ljust(widths[0]), *(str(word).rjust(width) for word, width in zip(line[1:], widths[1:]))]
+        yield "  ".join(words).rstrip()
 
 
 def table(directions, indices, chosen):
@@ -162,7 +163,7 @@ def explain(pair, words, value, directions, indices, chosen):
     if value != 16 * chosen + moved:
         wanted = sixteenths(16 * chosen + moved, pair.first)
         raise Wrong(f"the program's picture has disparity {sixteenths(value, pair.first)} here, the sums ask for {wanted}")
-    yield f"So the disparity is {sixteenths(value, pair.first)} pixels, and that is what the program's picture has here."
+    yield f"So the disparity is {sixteenths(value, pair.first)}, in pixels, and that is what the program's picture has here."
 
 
 def point_line(calibration, words, value):
