@@ -61,6 +61,7 @@ def print_cells(out, calibration, noise):
 
 
 def compare(out):
+    """Prints the comparison, and gives the measured and the true volume."""
     with open(os.path.join(HERE, "calibration.json"), encoding="utf-8") as file:
         calibration = json.load(file)
     (_, pile), (_, ground), _ = change_volumes.tallies(out, calibration)
@@ -71,6 +72,7 @@ def compare(out):
     print(f"change  true {true:.3f} m3   measured {measured:.3f} m3   {100 * (measured / true - 1):+.2f} %")
     print(f"        noise of the ground comes to {least:.3f} m3 over the pile: below that nothing would be certain")
     print_cells(out, calibration, ground.root())
+    return measured, true
 
 
 def main():
