@@ -150,8 +150,6 @@ class Manners(unittest.TestCase):
     def test_progress(self):
         """What goes on is shown on a terminal, and taken away again."""
         for path, words in MAKERS.items():
-            if path == "tools/cubic_metres.py":
-                continue
             with tempfile.TemporaryDirectory() as folder:
                 write_inputs(folder)
                 mine, theirs = pty.openpty()

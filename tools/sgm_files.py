@@ -248,15 +248,21 @@ REPORT_NAMES = ("region", "cells", "empty", "fill", "cut", "lowest", "highest")
 def read_report(name):
     """OUT.csv: a dict for each region, its numbers Python's own, lowest and highest None where it has no cells."""
     text = read_bytes(name).decode("ascii", "replace")
-    lines = list(csv.DictReader(io.StringIO(text)))
     first = text.partition("\n")[0].rstrip("\r").split(",")
-    if not set(REPORT_NAMES) <= set(first):
+    if tuple(first) != REPORT_NAMES:
         raise Wrong(f"{name}: not a report of sgm")
+    try:
+        lines = list(csv.DictReader(io.StringIO(text)))
+    except csv.Error as error:
+        raise Wrong(f"{name}: {error}")
     return [report_line(line, f"{name}: line {number} isn't one of a report") for number, line in enumerate(lines, 2)]
 
 
 def report_line(line, complaint):
     made = {"region": line["region"]}
+    # What is more than the head has names for stands under None.
+    if None in line:
+        raise Wrong(complaint)
     for key in REPORT_NAMES[1:]:
         word = line[key]
         may_be_empty = key in ("lowest", "highest")

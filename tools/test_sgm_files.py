@@ -115,8 +115,10 @@ class Reports(Files):
         self.assertEqual(report[1], dict(zip(sgm_files.REPORT_NAMES, ("c", 0, 1, 0, 0, None, None))))
 
     def test_refused(self):
-        self.assertEqual(self.refused(sgm_files.read_report, b"region,cells\n"), "not a report of sgm")
-        for line in (b"a,1,0,5,0,5\n", b"a,1,0,5.0,0,5,5\n", b"a,,0,5,0,5,5\n", b"a,1,0,5,0,x,5\n"):
+        for text in (b"region,cells\n", self.HEAD.replace(b"\n", b",more\n")):
+            self.assertEqual(self.refused(sgm_files.read_report, text), "not a report of sgm")
+        self.assertIn("field larger", self.refused(sgm_files.read_report, self.HEAD + b"a" * 200000))
+        for line in (b"a,1,0,5,0,5\n", b"a,1,0,5.0,0,5,5\n", b"a,,0,5,0,5,5\n", b"a,1,0,5,0,x,5\n", b"a,1,0,5,0,5,5,5\n"):
             self.assertEqual(self.refused(sgm_files.read_report, self.HEAD + line), "line 2 isn't one of a report")
 
 
