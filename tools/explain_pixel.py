@@ -11,8 +11,8 @@ and its neighbours (a sixteenth of a pixel is the finest step), what the program
 there (`sgm match`, without peaks or filling, in a folder that goes away again), and the point in metres where the
 calibration has a camera.
 
-It ends with 0 where all of it holds together, and names what doesn't and ends with 1 elsewhere. The program is
-./sgm of this repository, or what the variable SGM or --sgm names. Needs numpy. Takes seconds for small pictures,
+It ends with 0 where all of it holds together, and names what doesn't and ends with 1 elsewhere. The program is what
+--sgm names, or the variable SGM, or the one of this repository, or the one on the PATH. Needs numpy. Takes seconds for small pictures,
 a minute for large ones.
 """
 
@@ -27,7 +27,12 @@ from cell_pixels import Points, sixteenths
 from check_trace import DIRECTIONS
 from sgm_files import Wrong, decimal
 
-PROGRAM = os.path.join(os.path.dirname(os.path.abspath(__file__)), "..", "sgm")
+PROGRAM = os.path.normpath(os.path.join(os.path.dirname(os.path.abspath(__file__)), "..", "sgm"))
+
+
+def given_program():
+    """The program where no word names one: that of the variable SGM, of this repository, or of the PATH."""
+    return os.environ.get("SGM") or (PROGRAM if os.access(PROGRAM, os.X_OK) else "sgm")
 
 
 def run_program(program, *words):
@@ -184,7 +189,7 @@ def main():
     check_trace.add_pair(parser)
     parser.add_argument("x", metavar="X", type=check_trace.digits, help="the pixel's column, from 0 at the left")
     parser.add_argument("y", metavar="Y", type=check_trace.digits, help="the pixel's row, from 0 at the top")
-    parser.add_argument("--sgm", metavar="PATH", default=os.environ.get("SGM", PROGRAM), help="the program")
+    parser.add_argument("--sgm", metavar="PATH", default=given_program(), help="the program")
     words = parser.parse_args()
     calibration = check_trace.calibration_of(words.calib)
     pair = check_trace.Pair(words.left, words.right, calibration)

@@ -14,7 +14,10 @@ import argparse
 import os
 import sys
 
+sys.path.insert(0, os.path.join(os.path.dirname(os.path.abspath(__file__)), "..", "..", "tools"))
+
 import make_stockpile as before
+import sgm_files
 from make_stockpile import BASELINE, CONE_X, HEIGHT, MOUNT, WIDTH
 
 # The plane: how high it stands at the cone's axis, and over which length to the east it falls by 1.
@@ -65,6 +68,7 @@ def right_sample(x, y):
 def write_pair(folder):
     os.makedirs(folder, exist_ok=True)
     for name, sample in (("left.pgm", left_sample), ("right.pgm", right_sample)):
+        sgm_files.progress(f"making {name}")
         samples = bytes(sample(x, y) for y in range(HEIGHT) for x in range(WIDTH))
         with open(os.path.join(folder, name), "wb") as file:
             file.write(f"P5\n{WIDTH} {HEIGHT}\n255\n".encode() + samples)
@@ -75,11 +79,8 @@ def main():
     parser = argparse.ArgumentParser(description=__doc__.split("\n\n")[0], epilog=epilog)
     parser.add_argument("folder", metavar="FOLDER", help="where the pair goes; it is made where it isn't there")
     words = parser.parse_args()
-    try:
-        write_pair(words.folder)
-    except OSError as error:
-        sys.exit(f"make_later: {error}")
+    write_pair(words.folder)
 
 
 if __name__ == "__main__":
-    main()
+    sgm_files.run(main)
