@@ -3,7 +3,7 @@
 
     tools/check_trace.py LEFT RIGHT CALIB DIR X Y D TRACE
 
-The first eight words are those of `sgm trace`, TRACE is a file with what it printed. It should hold a sequence
+The first seven words are those of `sgm trace`, TRACE is a file with what it printed. It should hold a sequence
 of indices along the line of pixels that leads in the direction DIR to the pixel (X, Y), one line for each
 pixel, `X Y INDEX COST JUMP`, and on top `least E`. Here nothing is taken from the program. The pixels that
 the line needs are rectified, each cost and each jump is computed and compared, and so is their sum. Then
