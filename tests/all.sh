@@ -37,6 +37,9 @@ calibrate_pair      opencv      tools/test_calibrate_pair.py
 middlebury          -           tools/test_middlebury_calibration.py
 accuracy            opencv      bench/test_accuracy.py
 survey_page_files   pictures    tools/test_survey_page.py
+change_volumes      pictures    tools/test_change_volumes.py
+check_trace         pictures    tools/test_check_trace.py
+explain_pixel       pictures    tools/test_explain_pixel.py
 survey_page         browser     tests/survey_page.py
 ends                program     tests/ends.sh
 workers             program     tests/workers.sh
@@ -46,6 +49,8 @@ interrupted         program     tests/interrupted.py
 asc_gdal            program,gdal    tests/asc_gdal.sh
 pgm_tools           program,netpbm  tests/pgm_tools.sh
 unrectified_heap    program,opencv  tests/unrectified_heap.py
+certificates        program,pictures tests/certificates.py
+later_heap          program,pictures tests/later_heap.py
 guide               program,opencv,gdal tests/guide.py
 compare             program     tests/compare.sh
 package             rt,package  tests/package.sh

@@ -1,7 +1,8 @@
 #!/usr/bin/env bash
 # Checks that GDAL reads a height grid as it is meant: size, origin, cell size, the value of empty cells
 # and every height, each against the calibration or the text that the program wrote, and the least and
-# greatest height against the report. Skipped where gdalinfo isn't installed (Debian: gdal-bin). The
+# greatest height against the report. A difference of two grids it reads exactly where it is told to keep 64
+# bits (AAIGRID_DATATYPE=Float64), and not without, as the guide says. Skipped where gdalinfo isn't installed (Debian: gdal-bin). The
 # program is the one that the variable SGM names (./sgm of this repository without it).
 #
 #     tests/asc_gdal.sh
@@ -60,6 +61,29 @@ same "report's lowest and highest" "$(sed -n '2s/.*,\(.*\),\(.*\)/\1.000,\2.000/
 # The example with the heap.
 cd "$work/cases/heap" || exit 1
 check heap left.pgm right.pgm calibration.json
+
+# A difference: half of the cells rise by 20 m and a micrometre, the others fall by 30 m and 3, and one is gone. 32 bits
+# lose micrometres from 16.8 m on.
+case=difference
+awk 'NR <= 6 { print; next }
+    { for (at = 1; at <= NF; at++) if ($at != -2147483648) $at += (at + NR) % 2 ? 20000001 : -30000003; print }' \
+    o.asc | sed '10s/ [-0-9]*$/ -2147483648/' >later.asc
+"$SGM" change o.asc later.asc d >/dev/null || { echo "asc_gdal: $case: $SGM failed" >&2; exit 1; }
+cols=$(of_grid "grid['cols']") rows=$(of_grid "grid['rows']")
+for ((row = 0; row < rows; row++)); do
+    for ((col = 0; col < cols; col++)); do echo "$col $row"; done
+done >places
+tail -n +7 d.asc | tr ' ' '\n' >wanted
+gdalinfo --config AAIGRID_DATATYPE Float64 d.asc >info || exit 1
+same "value of cells without a difference" -9999999999 "$(of_info 'NoData Value=')"
+gdallocationinfo -valonly --config AAIGRID_DATATYPE Float64 d.asc <places >found
+cmp -s wanted found || { failed=$((failed + 1)); echo "asc_gdal: $case: with 64 bits numbers differ"; }
+gdallocationinfo -valonly d.asc <places >found
+if cmp -s wanted found; then
+    failed=$((failed + 1))
+    echo "asc_gdal: $case: 32 bits lose nothing: the guide and FORMATS say that they do"
+fi
+echo "asc_gdal: $case: $(wc -l <wanted) numbers asked of GDAL, $(paste wanted found | awk '$1 != $2' | wc -l) wrong with 32 bits"
 
 [ "$failed" = 0 ] && echo "asc_gdal: GDAL reads them as they are meant"
 [ "$failed" = 0 ]

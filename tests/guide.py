@@ -6,8 +6,9 @@
 The commands are those that stand between ```sh and ```; they are run as they stand from the top of the
 repository, with `./sgm` being the program that the variable SGM names (./sgm itself without it), and /tmp/survey
 and /tmp/heap being in a new folder. Each has to end with 0 and to write the files that it names, and the grid
-in metres has to be the survey's. Other blocks that begin with ``` show files and what is printed. Needs what the
-tools need, and GDAL. Takes a minute.
+in metres has to be the survey's. Other blocks that begin with ``` show files and what is printed; in the chapters on
+certificates and on change, whose numbers no package has a part in, each line of such a block has to be printed by
+one of the commands. Needs what the tools need, and GDAL. Takes a minute.
 """
 
 import argparse
@@ -22,6 +23,8 @@ import tempfile
 TOP = os.path.realpath(os.path.join(os.path.dirname(os.path.abspath(__file__)), ".."))
 GUIDE = os.path.join(TOP, "docs", "GUIDE.md")
 BLOCK = re.compile(r"^```sh\n(.*?)^```$", re.M | re.S)
+# The chapters in which all that is shown is printed.
+PRINTED = ("## 11. ", "## 12. ")
 # The folders of the guide.
 FOLDERS = ("/tmp/survey", "/tmp/heap")
 
@@ -32,6 +35,18 @@ def commands(text):
         for command in block.replace("\\\n", " ").splitlines():
             if command.strip():
                 yield re.sub(" +", " ", command)
+
+
+def shown(text):
+    """The lines of blocks that show what is printed, in the chapters in which all of them do."""
+    kind, chapter = None, ""
+    for line in text.splitlines():
+        if line.startswith("```"):
+            kind = line[3:] if kind is None else None
+        elif line.startswith("## "):
+            chapter = line
+        elif kind == "" and chapter.startswith(PRINTED):
+            yield line
 
 
 def put_into(folder, command):
@@ -50,7 +65,8 @@ def written(command, folder):
 def run(folder, environment):
     """How many commands there are, and the first one that failed with what it said, or None."""
     with open(GUIDE, encoding="utf-8") as file:
-        given = list(commands(file.read()))
+        text = file.read()
+    given, printed = list(commands(text)), set()
     for number, command in enumerate(given):
         mine = put_into(folder, command)
         words = ["bash", "-eu", "-o", "pipefail", "-c", mine]
@@ -59,8 +75,10 @@ def run(folder, environment):
         if done.returncode or missing:
             said = done.stderr or f"{', '.join(missing)}: not there or empty"
             return number, f"{command}\nends with {done.returncode}\n{said}"
+        printed.update(done.stdout.splitlines())
         print(f"ran  {command}", flush=True)
-    return len(given), None
+    missing = [line for line in shown(text) if line not in printed]
+    return len(given), f"nothing prints\n{missing[0]}" if missing else None
 
 
 def metres_fault(folder):

@@ -1,17 +1,18 @@
 #!/usr/bin/env python3
 """A second, separate sgm: the same words, files, lines and statuses, from the plain definitions.
 
-It takes the words of `sgm match` and `sgm demo` and is meant for small pictures: it goes pixel by
-pixel, needs some microseconds for each pixel and disparity, and hundreds of bytes. compare.sh sets
-the program against it, byte for byte. It never runs out of memory (status 6).
+It takes the words of `sgm` and is meant for small pictures and grids: it goes pixel by pixel, needs some
+microseconds for each pixel and disparity, and hundreds of bytes. compare.sh and random_cases.py set the
+program against it, byte for byte. It never runs out of memory (status 6).
 """
 
 import os
 import sys
 
+import reference_matching as matching
 from reference_inputs import (
-    LONGEST_CALIBRATION, LONGEST_IMAGE, REFUSED, UNREAD, UNWRITTEN,
-    Calibration, Ended, Image, read_calibration, read_pgm, read_words,
+    DIRECTIONS, EMPTY, GRID_HEAD, LONGEST_CALIBRATION, LONGEST_GRID, LONGEST_IMAGE, REFUSED, UNREAD, UNWRITTEN,
+    Calibration, Ended, Image, read_calibration, read_grid, read_pgm, read_words,
 )
 from reference_matching import VOLUME_MOST, survey, warp_fault
 
@@ -43,16 +44,17 @@ def disparity_text(found):
     return head + b"".join(sample.to_bytes(2, "big") for sample in disparity_samples(found))
 
 
-def grid_text(grid, cells):
+def grid_text(grid, cells, empty=EMPTY):
+    """The text of a grid, in which that number stands for an empty cell."""
     lines = [
         f"ncols {grid['cols']}",
         f"nrows {grid['rows']}",
         f"xllcorner {grid['west']}",
         f"yllcorner {grid['south']}",
         f"cellsize {grid['cell']}",
-        "NODATA_value -2147483648",
+        f"NODATA_value {empty}",
     ]
-    lines += [" ".join(str(-2147483648 if height is None else height) for height in row) for row in cells]
+    lines += [" ".join(str(empty if height is None else height) for height in row) for row in cells]
     return "".join(line + "\n" for line in lines).encode()
 
 
@@ -65,6 +67,15 @@ def table_text(regions, tallies):
 def summary_text(found):
     values = [value for row in found for value in row]
     return f"valid {sum(value is not None for value in values)} of {len(values)}\n"
+
+
+def trace_text(energy, steps):
+    lines = [f"least {energy}", *(" ".join(map(str, step)) for step in steps)]
+    return "".join(line + "\n" for line in lines)
+
+
+def volumes_text(changed):
+    return ("both,come,gone,empty,fill,cut\n" + ",".join(map(str, changed)) + "\n").encode()
 
 
 def fetch(name, most, what):
@@ -111,13 +122,17 @@ def judged(left_data, right_data, calibration_data):
     return left, right, calibration
 
 
-def match(left_name, right_name, calibration_name, out, **refine):
+def fetch_pair(left_name, right_name, calibration_name):
     left = fetch(left_name, LONGEST_IMAGE, "left")
     right = fetch(right_name, LONGEST_IMAGE, "right")
     calibration = None
     if calibration_name != "-":
         calibration = fetch(calibration_name, LONGEST_CALIBRATION, "calibration")
-    left, right, calibration = judged(left, right, calibration)
+    return judged(left, right, calibration)
+
+
+def match(left_name, right_name, calibration_name, out, **refine):
+    left, right, calibration = fetch_pair(left_name, right_name, calibration_name)
     found, cells, tallies = survey(left, right, calibration, **refine)
     write(out + ".pgm", disparity_text(found), "disparity")
     if cells is not None:
@@ -125,6 +140,35 @@ def match(left_name, right_name, calibration_name, out, **refine):
     if tallies is not None:
         write(out + ".csv", table_text(calibration.regions, tallies), "report")
     say(summary_text(found))
+
+
+def trace(left_name, right_name, calibration_name, direction, *numbers):
+    left, right, calibration = fetch_pair(left_name, right_name, calibration_name)
+    x, y, d = map(int, numbers)
+    if x >= left.width or y >= left.height or d >= calibration.count:
+        raise Ended(REFUSED, f"sgm: no pixel {x} {y} with index {d}")
+    offset = matching.DIRECTIONS[DIRECTIONS.index(direction)]
+    say(trace_text(*matching.trace(left, right, calibration, offset, x, y, d)))
+
+
+def judged_grids(earlier_data, later_data):
+    """The numbers that two grids share, and the cells of both, or the first refusal."""
+    grid, earlier = read_grid(earlier_data, "earlier")
+    other, later = read_grid(later_data, "later")
+    for line, (_, key, *_) in enumerate(GRID_HEAD):
+        if key in grid and grid[key] != other[key]:
+            raise Ended(REFUSED, f"sgm: grids differ at word {2 * line + 1}")
+    return grid, earlier, later
+
+
+def change(earlier_name, later_name, out):
+    earlier = fetch(earlier_name, LONGEST_GRID, "earlier")
+    later = fetch(later_name, LONGEST_GRID, "later")
+    grid, earlier, later = judged_grids(earlier, later)
+    changed = matching.changed(earlier, later, grid["cell"])
+    write(out + ".asc", grid_text(grid, matching.differences(earlier, later), empty=-9999999999), "difference")
+    write(out + ".csv", volumes_text(changed), "volumes")
+    say(f"compared {changed[0]} of {grid['cols'] * grid['rows']}\n")
 
 
 def demo(number, **refine):
@@ -138,8 +182,12 @@ def main(words):
         return 1
     try:
         operands, options = read_words(words)
-        call = match if words[0] == "match" else demo
-        call(*operands, peak=options["peak"], fill=options["fill"])
+        if words[0] in ("match", "demo"):
+            call = match if words[0] == "match" else demo
+            call(*operands, peak=options["peak"], fill=options["fill"])
+        else:
+            call = trace if words[0] == "trace" else change
+            call(*operands)
     except Ended as end:
         try:
             os.write(2, (end.line + "\n").encode())

@@ -1,11 +1,12 @@
-"""What the reference reads: words, PGM pictures and calibrations.
+"""What the reference reads: words, PGM pictures, calibrations and grids.
 
 A plain reading of the formats, apart from the program's own: each fault is raised as Ended,
 with the status and the line that the program owes. Where several faults stand together, the
-first one is raised: words from left to right, a picture's header before its raster, and the
-calibration's keys in the order of their checks.
+first one is raised: words in the order of their checks, a picture's header before its raster,
+the calibration's keys in the order of their checks, and a grid's head before its heights.
 """
 
+import dataclasses
 import json
 import re
 import sys
@@ -14,7 +15,7 @@ if hasattr(sys, "set_int_max_str_digits"):
     sys.set_int_max_str_digits(0)
 
 USAGE, REFUSED, UNREAD, UNWRITTEN = 2, 3, 4, 5
-LONGEST_IMAGE, LONGEST_CALIBRATION = 67108864, 16777216
+LONGEST_IMAGE, LONGEST_CALIBRATION, LONGEST_GRID = 67108864, 16777216, 268435456
 
 
 class Ended(Exception):
@@ -27,7 +28,30 @@ class Ended(Exception):
 
 # Words
 
-NEEDED = {"match": 4, "demo": 1}
+
+@dataclasses.dataclass(frozen=True)
+class Command:
+    """The operands of a command: names, then perhaps a direction, then numbers. Behind them options may stand, where
+    it takes any. Where it writes files, their names are its last name with these endings."""
+
+    names: int = 0
+    has_direction: bool = False
+    numbers: int = 0
+    takes_options: bool = False
+    endings: tuple = ()
+
+    @property
+    def operands(self):
+        return self.names + self.has_direction + self.numbers
+
+
+COMMANDS = {
+    "match": Command(names=4, takes_options=True, endings=(".pgm", ".asc", ".csv")),
+    "demo": Command(numbers=1, takes_options=True),
+    "trace": Command(names=3, has_direction=True, numbers=3),
+    "change": Command(names=3, endings=(".asc", ".csv")),
+}
+DIRECTIONS = "right left down downright downleft up upright upleft".split()
 # The options, each with its least and its greatest value; where one isn't given, it is its least.
 OPTIONS = {"strips": (1, 64), "workers": (1, 16), "peak": (0, 16777216), "fill": (0, 1)}
 
@@ -40,29 +64,35 @@ def read_words(words):
 
     if not words:
         wrong("no command")
-    if words[0] not in NEEDED:
+    if words[0] not in COMMANDS:
         wrong("unknown command")
-    need = NEEDED[words[0]]
+    command = COMMANDS[words[0]]
+    need = command.operands
     operands, options = words[1 : 1 + need], words[1 + need :]
     if len(operands) < need:
         wrong(f"{len(operands)} words after the command, {need} needed")
-    if words[0] == "match":
-        for position, word in enumerate(operands, 1):
-            if word == "":
-                wrong(f"word {position} is empty")
-    elif not number_up_to(operands[0], 0, 4294967295):
-        wrong("word 1 is not a number in range")
+    numbered = list(enumerate(operands, 1))
+    for position, word in numbered[: command.names]:
+        if word == "":
+            wrong(f"word {position} is empty")
+    for position, word in numbered[command.names : need - command.numbers]:
+        if word not in DIRECTIONS:
+            wrong(f"word {position} is not a direction")
+    for position, word in numbered[need - command.numbers :]:
+        if not number_up_to(word, 0, 4294967295):
+            wrong(f"word {position} is not a number in range")
     asked = {}
     for position, word in enumerate(options, 1 + need):
         name, equals, digits = word.partition("=")
-        if not equals or name not in OPTIONS or not number_up_to(digits, *OPTIONS[name]):
+        is_option = equals and name in OPTIONS and number_up_to(digits, *OPTIONS[name])
+        if not (command.takes_options and is_option):
             wrong(f"word {position} is not an option")
         if name in asked:
             wrong(f"word {position} repeats an option")
         asked[name] = int(digits)
-    if words[0] == "match":
-        outputs = [operands[3] + ending for ending in (".pgm", ".asc", ".csv")]
-        for position, word in enumerate(operands[:3], 1):
+    if command.endings:
+        outputs = [operands[command.names - 1] + ending for ending in command.endings]
+        for position, word in numbered[: command.names - 1]:
             if word in outputs:
                 wrong(f"word {position} is also an output")
     return operands, {name: least for name, (least, _) in OPTIONS.items()} | asked
@@ -328,3 +358,53 @@ def read_calibration(data):
         in_range(len(regions) <= 1000, "regions")
         made.regions = [region(it, f"regions[{i}]", made.grid) for i, it in enumerate(regions)]
     return made
+
+
+# Grids
+
+# The words before the heights: each a name and, behind it, a number, with the number's key, its least value and its
+# greatest one.
+GRID_WORD = re.compile(rb"[^ \t\r\n]+")
+GRID_NUMBER = re.compile(rb"-?[0-9]+")
+EMPTY = -2147483648
+HIGHEST = 2000000000
+GRID_HEAD = [
+    (b"ncols", "cols", *RANGES["grid.cols"]),
+    (b"nrows", "rows", *RANGES["grid.rows"]),
+    (b"xllcorner", "west", *RANGES["grid.west"]),
+    (b"yllcorner", "south", *RANGES["grid.south"]),
+    (b"cellsize", "cell", *RANGES["grid.cell"]),
+    (b"nodata_value", "empty", EMPTY, EMPTY),
+]
+
+
+def read_grid(data, what):
+    """The numbers of a grid's text, by the keys of a calibration's grid, and its cells, rows from the north."""
+
+    def refused(text):
+        raise Ended(REFUSED, f"sgm: {what}: {text}")
+
+    words = GRID_WORD.findall(data)
+    for at in range(2 * len(GRID_HEAD)):
+        word = words[at] if at < len(words) else b""
+        # A name may be in any case. A number may be of any size here.
+        is_expected = GRID_NUMBER.fullmatch(word) if at % 2 else word.lower() == GRID_HEAD[at // 2][0]
+        if not is_expected:
+            refused(f"word {at} is not as expected")
+    grid = {}
+    for line, (_, key, low, high) in enumerate(GRID_HEAD):
+        grid[key] = int(words[2 * line + 1])
+        if not low <= grid[key] <= high:
+            refused(f"word {2 * line + 1} is out of range")
+    del grid["empty"]
+    heights = words[2 * len(GRID_HEAD) :]
+    need = grid["cols"] * grid["rows"]
+    if len(heights) != need:
+        refused(f"{len(heights)} heights, {need} needed")
+    cells = []
+    for index, word in enumerate(heights):
+        height = int(word) if GRID_NUMBER.fullmatch(word) else None
+        if height is None or not (height == EMPTY or abs(height) <= HIGHEST):
+            refused(f"height {index} is not in range")
+        cells.append(None if height == EMPTY else height)
+    return grid, [cells[begin : begin + grid["cols"]] for begin in range(0, need, grid["cols"])]

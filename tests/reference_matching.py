@@ -90,17 +90,20 @@ def census_codes(plane, window):
     return [[code(x, y) for x in range(width)] for y in range(height)]
 
 
+def cost_at(left, right, first, greatest, x, y, d):
+    """The differing bits of a pixel's code and its partner's, or the greatest cost where a code is missing."""
+    q = x - first - d
+    if left[y][x] is None or not 0 <= q < len(left[y]) or right[y][q] is None:
+        return greatest
+    return bin(left[y][x] ^ right[y][q]).count("1")
+
+
 def costs_of(left, right, first, count, greatest):
-    """For each pixel the list of its costs: differing bits, or the greatest cost where a code is missing."""
-    width = len(left[0])
-
-    def cost(x, y, d):
-        q = x - first - d
-        if left[y][x] is None or not 0 <= q < width or right[y][q] is None:
-            return greatest
-        return bin(left[y][x] ^ right[y][q]).count("1")
-
-    return [[[cost(x, y, d) for d in range(count)] for x in range(width)] for y in range(len(left))]
+    """For each pixel the list of its costs."""
+    return [
+        [[cost_at(left, right, first, greatest, x, y, d) for d in range(count)] for x in range(len(left[y]))]
+        for y in range(len(left))
+    ]
 
 
 # Paths
@@ -318,6 +321,84 @@ def tally(cells, cell, region):
     cut = sum(max(0, region["base"] - height) for height in filled) * cell * cell
     lowest, highest = (min(filled), max(filled)) if filled else ("", "")
     return len(filled), len(inside) - len(filled), fill, cut, lowest, highest
+
+
+# The certificate of one pixel
+
+
+def ray_to(x, y, direction, width, height):
+    """The pixels of the ray that ends at (x, y): it comes in that direction from the picture's edge."""
+    pixels = []
+    while 0 <= x < width and 0 <= y < height:
+        pixels.append((x, y))
+        x, y = x - direction[0], y - direction[1]
+    return pixels[::-1]
+
+
+def jump(before, here, p1, larger):
+    """What a change of the index costs between two pixels, where one by more than 1 costs `larger`."""
+    return 0 if before == here else p1 if abs(before - here) == 1 else larger
+
+
+def best_sequence(costs, larger, p1, last):
+    """The least energy of the sequences along a ray that end in the index `last`, and of those that have it the one
+    that is least when they are compared entry by entry from their ends backwards.
+
+    costs[i] has the costs of the ray's pixel i, and larger[i] is what a larger change costs between i - 1 and i.
+    """
+    # Of the sequences along the first pixels, up to each, the least energy of those that end in each index.
+    least = [costs[0]]
+    for here, more in zip(costs[1:], larger[1:]):
+        ways = [[energy + jump(a, b, p1, more) for a, energy in enumerate(least[-1])] for b in range(len(here))]
+        least.append([cost + min(energies) for cost, energies in zip(here, ways)])
+    # Whatever stands behind an entry, those before it may be any that lead to it with the least energy.
+    sequence = [last]
+    for i in reversed(range(1, len(costs))):
+        here = sequence[0]
+        left_over = least[i][here] - costs[i][here]
+        leading = [a for a, energy in enumerate(least[i - 1]) if energy + jump(a, here, p1, larger[i]) == left_over]
+        sequence.insert(0, min(leading))
+    return least[-1][last], sequence
+
+
+def trace(left_image, right_image, calibration, direction, x, y, d):
+    """The least energy along the ray to (x, y) of a sequence that ends in d, and for each pixel of the ray its place,
+    its index, its cost, and what the change from the index before costs."""
+    left, right = rectify(left_image, calibration.left), rectify(right_image, calibration.right)
+    codes = [census_codes(plane, calibration.window) for plane in (left, right)]
+    greatest = calibration.window[0] * calibration.window[1] - 1
+    guide = guide_of(left, left_image.maxval)
+    p1, p2 = calibration.p1, calibration.p2
+    ray = ray_to(x, y, direction, left_image.width, left_image.height)
+    costs = [[cost_at(*codes, calibration.first, greatest, i, j, b) for b in range(calibration.count)] for i, j in ray]
+    greys = [guide[j][i] if calibration.is_adaptive else None for i, j in ray]
+    larger = [p2] + [far(p1, p2, here, before) for before, here in zip(greys, greys[1:])]
+    energy, sequence = best_sequence(costs, larger, p1, d)
+    jumps = [0] + [jump(a, b, p1, more) for a, b, more in zip(sequence, sequence[1:], larger[1:])]
+    steps = [(*pixel, b, cost[b], more) for pixel, b, cost, more in zip(ray, sequence, costs, jumps)]
+    return energy, steps
+
+
+# Change
+
+
+def changed(earlier, later, cell):
+    """both, come, gone, empty, fill, cut of two grids' cells; fill and cut in cubic micrometres."""
+    pairs = [pair for rows in zip(earlier, later) for pair in zip(*rows)]
+    kinds = [(before is not None, after is not None) for before, after in pairs]
+    rises = [after - before for before, after in pairs if before is not None and after is not None]
+    fill = sum(max(0, rise) for rise in rises) * cell * cell
+    cut = sum(max(0, -rise) for rise in rises) * cell * cell
+    return len(rises), kinds.count((False, True)), kinds.count((True, False)), kinds.count((False, False)), fill, cut
+
+
+def differences(earlier, later):
+    """The later height less the earlier one, or None where a cell isn't filled in both."""
+
+    def difference(before, after):
+        return None if before is None or after is None else after - before
+
+    return [[difference(*pair) for pair in zip(*rows)] for rows in zip(earlier, later)]
 
 
 # The whole survey

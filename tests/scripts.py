@@ -32,10 +32,15 @@ READERS = {
     "tools/middlebury_calibration.py": "FILE --out made.json",
     "bench/accuracy.py": "FILE FILE FILE FILE",
     "packaging/tool_page.py": "FILE --names FILE",
+    "tools/change_volumes.py": "FILE --calib FILE",
+    "tools/cell_pixels.py": "FILE 0 0 --calib FILE",
+    "tools/check_trace.py": "FILE FILE FILE right 0 0 0 FILE",
+    "tools/explain_pixel.py": "FILE FILE FILE 0 0",
     "examples/stockpile/compare_truth.py": "FILE",
+    "examples/stockpile/compare_change.py": "FILE",
 }
 WRITERS = ["tests/make_cases.py", "tests/calibration_cases.py", "tests/definitions.py"]
-WRITERS += ["examples/photographs/make_photographs.py"]
+WRITERS += ["examples/photographs/make_photographs.py", "examples/stockpile/make_later.py"]
 
 
 # Tools with words that make something of the files of this repository, the output's name being OUT.
@@ -148,8 +153,6 @@ class Manners(unittest.TestCase):
     def test_progress(self):
         """What goes on is shown on a terminal, and taken away again."""
         for path, words in MAKERS.items():
-            if path == "tools/cubic_metres.py":
-                continue
             with tempfile.TemporaryDirectory() as folder:
                 write_inputs(folder)
                 mine, theirs = pty.openpty()

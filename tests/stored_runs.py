@@ -73,7 +73,7 @@ def without_splits(words):
         reference_inputs.read_words(words)
     except reference_inputs.Ended:
         return words
-    begin = 1 + reference_inputs.NEEDED[words[0]]
+    begin = 1 + reference_inputs.COMMANDS[words[0]].operands
     return words[:begin] + [word for word in words[begin:] if not word.startswith(("strips=", "workers="))]
 
 

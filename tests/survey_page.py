@@ -7,13 +7,15 @@ python3-selenium).
 The page is that of examples/stockpile/expected. Rectangles are drawn with the mouse, moved by keys and picked by
 their names; bases are typed and taken from the mean of the ground. What the page counts is compared with OUT.csv
 and with what this script counts in OUT.asc, digit by digit. Pages of other surveys have to warn of what is wrong
-with them. Nothing may be fetched, and the browser may not complain. Without --screenshot the picture goes into a
+with them, and a page of a difference is drawn on as well. Nothing may be fetched, and the browser may not complain. Without --screenshot the picture goes into a
 new file, whose name is printed. Takes half a minute.
 """
 
 import argparse
 import json
+import math
 import os
+import random
 import shutil
 import sys
 import tempfile
@@ -334,6 +336,58 @@ def try_reduced(driver, check, folder):
     check.equal("the last block", (page.exact("highest"), page.region()["rows"]), (98000, 1))
 
 
+def write_change(folder, name, changes, regions):
+    """OUT.asc and OUT.csv of a change, by differences with None where there is none, and its calibration."""
+    rows, cols = len(changes), len(changes[0])
+    out, area = os.path.join(folder, name), 250000**2
+    nothing = sgm_files.NO_DIFFERENCE
+    with open(out + ".asc", "w") as file:
+        file.write(f"ncols {cols}\nnrows {rows}\nxllcorner 0\nyllcorner -1000000\ncellsize 250000\nNODATA_value {nothing}\n")
+        file.write("".join(" ".join(str(nothing if it is None else it) for it in row) + "\n" for row in changes))
+    found = [it for row in changes for it in row if it is not None]
+    fill, cut = (sum(max(0, sign * it) for it in found) * area for sign in (1, -1))
+    missing = rows * cols - len(found)
+    with open(out + ".csv", "w") as file:
+        file.write(f"both,come,gone,empty,fill,cut\n{len(found)},{missing},0,0,{fill},{cut}\n")
+    calibration = {"regions": regions, "grid": {"west": 0, "south": -1000000, "cell": 250000, "cols": cols, "rows": rows}}
+    return out, calibration, {"both": len(found), "come": missing, "gone": 0, "neither": 0, "fill": fill, "cut": cut}
+
+
+def try_change(driver, check, folder):
+    """A difference: its counts, its regions, and rectangles, with changes up to the largest that can be."""
+    draw = random.Random(19)
+    changes = [[draw.choice([None, *4 * [draw.randint(-40000, 50000)]]) for _ in range(50)] for _ in range(40)]
+    changes[3][5], changes[30][44], changes[30][45] = 4000000000, -4000000000, -3999999999
+    regions = [
+        {"name": "pile", "col": 3, "row": 2, "cols": 44, "rows": 37, "base": 5},
+        {"name": "still", "col": 10, "row": 8, "cols": 20, "rows": 15, "base": -7},
+    ]
+    out, calibration, wanted = write_change(folder, "change", changes, regions)
+    page, grid = page_of(driver, out, calibration), sgm_files.read_grid(out + ".asc")
+    check.equal("the change's counts", {key: page.exact("change-" + key) for key in wanted}, wanted)
+    check.equal("a change's headings", [it.text for it in driver.find_elements("tag name", "h2")][1], "Change")
+    check.equal("warnings of a change", len(page.warnings()), 2)
+    check.has("cells that aren't there", page.warnings(), "pile: ")
+    lines = [counted(grid, region, 0)[0] for region in regions]
+    try_names(page, check, [{**region, "base": 0} for region in regions], lines)
+    for region, line in zip(regions, lines):
+        page.draw(*corners(region))
+        check.equal(f"{region['name']} of a change drawn", page.shown(), {key: line[key] for key in page.shown()})
+    # The second one is drawn: nothing has changed there.
+    page.element("ground").click()
+    line, mean = counted(grid, regions[1], 0)
+    check.equal("the still piece's mean", page.exact("mean"), mean)
+    numbers = [it for row in changes[8:23] for it in row[10:30] if it is not None]
+    spread = round(math.sqrt(math.fsum((it - mean) ** 2 for it in numbers) / len(numbers)))
+    check.equal("the still piece's spread", page.exact("spread"), spread)
+    page.draw(*corners(regions[0]))
+    line, _ = counted(grid, regions[0], mean)
+    check.equal("above the still piece", page.shown(), line)
+    check.equal("noise", page.exact("noise"), spread * line["cells"] * 250000**2)
+    page.type("base", "0")
+    check.equal("no noise without it", page.exact("noise"), None)
+
+
 def run(screenshot, folder):
     check = Checks()
     with open(os.path.join(HEAP, "calibration.json")) as file:
@@ -361,6 +415,7 @@ def run(screenshot, folder):
         try_warnings(driver, check, folder)
         try_large_numbers(driver, check, folder)
         try_reduced(driver, check, folder)
+        try_change(driver, check, folder)
         check.equal("the browser's complaints", driver.get_log("browser"), [])
     finally:
         driver.quit()

@@ -3,7 +3,8 @@
 
 The worked pair is one of 5 x 3 pixels with two disparities, whose costs, sums, selections and three
 output texts were computed on paper. Path values are compared with the least energy over all
-sequences of disparities along the ray, found by trying every sequence.
+sequences of disparities along the ray, found by trying every sequence, and so are the sequences that
+certificates show.
 """
 
 import fractions
@@ -138,6 +139,163 @@ class WorkedPair(unittest.TestCase):
         self.assertEqual(line, "volume of 1073741824 cells is above 268435456")
 
 
+class WorkedCertificates(unittest.TestCase):
+    def ends(self, words, status, out, err="", text=WORKED["c.json"]):
+        answer = run({**WORKED, "c.json": text}, "trace l.pgm r.pgm " + words)
+        self.assertEqual(answer, (status, out, err, {}), words)
+
+    def test_texts(self):
+        for text in (PLAIN + "}", PLAIN + CAMERA + GRID + REGIONS + "}", with_adapt("true") + "}"):
+            self.ends("c.json right 2 1 1", 0, "least 15\n0 1 0 8 0\n1 1 0 6 0\n2 1 1 0 1\n", text=text.encode())
+        self.ends("c.json down 0 0 0", 0, "least 8\n0 0 0 8 0\n")
+        # From the right the costs of the row in the middle are (8,8), (6,0), (6,0), (6,8), (8,8).
+        self.ends("c.json left 1 1 0", 0, "least 15\n4 1 1 8 0\n3 1 1 0 0\n2 1 1 0 0\n1 1 0 6 1\n")
+        # Both indices cost 8 at (0, 0) and at (1, 1) the second one 8: no change costs least.
+        self.ends("c.json downright 1 1 1", 0, "least 16\n0 0 1 8 0\n1 1 1 8 0\n")
+        self.ends("c.json upleft 2 0 0", 0, "least 17\n4 2 1 8 0\n3 1 1 0 0\n2 0 0 8 1\n")
+        self.ends("c.json up 02 0 00", 0, "least 17\n2 2 1 8 0\n2 1 1 0 0\n2 0 0 8 1\n")
+
+    def test_refusals(self):
+        self.ends("c.json right 9 1 1", 3, "", "sgm: no pixel 9 1 with index 1\n")
+        self.ends("c.json right 5 0 0", 3, "", "sgm: no pixel 5 0 with index 0\n")
+        self.ends("c.json right 0 3 0", 3, "", "sgm: no pixel 0 3 with index 0\n")
+        self.ends("c.json right 0 0 002", 3, "", "sgm: no pixel 0 0 with index 2\n")
+        self.ends("c.json right 4294967295 0 0", 3, "", "sgm: no pixel 4294967295 0 with index 0\n")
+        self.ends("c.json sideways 2 1 1", 2, "", "sgm: word 4 is not a direction\n")
+        self.ends("c.json right 2 1 1 strips=1", 2, "", "sgm: word 8 is not an option\n")
+        # What is wrong with the pictures comes before the place.
+        small = {**WORKED, "r.pgm": b"P5\n4 3\n255\n" + bytes(12)}
+        answer = run(small, "trace l.pgm r.pgm - right 9 9 9")
+        self.assertEqual(answer, (3, "", "sgm: sizes differ: 5x3 and 4x3\n", {}))
+        self.assertEqual(run(WORKED, "trace l.pgm none none right 9 9 9"), (4, "", "sgm: cannot read right\n", {}))
+
+    def test_costs_alone(self):
+        """With the plain settings no pixel of a small picture has a code, so each costs 62 whatever the index."""
+        answer = run(WORKED, "trace l.pgm r.pgm - right 1 2 63")
+        self.assertEqual(answer, (0, "least 124\n0 2 63 62 0\n1 2 63 62 0\n", "", {}))
+
+
+LATER_TEXT = (
+    GRID_TEXT.replace(b"50000 50000 50000 -2147483648\n", b"51000 50000 50000 50000\n", 1)
+    .replace(b"50000 50000 50000 -2147483648\n", b"-2147483648 50000 50000 -2147483648\n", 1)
+)  # fmt: skip
+DIFFERENCE_TEXT = GRID_TEXT[: GRID_TEXT.index(b"NODATA")] + (
+    b"NODATA_value -9999999999\n1000 0 0 -9999999999\n-9999999999 0 0 -9999999999\n0 0 0 -9999999999\n"
+)
+VOLUMES_TEXT = b"both,come,gone,empty,fill,cut\n8,1,1,2,1000000000,0\n"
+
+
+def asc(heights, cols=2, rows=1, west=0, south=0, cell=1, nodata=-2147483648):
+    head = f"ncols {cols} nrows {rows} xllcorner {west} yllcorner {south} cellsize {cell} nodata_value {nodata} "
+    return (head + heights).encode()
+
+
+class WorkedChange(unittest.TestCase):
+    def ends(self, earlier, later, *answer):
+        self.assertEqual(run({"e.asc": earlier, "l.asc": later}, "change e.asc l.asc o"), answer)
+
+    def refused(self, earlier, later, line):
+        self.ends(earlier, later, 3, "", f"sgm: {line}\n", {})
+
+    def test_two_files(self):
+        self.assertEqual(LATER_TEXT.count(b"\n"), 9)
+        made = {"o.asc": DIFFERENCE_TEXT, "o.csv": VOLUMES_TEXT}
+        self.ends(GRID_TEXT, LATER_TEXT, 0, "compared 8 of 12\n", "", made)
+        # The other way round what came has gone, and what rose has sunk.
+        back = DIFFERENCE_TEXT.replace(b"\n1000", b"\n-1000")
+        made = {"o.asc": back, "o.csv": b"both,come,gone,empty,fill,cut\n8,1,1,2,0,1000000000\n"}
+        self.ends(LATER_TEXT, GRID_TEXT, 0, "compared 8 of 12\n", "", made)
+
+    def test_greatest_differences(self):
+        low, high = asc("-2000000000 -2147483648", cell=1000000000), asc("2000000000 7", cell=1000000000)
+        head = b"ncols 2\nnrows 1\nxllcorner 0\nyllcorner 0\ncellsize 1000000000\nNODATA_value -9999999999\n"
+        made = {"o.asc": head + b"4000000000 -9999999999\n"}
+        made["o.csv"] = b"both,come,gone,empty,fill,cut\n1,1,0,0,4000000000000000000000000000,0\n"
+        self.ends(low, high, 0, "compared 1 of 2\n", "", made)
+        made = {"o.asc": head + b"-4000000000 -9999999999\n"}
+        made["o.csv"] = b"both,come,gone,empty,fill,cut\n1,0,1,0,0,4000000000000000000000000000\n"
+        self.ends(high, low, 0, "compared 1 of 2\n", "", made)
+
+    def test_refusals(self):
+        self.refused(GRID_TEXT, LATER_TEXT.replace(b"cellsize 1000", b"cellsize 2000"), "grids differ at word 9")
+        without_last = LATER_TEXT[: LATER_TEXT.rindex(b" ")]
+        self.refused(GRID_TEXT, without_last, "later: 11 heights, 12 needed")
+        self.refused(b"", LATER_TEXT, "earlier: word 0 is not as expected")
+        self.refused(b"", b"", "earlier: word 0 is not as expected")
+        self.refused(GRID_TEXT, b"", "later: word 0 is not as expected")
+        # The difference is no input.
+        self.refused(GRID_TEXT, DIFFERENCE_TEXT, "later: word 11 is out of range")
+        # The least word that differs is named: the columns, though the rows and a side differ too.
+        self.refused(asc("1 2"), asc("1 2", cols=1, rows=2, west=9), "grids differ at word 1")
+        self.refused(asc("1 2"), asc("1 2 3 4", rows=2, cell=9), "grids differ at word 3")
+        self.refused(asc("1 2"), asc("1 2", west=-9, south=9), "grids differ at word 5")
+        self.refused(asc("1 2"), asc("1 2", south=9, cell=2), "grids differ at word 7")
+
+    def test_inputs(self):
+        answer = run({"e.asc": b""}, "change none none o")
+        self.assertEqual(answer, (4, "", "sgm: cannot read earlier\n", {}))
+        # Both are read before one is judged.
+        answer = run({"e.asc": b""}, "change e.asc none o")
+        self.assertEqual(answer, (4, "", "sgm: cannot read later\n", {}))
+        answer = run({"o.asc": b"", "l.asc": b""}, "change l.asc o.asc o")
+        self.assertEqual(answer, (2, "", "sgm: word 2 is also an output\n", {}))
+        # A grid may be compared with itself, and an input may be named as no output is.
+        made = run({"o.pgm": asc("1 -2147483648")}, "change o.pgm o.pgm o")[3]
+        self.assertEqual(made["o.csv"], b"both,come,gone,empty,fill,cut\n1,0,0,1,0,0\n")
+
+
+class Grids(unittest.TestCase):
+    def test_accepted(self):
+        plain = {"cols": 2, "rows": 1, "west": 0, "south": 0, "cell": 1}
+        for data, grid, cells in [
+            (asc("1 -2147483648"), plain, [[1, None]]),
+            (asc("-2000000000 2000000000"), plain, [[-2000000000, 2000000000]]),
+            (asc("7 8", cols=1, rows=2, west=-5, south=5), {**plain, "cols": 1, "rows": 2, "west": -5, "south": 5}, [[7], [8]]),
+            (asc("-0 0000000000000000000000000000000000000000000000012"), plain, [[0, 12]]),
+            (asc("1\r2\t\n"), plain, [[1, 2]]),
+            (
+                b" \r\nNCOLS\t2\r\nnRows 1 XLLcorner -0 yllcorner\n-00 CellSize 01 NODATA_VALUE -002147483648 1 2",
+                plain,
+                [[1, 2]],
+            ),
+            (GRID_TEXT, {"cols": 4, "rows": 3, "west": 2000, "south": -2000, "cell": 1000}, 3 * [3 * [50000] + [None]]),
+        ]:
+            self.assertEqual(inputs.read_grid(data, "later"), (grid, cells), data)
+
+    def test_refused(self):
+        words = asc("1 2").split()
+        expected = "word {} is not as expected"
+        for at in range(12):
+            # A text that ends there, and one whose word there isn't what it has to be.
+            self.refused(b" ".join(words[:at]), expected.format(at))
+            odd = [b"+1", b"1.0", b"1e0", b"-", b"--1", b"0x1", b"1-", b"\xb2", b"ncols"]
+            for word in odd if at % 2 else [b"1", b"nrow", b"ncolss", b"xllcenter", b"\xff", words[at] + b":"]:
+                self.refused(b" ".join(words[:at] + [word] + words[at + 1 :]), expected.format(at))
+        ends = {"cols": (0, 4097), "rows": (0, 4097), "west": (-2000000001, 2000000001), "south": (-2000000001, 2000000001)}
+        ends |= {"cell": (0, 1000000001), "nodata": (-2147483649, -2147483647)}
+        for line, (name, both) in enumerate(ends.items()):
+            for end in both:
+                self.refused(asc("1 2", **{name: end}), f"word {2 * line + 1} is out of range")
+        self.refused(asc("1 2", rows=4097, west=10**40), "word 3 is out of range")
+        # What is no number comes before what is out of range, and that before the heights.
+        self.refused(asc("1 2", cols=0, nodata="x"), expected.format(11))
+        self.refused(asc("x", nodata=0), "word 11 is out of range")
+        self.refused(asc(""), "0 heights, 2 needed")
+        self.refused(asc("", cols=4096, rows=4096), "0 heights, 16777216 needed")
+        self.refused(asc("x y z"), "3 heights, 2 needed")
+        self.refused(asc("1"), "1 heights, 2 needed")
+        self.refused(asc("1 2000000001"), "height 1 is not in range")
+        self.refused(asc("-2000000001 x"), "height 0 is not in range")
+        self.refused(asc("-2147483648 -2147483649"), "height 1 is not in range")
+        self.refused(asc("1 2.0"), "height 1 is not in range")
+        # VT and FF are no spaces.
+        self.refused(asc("1\v2"), "1 heights, 2 needed")
+        self.refused(asc("1 \f2"), "height 1 is not in range")
+
+    def refused(self, data, line):
+        self.assertEqual(line_of(inputs.read_grid, data, "later"), "later: " + line, data)
+
+
 class Words(unittest.TestCase):
     def test_lines(self):
         for words, line in [
@@ -161,6 +319,24 @@ class Words(unittest.TestCase):
             (["match", "a", "b", "-", "o", "fill="], "word 5 is not an option"),
             (["demo", "1", "fill=0", "peak=0", "fill=1"], "word 4 repeats an option"),
             (["demo", "1", "fill=0", "peak=0", "strips=0"], "word 4 is not an option"),
+            (["trace", "a", "b", "-", "right", "0", "0"], "6 words after the command, 7 needed"),
+            (["trace", "", "b", "", "x", "0", "0", "0"], "word 1 is empty"),
+            (["trace", "a", "b", "", "x", "y", "0", "0"], "word 3 is empty"),
+            (["trace", "a", "b", "-", "", "y", "0", "0"], "word 4 is not a direction"),
+            (["trace", "a", "b", "-", "Right", "0", "0", "0"], "word 4 is not a direction"),
+            (["trace", "a", "b", "-", "upright", "-1", "+1", "0"], "word 5 is not a number in range"),
+            (["trace", "a", "b", "-", "downleft", "007", "4294967296", ""], "word 6 is not a number in range"),
+            (["trace", "a", "b", "-", "upleft", "0", "4294967295", "x"], "word 7 is not a number in range"),
+            (["trace", "a", "b", "-", "down", "0", "0", "0", "strips=1"], "word 8 is not an option"),
+            (["trace", "a", "a", "a", "up", "0", "0", "0"], None),
+            (["change", "a", "b"], "2 words after the command, 3 needed"),
+            (["change", "a", "", ""], "word 2 is empty"),
+            (["change", "a", "b", ""], "word 3 is empty"),
+            (["change", "o.asc", "b", "o", "strips=1"], "word 4 is not an option"),
+            (["change", "o.asc", "o.csv", "o"], "word 1 is also an output"),
+            (["change", "o.pgm", "o.csv", "o"], "word 2 is also an output"),
+            (["change", "o.pgm", "o", "o"], None),
+            (["changes", "a", "b", "o"], "unknown command"),
         ]:
             self.assertEqual(line_of(inputs.read_words, words), line, words)
 
@@ -322,6 +498,45 @@ class Definitions(unittest.TestCase):
                     for d in range(count):
                         meaning = path_value_by_trying(costs, direction, (x, y), d, p1, p2, guide)
                         self.assertEqual(values[y][x][d], meaning)
+
+    def test_certificates(self):
+        """Of all sequences that have the least energy, the one that is least from its end backwards is shown."""
+        draw, ties = 1, 0
+        for length, count, p1, p2, greatest in [(5, 3, 1, 2, 2), (4, 4, 1, 3, 3), (6, 2, 1, 1, 1), (3, 5, 2, 9, 8), (1, 3, 1, 2, 2)]:
+            for _ in range(12):
+                numbers = []
+                for _ in range(length * (count + 1)):
+                    draw = (1103515245 * draw + 12345) % 2**31
+                    numbers.append(draw // 65536 % (greatest + 1))
+                costs = [numbers[begin : begin + count] for begin in range(0, length * count, count)]
+                larger = [max(p1, p2 - less) for less in numbers[length * count :]]
+                for last in range(count):
+                    least, found = least_by_trying(costs, larger, p1, last)
+                    ties += len(found) > 1
+                    backwards = min(sequence[::-1] for sequence in found)
+                    self.assertEqual(matching.best_sequence(costs, larger, p1, last), (least, list(backwards[::-1])))
+        self.assertGreater(ties, 50)
+
+    def test_rays(self):
+        for name, ray in [
+            ("right", [(0, 1), (1, 1)]),
+            ("left", [(3, 1), (2, 1), (1, 1)]),
+            ("down", [(1, 0), (1, 1)]),
+            ("downright", [(0, 0), (1, 1)]),
+            ("downleft", [(2, 0), (1, 1)]),
+            ("up", [(1, 2), (1, 1)]),
+            ("upright", [(0, 2), (1, 1)]),
+            ("upleft", [(2, 2), (1, 1)]),
+        ]:
+            direction = matching.DIRECTIONS[inputs.DIRECTIONS.index(name)]
+            self.assertEqual(matching.ray_to(1, 1, direction, 4, 3), ray, name)
+
+    def test_change(self):
+        earlier = [[None, None, 5, 5, 5], [-2, -2, 0, None, 9]]
+        later = [[None, 7, None, 8, 1], [-1, 2, 0, None, 9]]
+        # Two cells rise by 3 + 1 + 4, one sinks by 4; a cell has 7 x 7.
+        self.assertEqual(matching.changed(earlier, later, 7), (6, 1, 1, 2, 8 * 49, 4 * 49))
+        self.assertEqual(matching.differences(earlier, later), [[None, None, None, 3, -4], [1, 4, 0, None, 0]])
 
     def test_check(self):
         plane = [[0] * 6]
@@ -490,6 +705,20 @@ class Definitions(unittest.TestCase):
     def test_generated_pair(self):
         left, right = reference.generated_pair(1, 1, 0)
         self.assertEqual((left.samples, right.samples), ([155], [170]))
+
+
+def least_by_trying(costs, larger, p1, last):
+    """The least energy of the sequences that end in `last`, and all of them that have it."""
+
+    def energy(sequence):
+        total = sum(cost[s] for cost, s in zip(costs, sequence))
+        for a, b, more in zip(sequence, sequence[1:], larger[1:]):
+            total += p1 * abs(a - b) if abs(a - b) < 2 else more
+        return total
+
+    ending = [s for s in itertools.product(range(len(costs[0])), repeat=len(costs)) if s[-1] == last]
+    least = min(map(energy, ending))
+    return least, [s for s in ending if energy(s) == least]
 
 
 def path_value_by_trying(costs, direction, p, d, p1, p2, guide):

@@ -1,5 +1,6 @@
 #!/usr/bin/env python3
 """Turns the report (OUT.csv) into a table in metres and cubic metres, exactly, and says the volume above the ground.
+Reads the volumes of `sgm change` too.
 
     tools/cubic_metres.py OUT.csv [--ground NAME --calibration CALIB.json] [--out FILE.csv] [--digits N]
 
@@ -19,25 +20,25 @@ to be measured, and each line has two words more, `ground_m,above_m3`:
   cells * cell * cell for each micrometre by which the base moves. It is exactly the fill less the cut of a
   survey whose base for the region is ground_m. The ground's own line has none.
 
+The volumes of a change become `both,come,gone,empty,fill_m3,cut_m3,net_m3`; they have no regions and no ground
+(tools/change_volumes.py has those).
+
 Base and cell come from the calibration of the survey. Without --digits every digit stays and zeros at the end
 fall away; with it the numbers are rounded to so many decimals, halves away from 0. The table goes to standard
 output where --out isn't given. Needs Python alone.
 """
 
 import argparse
-import contextlib
 import csv
 import json
-import os
-import re
 import sys
 
-from rasters import fault
+import sgm_files
+from sgm_files import Wrong
 
-HEAD = ["region", "cells", "empty", "fill", "cut", "lowest", "highest"]
 NEW_HEAD = ["region", "cells", "empty", "fill_m3", "cut_m3", "net_m3", "lowest_m", "highest_m"]
 ABOVE_HEAD = ["ground_m", "above_m3"]
-WHOLE = re.compile("-?[0-9]+")
+NEW_CHANGE_HEAD = ["both", "come", "gone", "empty", "fill_m3", "cut_m3", "net_m3"]
 
 
 def moved(number, places, digits):
@@ -58,22 +59,16 @@ def moved(number, places, digits):
     return ("-" if number < 0 else "") + whole + ("." + part if part else "")
 
 
-def is_line(line):
-    return (
-        len(line) == len(HEAD)
-        and all(WHOLE.fullmatch(word) for word in line[1:5])
-        and all(word == "" or WHOLE.fullmatch(word) for word in line[5:])
-    )
+def is_change(name):
+    """Whether the file has the volumes of a change, and not a report."""
+    with open(name, "rb") as file:
+        return file.readline().split() == [",".join(sgm_files.VOLUME_NAMES).encode()]
 
 
-def report(lines):
-    """The lines of the report below its head: names with whole numbers, None where there is no height."""
-    if not lines or lines[0] != HEAD:
-        raise ValueError("not a report of sgm")
-    for number, line in enumerate(lines[1:], 2):
-        if not is_line(line):
-            raise ValueError(f"line {number} isn't one of a report")
-        yield [line[0], *(int(word) if word else None for word in line[1:])]
+def change_table(volumes, digits):
+    """The table of a change's volumes."""
+    *counts, fill, cut = (volumes[key] for key in sgm_files.VOLUME_NAMES)
+    return [NEW_CHANGE_HEAD, [*counts, *(moved(volume, 18, digits) for volume in (fill, cut, fill - cut))]]
 
 
 def table(regions, digits):
@@ -87,17 +82,18 @@ def table(regions, digits):
 class Survey:
     """What the calibration says of the report: the side of a cell, and the regions with their bases."""
 
-    def __init__(self, text):
+    def __init__(self, name):
+        complaint = f"{name}: not a calibration of sgm with regions"
         try:
-            top = json.loads(text)
+            top = json.loads(sgm_files.read_bytes(name).decode("utf-8", "replace"))
             self.cell, areas = top["grid"]["cell"], top["regions"]
             self.names = [area["name"] for area in areas]
             self.sizes = [area["cols"] * area["rows"] for area in areas]
             self.bases = [area["base"] for area in areas]
         except (ValueError, KeyError, TypeError, RecursionError):
-            raise ValueError("not a calibration of sgm with regions") from None
+            raise Wrong(complaint) from None
         if not all(type(number) is int for number in [self.cell, *self.bases, *self.sizes]) or self.cell < 1:
-            raise ValueError("not a calibration of sgm with regions")
+            raise Wrong(complaint)
 
     def is_of(self, regions):
         """Whether the report can be one of this calibration's."""
@@ -124,45 +120,40 @@ def above_ground(regions, survey, name, digits):
     """For each region the two words more."""
     grounds = [number for number, region in enumerate(regions) if region[0] == name]
     if len(grounds) != 1:
-        raise ValueError(f"{len(grounds) or 'no'} regions have the name {name}, one is needed")
+        raise Wrong(f"{len(grounds) or 'no'} regions have the name {name}, one is needed")
     ground = grounds[0]
     if regions[ground][1] == 0:
-        raise ValueError(f"the region {name} has no cell with a height")
+        raise Wrong(f"the region {name} has no cell with a height")
     height = mean_height(regions[ground], survey.bases[ground], survey.cell)
     for number, (region, base) in enumerate(zip(regions, survey.bases)):
         volume = "" if number == ground else moved(net_above(region, base, survey.cell, height), 18, digits)
         yield [moved(height, 6, digits), volume]
 
 
-@contextlib.contextmanager
-def named(name):
-    """Ends the tool with one line where the file of that name can't be read or is broken."""
-    try:
-        yield
-    except (OSError, ValueError, csv.Error) as error:
-        sys.exit(f"cubic_metres: {fault(error, name)}")
-
-
 def made(words):
     """All lines of the table that the words ask for."""
-    with named(words.file), open(words.file, newline="", encoding="ascii", errors="replace") as file:
-        regions = list(report(list(csv.reader(file))))
+    if is_change(words.file):
+        if words.ground is not None:
+            raise Wrong(f"{words.file}: the volumes of a change have no ground")
+        return change_table(sgm_files.read_volumes(words.file), words.digits)
+    regions = [list(line.values()) for line in sgm_files.read_report(words.file)]
     lines = [NEW_HEAD, *table(regions, words.digits)]
     if words.ground is None:
         return lines
-    with named(words.calibration), open(words.calibration, encoding="utf-8", errors="replace") as file:
-        survey = Survey(file.read())
-    with named(words.file):
+    survey = Survey(words.calibration)
+    try:
         if not survey.is_of(regions):
-            raise ValueError(f"not the report of a survey by {words.calibration}")
+            raise Wrong(f"not the report of a survey by {words.calibration}")
         more = [ABOVE_HEAD, *above_ground(regions, survey, words.ground, words.digits)]
+    except Wrong as error:
+        raise Wrong(f"{words.file}: {error}")
     return [[*line, *words_more] for line, words_more in zip(lines, more)]
 
 
 def main():
     epilog = "Example: tools/cubic_metres.py heap.csv --ground ground --calibration heap.json --digits 3"
     parser = argparse.ArgumentParser(description=__doc__.split("\n\n")[0], epilog=epilog)
-    parser.add_argument("file", metavar="OUT.csv", help="the report that sgm has written")
+    parser.add_argument("file", metavar="OUT.csv", help="the report, or the volumes, that sgm has written")
     parser.add_argument("--ground", metavar="NAME", help="the region of flat ground above which others are measured")
     parser.add_argument("--calibration", metavar="CALIB.json", help="that of the survey; --ground takes it")
     parser.add_argument("--out", metavar="FILE.csv", help="the new table (standard output if not given)")
@@ -171,20 +162,13 @@ def main():
     if (words.ground is None) != (words.calibration is None):
         parser.error("--ground and --calibration take each other")
     lines = made(words)
-    try:
-        if words.out is None:
-            csv.writer(sys.stdout, lineterminator="\n").writerows(lines)
-            sys.stdout.flush()
-        else:
-            with open(words.out, "w", newline="") as file:
-                csv.writer(file, lineterminator="\n").writerows(lines)
-    except BrokenPipeError:
-        # Nobody reads on. What is still to be written would fail once more at the end.
-        os.dup2(os.open(os.devnull, os.O_WRONLY), sys.stdout.fileno())
-        sys.exit("cubic_metres: standard output was closed")
-    except OSError as error:
-        sys.exit(f"cubic_metres: {fault(error, words.out or 'standard output')}")
+    sgm_files.progress("")
+    if words.out is None:
+        csv.writer(sys.stdout, lineterminator="\n").writerows(lines)
+    else:
+        with open(words.out, "w", newline="") as file:
+            csv.writer(file, lineterminator="\n").writerows(lines)
 
 
 if __name__ == "__main__":
-    main()
+    sgm_files.run(main)

@@ -1,12 +1,14 @@
 #!/usr/bin/env python3
-"""Turns a height grid (OUT.asc) into a picture of the ground as a map shows it, coloured and shaded.
+"""Turns a height grid (OUT.asc) into a picture of the ground as a map shows it, coloured and shaded, or a change into one.
 
     tools/heights_picture.py OUT.asc --out FILE.png [--zoom 4]
 
 Low cells are green, higher ones yellow and brown, the highest white; light comes from the north-west,
 so slopes that face it are lighter. Empty cells are black. The lowest and the highest hundredth of the
 cells share the end colours, so that a few outliers don't spoil the rest. North is up, and each cell
-becomes a square of --zoom pixels. It is a display, not a measurement. Needs numpy and Pillow.
+becomes a square of --zoom pixels. Where the grid is a difference, as `sgm change` writes it, what rose is red and
+what fell is blue, the more the darker, the same change in both ways being equally dark. It is a display, not a
+measurement. Needs numpy and Pillow.
 """
 
 import argparse
@@ -16,6 +18,8 @@ from sgm_files import numpy
 
 # Colours from low to high, between which the others lie in proportion.
 SCALE = [(70, 130, 80), (150, 180, 95), (225, 205, 125), (175, 120, 75), (150, 100, 85), (250, 250, 250)]
+# The darkest colours of what rose and of what fell.
+RED, BLUE = (165, 15, 21), (8, 69, 148)
 # Rows that are worked on at once, so that a large grid takes little memory beside itself.
 BAND = 128
 # The longest side of a picture whose zoom isn't given.
@@ -67,6 +71,28 @@ def shaded(grid):
     return made, ends
 
 
+def darkest_of(grid):
+    """The change, up or down, from which on the colours of a difference stay the darkest."""
+    ends = sgm_files.hundredths(grid.heights[grid.filled])
+    return max(1, -ends[0], ends[1]) if ends else 1
+
+
+def changed(grid):
+    """The colours of a difference, white where nothing has changed, and the darkest blue's and the darkest red's change."""
+    if not grid.filled.any():
+        return numpy.zeros((*grid.heights.shape, 3), numpy.uint8), None
+    darkest = darkest_of(grid)
+    part = grid.heights.clip(-darkest, darkest)[..., None]
+    red, blue, white = (numpy.array(it, numpy.int64) for it in (RED, BLUE, (250, 250, 250)))
+    colours = white + (numpy.where(part > 0, red, blue) - white) * abs(part) // darkest
+    return numpy.where(grid.filled[..., None], colours, 0).astype(numpy.uint8), (-darkest, darkest)
+
+
+def drawn(grid):
+    """The colours of heights or of a difference, and the numbers that have the end colours; None where there are none."""
+    return changed(grid) if grid.nothing == sgm_files.NO_DIFFERENCE else shaded(grid)
+
+
 def zoomed(colours, zoom):
     """Each colour becomes a square of zoom pixels."""
     return colours.repeat(zoom, axis=0).repeat(zoom, axis=1) if zoom > 1 else colours
@@ -80,15 +106,16 @@ def zoom_of(rows, cols):
 def main():
     epilog = "Example: tools/heights_picture.py heap.asc --out heap.png --zoom 2"
     parser = argparse.ArgumentParser(description=__doc__.split("\n\n")[0], epilog=epilog)
-    parser.add_argument("file", metavar="OUT.asc", help="the heights that sgm has written")
+    parser.add_argument("file", metavar="OUT.asc", help="the heights, or the difference, that sgm has written")
     parser.add_argument("--out", required=True, metavar="FILE.png", help="the picture")
     side = f"side of a cell, 1 to 16 (4, or less where a side would be above {LONGEST_SIDE} pixels)"
     parser.add_argument("--zoom", type=int, choices=range(1, 17), metavar="PIXELS", help=side)
     words = parser.parse_args()
     grid = sgm_files.read_grid(words.file)
-    colours, ends = shaded(grid)
+    colours, ends = drawn(grid)
     sgm_files.write_png(words.out, zoomed(colours, words.zoom or zoom_of(*grid.heights.shape)))
-    print(f"{ends[0]} (green) to {ends[1]} (white) micrometres of height" if ends else "every cell is empty")
+    low, high, what = ("blue", "red", "change") if grid.nothing == sgm_files.NO_DIFFERENCE else ("green", "white", "height")
+    print(f"{ends[0]} ({low}) to {ends[1]} ({high}) micrometres of {what}" if ends else "every cell is empty")
 
 
 if __name__ == "__main__":

@@ -178,13 +178,15 @@ def write_png(name, pixels, palette=None):
 GRID_NAMES = (b"ncols", b"nrows", b"xllcorner", b"yllcorner", b"cellsize", b"nodata_value")
 GRID_LINES = [rb"\s*(?i:" + name + rb")\s+(-?[0-9]{1,18})(?=\s)" for name in GRID_NAMES]
 GRID_HEAD = re.compile(b"".join(GRID_LINES))
+# What stands for an empty cell in a grid of heights, and in a difference of two.
+NO_HEIGHT, NO_DIFFERENCE = -(2**31), -9999999999
 
 
 @dataclasses.dataclass
 class Grid:
-    """A grid of heights: lower left corner and cell in micrometres, rows of heights from the north.
+    """A grid of heights, or of the differences of two: lower left corner and cell in micrometres, rows from the north.
 
-    `heights` is int64, `filled` says which cells have one.
+    `heights` is int64, `filled` says which cells have one, and `nothing` is what stands in the others.
     """
 
     west: int
@@ -192,10 +194,11 @@ class Grid:
     cell: int
     heights: "numpy.ndarray"
     filled: "numpy.ndarray"
+    nothing: int = NO_HEIGHT
 
 
 def read_grid(name):
-    """OUT.asc. A grid of 4096 x 4096 takes a second or two."""
+    """OUT.asc of a match or of a change. A grid of 4096 x 4096 takes a second or two."""
     need(numpy=numpy)
     data = read_bytes(name)
     head = GRID_HEAD.match(data)
@@ -208,7 +211,7 @@ def read_grid(name):
     if len(heights) != cols * rows:
         raise Wrong(f"{name}: {len(heights)} heights, {cols * rows} needed")
     heights = heights.reshape(rows, cols)
-    return Grid(west, south, cell, heights, heights != nothing)
+    return Grid(west, south, cell, heights, heights != nothing, nothing)
 
 
 def whole_numbers(text, name):
@@ -245,15 +248,21 @@ REPORT_NAMES = ("region", "cells", "empty", "fill", "cut", "lowest", "highest")
 def read_report(name):
     """OUT.csv: a dict for each region, its numbers Python's own, lowest and highest None where it has no cells."""
     text = read_bytes(name).decode("ascii", "replace")
-    lines = list(csv.DictReader(io.StringIO(text)))
     first = text.partition("\n")[0].rstrip("\r").split(",")
-    if not set(REPORT_NAMES) <= set(first):
+    if tuple(first) != REPORT_NAMES:
         raise Wrong(f"{name}: not a report of sgm")
+    try:
+        lines = list(csv.DictReader(io.StringIO(text)))
+    except csv.Error as error:
+        raise Wrong(f"{name}: {error}")
     return [report_line(line, f"{name}: line {number} isn't one of a report") for number, line in enumerate(lines, 2)]
 
 
 def report_line(line, complaint):
     made = {"region": line["region"]}
+    # What is more than the head has names for stands under None.
+    if None in line:
+        raise Wrong(complaint)
     for key in REPORT_NAMES[1:]:
         word = line[key]
         may_be_empty = key in ("lowest", "highest")
@@ -261,6 +270,17 @@ def report_line(line, complaint):
             raise Wrong(complaint)
         made[key] = int(word) if word else None
     return made
+
+
+VOLUME_NAMES = ("both", "come", "gone", "empty", "fill", "cut")
+
+
+def read_volumes(name):
+    """OUT.csv of a change, a dict of Python's own numbers."""
+    lines = read_bytes(name).decode("ascii", "replace").splitlines()
+    if len(lines) != 2 or lines[0] != ",".join(VOLUME_NAMES) or not re.fullmatch("[0-9]+(,[0-9]+){5}", lines[1]):
+        raise Wrong(f"{name}: not the volumes of a change of sgm")
+    return dict(zip(VOLUME_NAMES, map(int, lines[1].split(","))))
 
 
 def read_json(name):
@@ -272,6 +292,37 @@ def read_json(name):
     if not isinstance(top, dict):
         raise Wrong(f"{name}: not a JSON object")
     return top
+
+
+def whole(top, *keys):
+    """The whole number that stands at these keys of a calibration."""
+    value = top
+    for key in keys:
+        value = value.get(key) if isinstance(value, dict) else None
+    if isinstance(value, bool) or not isinstance(value, int):
+        raise Wrong(f"the calibration has no whole number at {'.'.join(keys)}")
+    return value
+
+
+def regions_in(calibration):
+    listed = calibration.get("regions", [])
+    if not isinstance(listed, list):
+        raise Wrong("the calibration's regions aren't a list")
+    if not all(isinstance(region, dict) for region in listed):
+        raise Wrong("a region of the calibration isn't an object")
+    return listed
+
+
+def check_grid(calibration, grid):
+    """Stops where the calibration's grid isn't that of the heights."""
+    rows, cols = grid.heights.shape
+    theirs = [whole(calibration, "grid", key) for key in ("west", "south", "cell", "cols", "rows")]
+    if theirs != [grid.west, grid.south, grid.cell, cols, rows]:
+        raise Wrong("the calibration's grid isn't that of the heights: is it the calibration of this survey?")
+    for region in regions_in(calibration):
+        col, row, across, down = (whole(region, key) for key in ("col", "row", "cols", "rows"))
+        if not (0 <= col < cols and 0 <= row < rows and 1 <= across <= cols - col and 1 <= down <= rows - row):
+            raise Wrong("a region of the calibration sticks out of the grid")
 
 
 # Numbers in words

@@ -1,5 +1,5 @@
 #!/usr/bin/env python3
-"""Writes a survey as one page for a browser, which needs no network: heights, regions, volumes and warnings.
+"""Writes a survey, or the change between two, as one page for a browser, which needs no network.
 
     tools/survey_page.py OUT --calib calibration.json [--left left.pgm] [--out FILE.html]
 
@@ -9,7 +9,12 @@ is typed or taken from the mean of another rectangle, counted exactly, and gives
 `regions`. The page warns of what the guide says to check: many empty cells, a highest cell far above its
 neighbours, disparities at the ends of the span, ground that slopes (in regions whose name begins with `ground`
 and in rectangles taken for the base). A grid of more than four million cells is shown reduced, and the page
-says so. Needs numpy and Pillow.
+says so.
+
+Where OUT.asc is a difference, as `sgm change` writes it, the page shows it: what rose red, what fell blue, the four
+counts and both volumes of OUT.csv, and the same for the calibration's regions and for a drawn rectangle, with the
+spread of its differences. A rectangle in which nothing has changed gives the base and says what is noise. Needs
+numpy and Pillow.
 """
 
 import argparse
@@ -18,42 +23,25 @@ import html
 import json
 import os
 
+import change_volumes
 import heights_picture
 import sgm_files
 import stretch
-from sgm_files import Image, Wrong, numpy
+from sgm_files import Image, Wrong, numpy, whole
 
 TEMPLATE = os.path.join(os.path.dirname(os.path.realpath(__file__)), "survey_page.html")
 MOST_CELLS = 4_000_000
 LONGEST_SIDE = 1600
-EMPTY = -(2**31)
+# Beyond every height and every change.
+BEYOND = 1 << 40
 
 
 # The calibration
 
 
-def whole(top, *keys):
-    """The whole number that stands at these keys."""
-    value = top
-    for key in keys:
-        value = value.get(key) if isinstance(value, dict) else None
-    if isinstance(value, bool) or not isinstance(value, int):
-        raise Wrong(f"the calibration has no whole number at {'.'.join(keys)}")
-    return value
-
-
-def regions_in(calibration):
-    listed = calibration.get("regions", [])
-    if not isinstance(listed, list):
-        raise Wrong("the calibration's regions aren't a list")
-    if not all(isinstance(region, dict) for region in listed):
-        raise Wrong("a region of the calibration isn't an object")
-    return listed
-
-
 def regions_of(calibration, report):
     """The regions with their lines of the report."""
-    listed = regions_in(calibration)
+    listed = sgm_files.regions_in(calibration)
     if [region.get("name") for region in listed] != [line["region"] for line in report]:
         raise Wrong("the regions of the calibration aren't those of the report: is it the calibration of this survey?")
     made = []
@@ -63,18 +51,6 @@ def regions_of(calibration, report):
         line = {**line, "fill": str(line["fill"]), "cut": str(line["cut"])}
         made.append({"name": region["name"], **numbers, "report": line})
     return made
-
-
-def check_grid(calibration, grid):
-    """Stops where the calibration's grid isn't that of the heights."""
-    rows, cols = grid.heights.shape
-    theirs = [whole(calibration, "grid", key) for key in ("west", "south", "cell", "cols", "rows")]
-    if theirs != [grid.west, grid.south, grid.cell, cols, rows]:
-        raise Wrong("the calibration's grid isn't that of the heights: is it the calibration of this survey?")
-    for region in regions_in(calibration):
-        col, row, across, down = (whole(region, key) for key in ("col", "row", "cols", "rows"))
-        if not (0 <= col < cols and 0 <= row < rows and 1 <= across <= cols - col and 1 <= down <= rows - row):
-            raise Wrong("a region of the calibration sticks out of the grid")
 
 
 # Heights
@@ -89,22 +65,32 @@ def block_of(rows, cols):
 
 
 def reduced(grid, block):
-    """The grid of the highest cells of blocks, which begin at the north-west."""
+    """The grid of the highest cells of blocks, or of their largest changes. Blocks begin at the north-west."""
     if block == 1:
         return grid
     rows, cols = (-(-side // block) for side in grid.heights.shape)
-    heights = numpy.full((rows * block, cols * block), EMPTY, numpy.int64)
-    heights[: grid.heights.shape[0], : grid.heights.shape[1]] = numpy.where(grid.filled, grid.heights, EMPTY)
-    highest = heights.reshape(rows, block, cols, block).max(axis=(1, 3))
+
+    def of_blocks(beyond, end):
+        heights = numpy.full((rows * block, cols * block), beyond, numpy.int64)
+        heights[: grid.heights.shape[0], : grid.heights.shape[1]] = numpy.where(grid.filled, grid.heights, beyond)
+        return end(heights.reshape(rows, block, cols, block), axis=(1, 3))
+
+    made = of_blocks(-BEYOND, numpy.max)
+    filled = made != -BEYOND
+    if grid.nothing == sgm_files.NO_DIFFERENCE:
+        lowest = of_blocks(BEYOND, numpy.min)
+        made = numpy.where(filled & (-lowest > made), lowest, made)
     south = grid.south - grid.cell * (rows * block - grid.heights.shape[0])
-    return sgm_files.Grid(grid.west, south, grid.cell * block, highest, highest != EMPTY)
+    heights = numpy.where(filled, made, grid.nothing)
+    return sgm_files.Grid(grid.west, south, grid.cell * block, heights, filled, grid.nothing)
 
 
 def heights_text(grid):
-    """The heights as 32 bits each, the least byte first, in base 64."""
-    if grid.filled.any() and abs(grid.heights[grid.filled]).max() > 2**31 - 1:
+    """The heights as 32 bits each, the least byte first, in base 64; differences as floating point of 64 bits."""
+    is_change = grid.nothing == sgm_files.NO_DIFFERENCE
+    if grid.filled.any() and abs(grid.heights[grid.filled]).max() > (4 * 10**9 if is_change else 2**31 - 1):
         raise Wrong("heights beyond what sgm writes")
-    return text_of(numpy.where(grid.filled, grid.heights, EMPTY).astype("<i4").tobytes())
+    return text_of(numpy.where(grid.filled, grid.heights, grid.nothing).astype("<f8" if is_change else "<i4").tobytes())
 
 
 # Pictures
@@ -151,16 +137,16 @@ def span_of(calibration, values, filled):
 def survey(out, calibration, left):
     """Everything that the page knows."""
     grid = sgm_files.read_grid(out + ".asc")
-    check_grid(calibration, grid)
-    report = sgm_files.read_report(out + ".csv") if "regions" in calibration else []
-    regions = regions_of(calibration, report)
-    values, filled = sgm_files.read_disparities(out + ".pgm")
+    sgm_files.check_grid(calibration, grid)
+    if grid.nothing == sgm_files.NO_DIFFERENCE:
+        known = change_of(out, calibration, grid)
+    else:
+        known = survey_of(out, calibration)
     sgm_files.progress("drawing")
-    numbers, _ = stretch.stretched(values, filled)
     rows, cols = grid.heights.shape
     block = block_of(rows, cols)
     shown = reduced(grid, block)
-    colours, _ = heights_picture.shaded(shown)
+    colours, _ = heights_picture.drawn(shown)
     return {
         "gridCols": cols,
         "gridRows": rows,
@@ -170,13 +156,45 @@ def survey(out, calibration, left):
         "cell": shown.cell,
         "cols": shown.heights.shape[1],
         "rows": shown.heights.shape[0],
+        "map": picture_text(colours),
+        "left": left_text(left) if left else None,
+        "heights": heights_text(shown),
+        **known,
+    }
+
+
+def survey_of(out, calibration):
+    """What is a survey's alone."""
+    report = sgm_files.read_report(out + ".csv") if "regions" in calibration else []
+    regions = regions_of(calibration, report)
+    values, filled = sgm_files.read_disparities(out + ".pgm")
+    numbers, _ = stretch.stretched(values, filled)
+    return {
+        "change": None,
         "camera": {key: whole(calibration, "camera", key) for key in ("focal", "baseline", "mount")},
         "disparities": span_of(calibration, values, filled),
         "regions": regions,
-        "map": picture_text(colours),
         "disparityMap": picture_text(thinned(numbers), stretch.PALETTE),
-        "left": left_text(left) if left else None,
-        "heights": heights_text(shown),
+    }
+
+
+def change_of(out, calibration, grid):
+    """What is a change's alone."""
+    said = sgm_files.read_volumes(out + ".csv")
+    *tallies, _ = change_volumes.tallies(out, calibration)
+    report = []
+    for (name, it), (_, at) in zip(tallies, change_volumes.regions_of(calibration, grid)):
+        found = grid.heights[at][grid.filled[at]]
+        ends = {"lowest": int(found.min()), "highest": int(found.max())} if it.cells else {"lowest": None, "highest": None}
+        report.append({"region": name, "cells": it.cells, "empty": it.empty, "fill": it.fill, "cut": it.cut, **ends})
+    regions = regions_of(calibration, report)
+    counts = {key: said[key] for key in ("both", "come", "gone")}
+    volumes = {key: str(said[key]) for key in ("fill", "cut")}
+    darkest = heights_picture.darkest_of(grid)
+    return {
+        "change": {**counts, "neither": said["empty"], **volumes, "darkest": darkest},
+        "regions": [{**region, "base": 0} for region in regions],
+        "disparityMap": None,
     }
 
 
@@ -191,22 +209,23 @@ def page(title, known):
 def main():
     epilog = "Example: tools/survey_page.py /tmp/heap --calib calibration.json --left left.pgm"
     parser = argparse.ArgumentParser(description=__doc__.split("\n\n")[0], epilog=epilog)
-    parser.add_argument("survey", metavar="OUT", help="the last word of the match")
-    parser.add_argument("--calib", required=True, metavar="FILE.json", help="the calibration of that match")
+    parser.add_argument("survey", metavar="OUT", help="the last word of the match, or of the change")
+    parser.add_argument("--calib", required=True, metavar="FILE.json", help="the calibration of that match, or of either")
     parser.add_argument("--left", metavar="FILE.pgm", help="the left picture, to be shown too")
     parser.add_argument("--out", metavar="FILE.html", help="the page (OUT.html)")
     parser.add_argument("--title", metavar="TEXT", help="the heading (the name of OUT)")
     words = parser.parse_args()
     sgm_files.need(numpy=numpy, PIL=Image)
     known = survey(words.survey, sgm_files.read_json(words.calib), words.left)
-    title = words.title or f"Survey {os.path.basename(words.survey)}"
+    title = words.title or f"{'Change' if known['change'] else 'Survey'} {os.path.basename(words.survey)}"
     name = words.out or words.survey + ".html"
     sgm_files.progress(f"writing {name}")
     text = page(title, known)
     with open(name, "w", encoding="utf-8") as file:
         file.write(text)
     if known["block"] > 1:
-        print(f"shown reduced: the highest of {known['block']} x {known['block']} cells each")
+        which = "largest change" if known["change"] else "highest"
+        print(f"shown reduced: the {which} of {known['block']} x {known['block']} cells each")
     print(f"{name}: {len(text) // 1000 + 1} kB")
 
 

@@ -117,6 +117,26 @@ class Tables(unittest.TestCase):
             self.assertEqual(run(text), (1, "", f"cubic_metres: o.csv: {line}\n", None))
 
 
+class Changes(unittest.TestCase):
+    HEAD = "both,come,gone,empty,fill,cut\n"
+
+    def test_exact(self):
+        new_head = "both,come,gone,empty,fill_m3,cut_m3,net_m3\n"
+        wanted = new_head + "8,1,1,2,0.000000001,9.223372036854775808,-9.223372035854775808\n"
+        text = self.HEAD + "8,1,1,2,1000000000,9223372036854775808\n"
+        self.assertEqual(run(text), (0, wanted, "", None))
+        wanted = new_head + "8,1,1,2,0.000,9.223,-9.223\n"
+        self.assertEqual(run(text, "--digits", "3", "--out", "m.csv"), (0, "", "", wanted))
+
+    def test_refused(self):
+        good = "1,2,3,4,5,6\n"
+        for rest in ("", "1,2,3,4,5\n", "1,2,3,4,5,x\n", good + good):
+            line = "cubic_metres: o.csv: not the volumes of a change of sgm\n"
+            self.assertEqual(run(self.HEAD + rest), (1, "", line, None), rest)
+        ended = run(self.HEAD + good, "--ground", "a", "--calibration", "c.json", calibration="{}")
+        self.assertEqual(ended, (1, "", "cubic_metres: o.csv: the volumes of a change have no ground\n", None))
+
+
 def calibration(cell, *areas):
     """The calibration's part that the tool reads: regions of (name, cols, rows, base)."""
     keys = ("name", "cols", "rows", "base")

@@ -8,7 +8,7 @@ import tempfile
 import unittest
 
 import sgm_files
-from heights_picture import colours_of, shaded, zoom_of
+from heights_picture import colours_of, drawn, shaded, zoom_of
 from sgm_files import numpy
 
 TOOL = os.path.join(os.path.dirname(os.path.abspath(__file__)), "heights_picture.py")
@@ -76,6 +76,17 @@ class Colours(unittest.TestCase):
         plain = colours_of(falls.heights, low, high)
         for row in range(1, rows - 1):
             self.assertEqual(made[row, 0].tolist(), (plain[row, 0] * 75 // 100).tolist(), row)
+
+    def test_changes(self):
+        """What rose is red, what fell blue, by the larger of both; no change is white, no difference black."""
+        changes = grid([[-500, 0, 250, 1000, None]])
+        changes.nothing = sgm_files.NO_DIFFERENCE
+        made, ends = drawn(changes)
+        self.assertEqual(ends, (-1000, 1000))
+        wanted = [(129, 159, 199), (250, 250, 250), (228, 191, 192), (165, 15, 21), (0, 0, 0)]
+        self.assertEqual([tuple(colour) for colour in made[0].tolist()], wanted)
+        changes.filled[:] = False
+        self.assertEqual((drawn(changes)[0].any(), drawn(changes)[1]), (False, None))
 
     def test_zoom(self):
         self.assertEqual([zoom_of(96, 115), zoom_of(2000, 10), zoom_of(4096, 4096)], [4, 2, 1])

@@ -115,9 +115,28 @@ class Reports(Files):
         self.assertEqual(report[1], dict(zip(sgm_files.REPORT_NAMES, ("c", 0, 1, 0, 0, None, None))))
 
     def test_refused(self):
-        self.assertEqual(self.refused(sgm_files.read_report, b"region,cells\n"), "not a report of sgm")
-        for line in (b"a,1,0,5,0,5\n", b"a,1,0,5.0,0,5,5\n", b"a,,0,5,0,5,5\n", b"a,1,0,5,0,x,5\n"):
+        for text in (b"region,cells\n", self.HEAD.replace(b"\n", b",more\n")):
+            self.assertEqual(self.refused(sgm_files.read_report, text), "not a report of sgm")
+        self.assertIn("field larger", self.refused(sgm_files.read_report, self.HEAD + b"a" * 200000))
+        for line in (b"a,1,0,5,0,5\n", b"a,1,0,5.0,0,5,5\n", b"a,,0,5,0,5,5\n", b"a,1,0,5,0,x,5\n", b"a,1,0,5,0,5,5,5\n"):
             self.assertEqual(self.refused(sgm_files.read_report, self.HEAD + line), "line 2 isn't one of a report")
+
+
+class Changes(Files):
+    HEAD = b"both,come,gone,empty,fill,cut\n"
+
+    def test_a_difference(self):
+        """What stands for no difference is beyond 32 bits, and so may the differences be."""
+        text = (HEAD % (3, 1)).replace(b"-2147483648", b"-9999999999") + b"4000000000 -9999999999 -2147483648\n"
+        grid = sgm_files.read_grid(self.given(text))
+        self.assertEqual((grid.nothing, grid.filled.tolist()), (sgm_files.NO_DIFFERENCE, [[True, False, True]]))
+        self.assertEqual(grid.heights[grid.filled].tolist(), [4000000000, -2147483648])
+
+    def test_volumes(self):
+        read = sgm_files.read_volumes(self.given(self.HEAD + b"8,1,1,2,%d,0\n" % 10**30))
+        self.assertEqual(read, dict(zip(sgm_files.VOLUME_NAMES, (8, 1, 1, 2, 10**30, 0))))
+        for text in (b"", self.HEAD, self.HEAD + b"1,2,3,4,5\n", self.HEAD + b"1,2,3,4,5,-6\n", b"a\n1,2,3,4,5,6\n"):
+            self.assertEqual(self.refused(sgm_files.read_volumes, text), "not the volumes of a change of sgm")
 
 
 class Numbers(unittest.TestCase):

@@ -92,6 +92,43 @@ class Pages(Heap):
         self.assertIn('"regions":[]', page)
 
 
+class Changes(Heap):
+    def test_what_it_knows(self):
+        """A difference of the example's grid: as if the later heights were 0 everywhere."""
+        grid = sgm_files.read_grid(self.path("o.asc"))
+        nothing = sgm_files.NO_DIFFERENCE
+        with open(self.path("o.asc")) as file:
+            head = file.read().splitlines()[:5]
+        rows = [[str(-it) if there else str(nothing) for it, there in zip(*row)] for row in zip(grid.heights, grid.filled)]
+        with open(self.path("o.asc"), "w") as file:
+            file.write("\n".join([*head, f"NODATA_value {nothing}", *(" ".join(row) for row in rows), ""]))
+        found = [int(it) for it in grid.heights[grid.filled]]
+        fill, cut = (sum(max(0, sign * it) for it in found) * grid.cell**2 for sign in (-1, 1))
+        with open(self.path("o.csv"), "w") as file:
+            file.write(f"both,come,gone,empty,fill,cut\n{len(found)},3,4,5,{fill},{cut}\n")
+        os.remove(self.path("o.pgm"))
+        status, _, err, page = self.run_tool()
+        self.assertEqual((status, err), (0, ""))
+        known = json.loads(re.search('id="survey">(.*?)</script>', page, re.S)[1])
+        heights = numpy.frombuffer(base64.b64decode(known["heights"]), "<f8").reshape(known["rows"], known["cols"])
+        self.assertTrue((numpy.where(grid.filled, -grid.heights, nothing) == heights).all())
+        counts = {"both": len(found), "come": 3, "gone": 4, "neither": 5, "fill": str(fill), "cut": str(cut)}
+        self.assertEqual({key: known["change"][key] for key in counts}, counts)
+        # What is the report's fill is the difference's cut, since the bases are 0.
+        report = sgm_files.read_report(os.path.join(HEAP, "expected", "out.csv"))
+        for region, line in zip(known["regions"], report):
+            self.assertEqual((region["report"]["cut"], region["report"]["lowest"]), (str(line["fill"]), -line["highest"]))
+            self.assertEqual(region["base"], 0)
+
+    def test_largest_changes(self):
+        heights = numpy.array([[1, -7, -(10**10)], [3, -4, -(10**10)], [-7, -9, 5]])
+        nothing = sgm_files.NO_DIFFERENCE
+        grid = sgm_files.Grid(10, 20, 100, numpy.where(heights < -(10**9), nothing, heights), heights > -(10**9), nothing)
+        made = tool.reduced(grid, 2)
+        self.assertEqual(made.heights.tolist(), [[-7, nothing], [-9, 5]])
+        self.assertEqual((made.filled.tolist(), made.nothing), ([[True, False], [True, True]], nothing))
+
+
 class Refused(Heap):
     def test_files(self):
         for name in ("o.asc", "o.pgm", "o.csv", "c.json"):

@@ -129,7 +129,11 @@ def first_surface(ray, mount=MOUNT):
 
 def surface(ray, mount=MOUNT):
     """The grey value, 30 to 220, of the first surface that the ray meets."""
-    depth, name = first_surface(ray, mount)
+    return surface_at(ray, *first_surface(ray, mount))
+
+
+def surface_at(ray, depth, name):
+    """The grey value of that surface where the ray meets it."""
     x, y = ray.place(depth)
     if name == "ground":
         return 40 + texture(x, y, 1) * 5 // 8

@@ -1,0 +1,104 @@
+#!/usr/bin/env python3
+"""Says which pixels have made a cell of the heights: those whose points fall into it, the highest first.
+
+    tools/cell_pixels.py OUT COL ROW --calib calibration.json [--all]
+
+Reads OUT.pgm and OUT.asc. Columns count from the west and rows from the north, both from 0, as on the page of
+tools/survey_page.py. Each line has a pixel, its disparity in pixels and its point: metres to the east and to
+the north of the left camera, and the height. The first line's height is the cell's, since a cell keeps the
+highest; without --all no more than ten are shown. tools/explain_pixel.py shows why a pixel has its disparity.
+Needs numpy.
+"""
+
+import argparse
+import re
+
+import sgm_files
+from sgm_files import Wrong, decimal, numpy, whole
+
+SHOWN = 10
+CAMERA = ("focal", "baseline", "cx", "cy", "doffs", "mount", "near", "far")
+
+
+def rounded(a, b):
+    """To the nearest whole number, halves up."""
+    return (2 * a + b) // (2 * b)
+
+
+class Points:
+    """The points of a calibration's camera. Numbers may be whole ones or arrays of int64."""
+
+    def __init__(self, calibration):
+        for key in CAMERA:
+            setattr(self, key, whole(calibration, "camera", key))
+        self.first = whole(calibration, "disparities", "first")
+
+    def k_of(self, value):
+        """256 times the disparity, with doffs, from a value in sixteenths of a pixel above the first."""
+        return 16 * (16 * self.first + value) + self.doffs
+
+    def of(self, x, y, value):
+        """East, north and height, or None."""
+        k = self.k_of(value)
+        if k <= 0:
+            return None
+        away = rounded(self.focal * self.baseline, k)
+        if not self.near <= away <= self.far:
+            return None
+        return rounded((256 * x - self.cx) * self.baseline, k), rounded((self.cy - 256 * y) * self.baseline, k), self.mount - away
+
+
+def pixels_in(values, filled, points, grid, col, row):
+    """The pixels whose points fall into the cell: height, x, y, value, east, north; the highest first."""
+    below = grid.heights.shape[0] - 1 - row
+    west, south = grid.west + col * grid.cell, grid.south + below * grid.cell
+    ys, xs = numpy.nonzero(filled & (points.k_of(values) > 0))
+    k = points.k_of(values[ys, xs])
+    away = rounded(points.focal * points.baseline, k)
+    east = rounded((256 * xs - points.cx) * points.baseline, k)
+    north = rounded((points.cy - 256 * ys) * points.baseline, k)
+    inside = (points.near <= away) & (away <= points.far) & (west <= east) & (east < west + grid.cell)
+    inside &= (south <= north) & (north < south + grid.cell)
+    found = zip(points.mount - away[inside], xs[inside], ys[inside], values[ys, xs][inside], east[inside], north[inside])
+    return sorted((tuple(map(int, it)) for it in found), key=lambda it: (-it[0], it[2], it[1]))
+
+
+def sixteenths(value, first):
+    """A disparity in pixels, as text."""
+    return decimal((16 * first + value) * 10000 // 16, 4)
+
+
+def digits(word):
+    if not re.fullmatch("[0-9]{1,9}", word):
+        raise ValueError
+    return int(word)
+
+
+def main():
+    epilog = "Example: tools/cell_pixels.py /tmp/heap 53 54 --calib examples/stockpile/calibration.json"
+    parser = argparse.ArgumentParser(description=__doc__.split("\n\n")[0], epilog=epilog)
+    parser.add_argument("survey", metavar="OUT", help="the last word of the match")
+    parser.add_argument("col", metavar="COL", type=digits, help="the cell's column, from 0 at the west")
+    parser.add_argument("row", metavar="ROW", type=digits, help="the cell's row, from 0 at the north")
+    parser.add_argument("--calib", required=True, metavar="FILE.json", help="the calibration of that match")
+    parser.add_argument("--all", action="store_true", help=f"all pixels, not the {SHOWN} highest alone")
+    words = parser.parse_args()
+    sgm_files.need(numpy=numpy)
+    points = Points(sgm_files.read_json(words.calib))
+    grid = sgm_files.read_grid(words.survey + ".asc")
+    rows, cols = grid.heights.shape
+    if words.col >= cols or words.row >= rows:
+        raise Wrong(f"no cell {words.col} {words.row}: the grid has {cols} columns and {rows} rows")
+    values, filled = sgm_files.read_disparities(words.survey + ".pgm")
+    found = pixels_in(values, filled, points, grid, words.col, words.row)
+    height = int(grid.heights[words.row, words.col]) if grid.filled[words.row, words.col] else None
+    if (found[0][0] if found else None) != height:
+        raise Wrong(f"{words.survey}.pgm and {words.survey}.asc aren't of one survey by {words.calib}")
+    print(f"cell {words.col} {words.row}: " + (f"{decimal(height, 6)} m, from {len(found)} pixels" if found else "empty"))
+    for high, x, y, value, east, north in found[: None if words.all else SHOWN]:
+        where = ", ".join(decimal(it, 6) for it in (east, north))
+        print(f"pixel {x} {y}: disparity {sixteenths(value, points.first)}, at {where}, height {decimal(high, 6)} m")
+
+
+if __name__ == "__main__":
+    sgm_files.run(main)

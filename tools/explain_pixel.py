@@ -1,0 +1,211 @@
+#!/usr/bin/env python3
+"""Shows why a pixel has the disparity that it has: eight certificates for it and for those beside it, checked.
+
+    tools/explain_pixel.py LEFT RIGHT CALIB X Y [--sgm PATH]
+
+An index is a disparity less the first one. The program takes the index whose sum over eight directions is the
+least. Here it is asked for the certificate of each direction for that index and for the two beside it
+(`sgm trace`), and each is checked against the pictures as tools/check_trace.py does, which takes nothing from
+the program. A table shows what they come to; below it stands by how much the index wins, what lies between it
+and its neighbours (a sixteenth of a pixel is the finest step), what the program's own disparity picture has
+there (`sgm match`, without peaks or filling, in a folder that goes away again), and the point in metres where the
+calibration has a camera.
+
+It ends with 0 where all of it holds together, and names what doesn't and ends with 1 elsewhere. The program is what
+--sgm names, or the variable SGM, or the one of this repository, or the one on the PATH. Needs numpy. Takes seconds for small pictures,
+a minute for large ones.
+"""
+
+import argparse
+import os
+import subprocess
+import tempfile
+
+import check_trace
+import sgm_files
+from cell_pixels import Points, sixteenths
+from check_trace import DIRECTIONS
+from sgm_files import Wrong, decimal
+
+PROGRAM = os.path.normpath(os.path.join(os.path.dirname(os.path.abspath(__file__)), "..", "sgm"))
+
+
+def given_program():
+    """The program where no word names one: that of the variable SGM, of this repository, or of the PATH."""
+    return os.environ.get("SGM") or (PROGRAM if os.access(PROGRAM, os.X_OK) else "sgm")
+
+
+def run_program(program, *words):
+    """What the program prints."""
+    done = subprocess.run([program, *map(str, words)], stdin=subprocess.DEVNULL, capture_output=True, text=True)
+    if done.returncode:
+        said = done.stderr.strip().splitlines()
+        raise Wrong(f"{program} {words[0]} ends with {done.returncode}: {said[-1] if said else 'and says nothing'}")
+    return done.stdout
+
+
+def value_in_picture(program, words):
+    """What OUT.pgm of a match has at the pixel: sixteenths above the first disparity, or None."""
+    sgm_files.progress("matching")
+    with tempfile.TemporaryDirectory(prefix="sgm-explain_pixel.") as folder:
+        out = os.path.join(folder, "o")
+        run_program(program, "match", words.left, words.right, words.calib, out)
+        values, filled = sgm_files.read_disparities(out + ".pgm")
+    return int(values[words.y, words.x]) if filled[words.y, words.x] else None
+
+
+# Sums
+
+
+class Direction:
+    """A direction's line to the pixel: its path values for every index, and the certificates that were checked."""
+
+    def __init__(self, pair, name, x, y):
+        self.name, self.ray = name, check_trace.Ray(pair, name, x, y)
+        self.before = min(self.ray.least[-2]) if len(self.ray.pixels) > 1 else 0
+        self.paths = [energy - self.before for energy in self.ray.least[-1]]
+        self.costs, self.small, self.large = 0, 0, 0
+
+    def check(self, d, text):
+        found = check_trace.fault(self.ray, d, text)
+        if found:
+            raise Wrong(f"the certificate of {self.name} and index {d} doesn't hold: {found}")
+
+    def count(self, text):
+        """What the certificate is made of: its costs, and how many changes by one and larger ones it has."""
+        steps = [list(map(int, line.split())) for line in text.splitlines()[1:]]
+        changes = [abs(here[2] - before[2]) for before, here in zip(steps, steps[1:])]
+        self.costs = sum(step[3] for step in steps)
+        self.small, self.large = changes.count(1), sum(change > 1 for change in changes)
+
+
+def directions_of(pair, words):
+    made = []
+    for number, name in enumerate(DIRECTIONS):
+        sgm_files.progress(f"adding up direction {number + 1} of {len(DIRECTIONS)}")
+        made.append(Direction(pair, name, words.x, words.y))
+    return made
+
+
+def check_certificates(program, words, directions, indices, chosen):
+    """Asks the program for each certificate and checks it."""
+    for number, direction in enumerate(directions):
+        sgm_files.progress(f"checking direction {number + 1} of {len(directions)}")
+        for d in indices:
+            text = run_program(program, "trace", words.left, words.right, words.calib, direction.name, words.x, words.y, d)
+            direction.check(d, text)
+            if d == chosen:
+                direction.count(text)
+
+
+def offset(before, at, after):
+    """How far the parabola through three sums has its lowest point from the middle one, in sixteenths."""
+    a, c = before - at, after - at
+    return (16 * (a - c) + (a + c)) // (2 * (a + c))
+
+
+# Words
+
+
+def columns(lines):
+    """Lines of words in columns, the first to the left and the others to the right."""
+    widths = [max(len(str(line[at])) for line in lines) for at in range(len(lines[0]))]
+    for line in lines:
+        words = [str(line[0]).ljust(widths[0]), *(str(word).rjust(width) for word, width in zip(line[1:], widths[1:]))]
+        yield "  ".join(words).rstrip()
+
+
+def table(directions, indices, chosen):
+    head = ["direction", "pixels", *(f"index {d}" for d in indices), "costs", "by one", "larger"]
+    lines = [head]
+    for it in directions:
+        lines.append([it.name, len(it.ray.pixels), *(it.paths[d] for d in indices), it.costs, it.small, it.large])
+    lines.append(["sum", "", *(sum(it.paths[d] for it in directions) for d in indices), "", "", ""])
+    return columns(lines)
+
+
+def comparison(sums, chosen, first):
+    """By how much the chosen index wins."""
+    at = sums[chosen]
+    for d, where in ((chosen - 1, "before"), (chosen + 1, "after")):
+        if 0 <= d < len(sums):
+            yield f"The one {where} it, disparity {first + d}, comes to {sums[d]}: {sums[d] - at} more."
+    others = [d for d in range(len(sums)) if abs(d - chosen) > 1]
+    if others:
+        best = min(others, key=sums.__getitem__)
+        yield f"Of all others disparity {first + best} comes nearest, with {sums[best]}: {sums[best] - at} more."
+
+
+def partner(pair, x, y, chosen):
+    """Why the pixel can't have a disparity, whatever the sums are, or what the check must have found."""
+    q = x - pair.first - chosen
+    if not 0 <= q < pair.left.width:
+        return f"its partner would be column {q} of the right picture, which isn't there."
+    if pair.left.value(x, y) is None or pair.right.value(q, y) is None:
+        return "one of the two rectified pictures has no source there."
+    return f"seen from column {q} of the right picture another disparity is better, so the check took it out."
+
+
+def explain(pair, words, value, directions, indices, chosen):
+    sums = [sum(it.paths[d] for it in directions) for d in range(pair.count)]
+    yield f"Pixel {words.x} {words.y}: disparities {pair.first} to {pair.first + pair.count - 1} were tried, index 0 being the first."
+    yield "The lines of pixels that lead to it from eight sides, and what each index costs at their end:"
+    yield ""
+    yield from table(directions, indices, chosen)
+    yield ""
+    yield f"All {len(directions) * len(indices)} certificates hold. A column `index` has their energies, less what the line"
+    yield "before the pixel costs at least, which is the same for every index. The last three say what the"
+    yield f"certificates of index {chosen} are made of: costs of pixels, changes by one disparity, larger ones."
+    yield ""
+    yield f"Index {chosen}, disparity {pair.first + chosen}, has the least sum, {sums[chosen]}."
+    yield from comparison(sums, chosen, pair.first)
+    moved = offset(*sums[chosen - 1 : chosen + 2]) if 0 < chosen < pair.count - 1 else 0
+    if moved:
+        yield f"The parabola through the three sums has its lowest point {abs(moved)}/16 {'below' if moved < 0 else 'above'} it."
+    if value is None:
+        yield f"The program's picture has no disparity here: {partner(pair, words.x, words.y, chosen)}"
+        return
+    if value != 16 * chosen + moved:
+        wanted = sixteenths(16 * chosen + moved, pair.first)
+        raise Wrong(f"the program's picture has disparity {sixteenths(value, pair.first)} here, the sums ask for {wanted}")
+    yield f"So the disparity is {sixteenths(value, pair.first)}, in pixels, and that is what the program's picture has here."
+
+
+def point_line(calibration, words, value):
+    if value is None or "camera" not in calibration:
+        return
+    point = Points(calibration).of(words.x, words.y, value)
+    if point is None:
+        yield "It has no point: its distance is below `near` or above `far`, or none."
+    else:
+        east, north, height = (decimal(it, 6) for it in point)
+        yield f"Its point lies {east} m to the east and {north} m to the north of the left camera, {height} m high."
+
+
+def main():
+    epilog = "Example: tools/explain_pixel.py examples/stockpile/left.pgm examples/stockpile/right.pgm "
+    epilog += "examples/stockpile/calibration.json 168 150"
+    parser = argparse.ArgumentParser(description=__doc__.split("\n\n")[0], epilog=epilog)
+    check_trace.add_pair(parser)
+    parser.add_argument("x", metavar="X", type=check_trace.digits, help="the pixel's column, from 0 at the left")
+    parser.add_argument("y", metavar="Y", type=check_trace.digits, help="the pixel's row, from 0 at the top")
+    parser.add_argument("--sgm", metavar="PATH", default=given_program(), help="the program")
+    words = parser.parse_args()
+    calibration = check_trace.calibration_of(words.calib)
+    pair = check_trace.Pair(words.left, words.right, calibration)
+    if words.x >= pair.left.width or words.y >= pair.left.height:
+        raise Wrong(f"there is no pixel {words.x} {words.y}")
+    value = value_in_picture(words.sgm, words)
+    directions = directions_of(pair, words)
+    sums = [sum(it.paths[d] for it in directions) for d in range(pair.count)]
+    chosen = sums.index(min(sums))
+    indices = [d for d in (chosen - 1, chosen, chosen + 1) if 0 <= d < pair.count]
+    check_certificates(words.sgm, words, directions, indices, chosen)
+    lines = list(explain(pair, words, value, directions, indices, chosen))
+    lines += point_line(calibration, words, value)
+    sgm_files.progress("")
+    print("\n".join(lines))
+
+
+if __name__ == "__main__":
+    sgm_files.run(main)
