@@ -25,6 +25,7 @@ launcher            -           tests/launcher.sh
 scripts             opencv      tests/scripts.py
 shellcheck          shellcheck  shellcheck -x sgm .ci/run $(cd "$top" && echo tests/*.sh packaging/*.sh packaging/*.bash)
 reference           -           tests/test_reference.py
+reference_lists     -           tests/test_reference_lists.py
 stored_runs         -           tests/stored_runs.py
 least_energies      -           tests/least_energies.py --check
 cubic_metres        -           tools/test_cubic_metres.py
@@ -43,7 +44,7 @@ explain_pixel       pictures    tools/test_explain_pixel.py
 survey_page         browser     tests/survey_page.py
 ends                program     tests/ends.sh
 workers             program     tests/workers.sh
-random_cases        program     tests/random_cases.py --cases 300
+random_cases        program     tests/random_cases.py --cases 400
 refused_allocations program,gcc tests/refused_allocations.sh
 interrupted         program     tests/interrupted.py
 asc_gdal            program,gdal    tests/asc_gdal.sh

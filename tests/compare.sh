@@ -1,10 +1,10 @@
 #!/usr/bin/env bash
-# Runs the program and the reference on small pairs with many calibrations, on bad input and on the example
-# with the heap, each in a folder of its own, and compares every byte: the files made, both streams and the
-# status. Where a case names no strips and workers, the program also runs with some numbers of them, which
-# may change nothing. The reference's files for the heap are also compared with those that the example
-# holds. The program is the one that the variable SGM names (./sgm of this repository without it). Takes
-# minutes.
+# Runs the program and the reference on small pairs with many calibrations, on certificates of their pixels, on
+# the change between two grids, on bad input and on the example with the heap, each in a folder of its own, and
+# compares every byte: the files made, both streams and the status. Where a match names no strips and workers, the
+# program also runs with some numbers of them, which may change nothing. The reference's files for the heap are also
+# compared with those that the example holds. The program is the one that the variable SGM names (./sgm of this
+# repository without it). Takes minutes.
 #
 #     tests/compare.sh
 set -u
@@ -36,10 +36,10 @@ same() {
     fi
 }
 
-# split_up CASE: compares it with the answer that the reference has given, for some strips and workers.
+# split_up CASE: compares a match with the answer that the reference has given, for some strips and workers.
 split_up() {
     local split words
-    if [ "$(wc -l <"$work/cases/$1/words")" -lt 5 ] || grep -q '^strips=\|^workers=' "$work/cases/$1/words"; then
+    if [ "$(head -n 1 "$work/cases/$1/words")" != match ] || grep -q '^strips=\|^workers=' "$work/cases/$1/words"; then
         return
     fi
     for split in "${splits[@]}"; do

@@ -55,6 +55,19 @@ begin() {
     echo "{$plain,$camera,$grid,$regions}" >c.json
 }
 
+# The same with the words of a certificate.
+begin_trace() {
+    begin "$1"
+    words=(trace l.pgm r.pgm c.json right 2 1 1)
+}
+
+# The same with the words of the change between two grids, which stand beside the pair.
+begin_change() {
+    begin "$1"
+    words=(change e.asc l.asc o)
+    cp "$work/e.asc" "$work/l.asc" .
+}
+
 # ends STATUS LINE SUMMARY [OUTPUT..]: runs the words and compares. `-` as LINE or SUMMARY asks for
 # nothing there. What the variables out and err name takes the place of the two streams: a closed stream
 # where it is `closed`, a pipe that nobody reads where it is `unread`. What the variable begun names is an
@@ -234,6 +247,25 @@ all,9,3,90000000000,0,50000,50000
 east,0,1,0,0,,
 CSV
 
+# What the certificate of the pixel (2, 1) shows, and the example's grid and a later one of the same ground, with what
+# the change between the two writes: all by hand.
+certificate=$'least 15\n0 1 0 8 0\n1 1 0 6 0\n2 1 1 0 1'
+cp "$whole/o.asc" "$work/e.asc"
+changed=$work/changed
+mkdir "$changed"
+{
+    head -n 6 "$whole/o.asc"
+    echo 51000 50000 50000 50000
+    echo -2147483648 50000 50000 -2147483648
+    echo 50000 50000 50000 -2147483648
+} >"$work/l.asc"
+{
+    head -n 5 "$whole/o.asc"
+    printf '%s\n' 'NODATA_value -9999999999' '1000 0 0 -9999999999' '-9999999999 0 0 -9999999999' '0 0 0 -9999999999'
+} >"$changed/o.asc"
+printf 'both,come,gone,empty,fill,cut\n8,1,1,2,1000000000,0\n' >"$changed/o.csv"
+both=(o.asc o.csv) compared='compared 8 of 12'
+
 need_program
 
 begin "done"
@@ -283,21 +315,21 @@ begin "a calibration that is too long"
 truncate -s 16777217 c.json
 ends 3 'sgm: calibration is too long' -
 
-for input in left:l.pgm right:r.pgm calibration:c.json; do
-    file=${input#*:}
-    begin "no ${input%:*}"
+for input in {begin,begin_trace}:{left:l.pgm,right:r.pgm,calibration:c.json} begin_change:{earlier:e.asc,later:l.asc}; do
+    IFS=: read -r start what file <<<"$input"
+    "$start" "$start: no $what"
     rm "$file"
-    ends 4 "sgm: cannot read ${input%:*}" -
-    begin "a folder as ${input%:*}"
+    ends 4 "sgm: cannot read $what" -
+    "$start" "$start: a folder as $what"
     rm "$file" && mkdir "$file"
-    ends 4 "sgm: cannot read ${input%:*}" -
-    begin "a loop of links as ${input%:*}"
+    ends 4 "sgm: cannot read $what" -
+    "$start" "$start: a loop of links as $what"
     rm "$file" && ln -s "$file" "$file"
-    ends 4 "sgm: cannot read ${input%:*}" -
+    ends 4 "sgm: cannot read $what" -
     if [ "$(id -u)" != 0 ]; then
-        begin "${input%:*} that may not be read"
+        "$start" "$start: $what that may not be read"
         chmod 000 "$file"
-        ends 4 "sgm: cannot read ${input%:*}" -
+        ends 4 "sgm: cannot read $what" -
     fi
 done
 
@@ -315,6 +347,88 @@ for output in disparity heights report; do
     ends 5 "sgm: cannot write $output" - "${outputs[@]:0:count}"
     count=$((count + 1))
 done
+
+# Certificates and changes.
+begin_trace "a certificate"
+ends 0 - "$certificate"
+begin_trace "a certificate with numbers that begin with zeros"
+words=(trace l.pgm r.pgm c.json right 002 01 000000000001)
+ends 0 - "$certificate"
+begin_trace "a certificate of a ray of one pixel"
+words=(trace l.pgm r.pgm c.json down 0 0 0)
+ends 0 - $'least 8\n0 0 0 8 0'
+begin_trace "a column that is not there"
+words[5]=5
+ends 3 'sgm: no pixel 5 1 with index 1' -
+begin_trace "a row that is not there"
+words[6]=3
+ends 3 'sgm: no pixel 2 3 with index 1' -
+begin_trace "an index that is not there"
+words[7]=2
+ends 3 'sgm: no pixel 2 1 with index 2' -
+begin_trace "no such direction"
+words[4]=sideways
+ends 2 'sgm: word 4 is not a direction' -
+begin_trace "no number"
+words[6]=-1
+ends 2 'sgm: word 6 is not a number in range' -
+begin_trace "an option of a certificate"
+words+=(strips=1)
+ends 2 'sgm: word 8 is not an option' -
+begin_trace "a certificate of two sizes"
+printf 'P5\n4 3\n255\n123412341234' >r.pgm
+ends 3 'sgm: sizes differ: 5x3 and 4x3' -
+
+whole=$changed
+begin_change "a change"
+ends 0 - "$compared" "${both[@]}"
+begin_change "a change over older outputs"
+echo older >o.asc
+echo older >o.csv
+ends 0 - "$compared" "${both[@]}"
+begin_change "a change of grids in other white space and case"
+tr ' \n' '\n\t' <e.asc | tr '[:lower:]' '[:upper:]' >other && mv other e.asc
+sed 's/$/\r/; s/ /  /g' l.asc >other && mv other l.asc
+ends 0 - "$compared" "${both[@]}"
+begin_change "two grounds"
+sed -i 's/cellsize 1000/cellsize 2000/' l.asc
+ends 3 'sgm: grids differ at word 9' -
+begin_change "a height too few"
+sed -i '$ s/ [^ ]*$//' l.asc
+ends 3 'sgm: later: 11 heights, 12 needed' -
+begin_change "an empty grid"
+true >e.asc
+ends 3 'sgm: earlier: word 0 is not as expected' -
+begin_change "a difference as a grid"
+cp "$changed/o.asc" l.asc
+ends 3 'sgm: later: word 11 is out of range' -
+begin_change "a height too high"
+sed -i 's/51000/2000000001/' l.asc
+ends 3 'sgm: later: height 0 is not in range' -
+begin_change "a grid that is too long"
+truncate -s 268435457 l.asc
+ends 3 'sgm: later is too long' -
+begin_change "an output that is also the later grid"
+words=(change e.asc o.csv o)
+ends 2 'sgm: word 2 is also an output' -
+begin_change "an option of a change"
+words+=(workers=2)
+ends 2 'sgm: word 4 is not an option' -
+begin_change "a difference in no folder"
+words[3]=none/o
+ends 5 'sgm: cannot write difference' -
+count=0
+for output in difference volumes; do
+    file=${both[count]}
+    begin_change "a folder as $output"
+    mkdir "$file"
+    ends 5 "sgm: cannot write $output" - "${both[@]:0:count}"
+    begin_change "a full device for $output"
+    ln -s /dev/full "$file"
+    ends 5 "sgm: cannot write $output" - "${both[@]:0:count}"
+    count=$((count + 1))
+done
+whole=$work/whole
 
 # Warps that leave every pixel where it is, in each of their kinds.
 identity='{"kind":"identity"}'
@@ -413,6 +527,14 @@ out=/dev/full ends 5 'sgm: cannot write summary' - "${outputs[@]}"
 begin "a demo with a full standard output"
 words=(demo 0)
 out=/dev/full ends 5 'sgm: cannot write summary' -
+for stream in closed /dev/full unread; do
+    begin_trace "a certificate to standard output $stream"
+    out=$stream ends 5 'sgm: cannot write summary' -
+    whole=$changed
+    begin_change "a change to standard output $stream"
+    out=$stream ends 5 'sgm: cannot write summary' - "${both[@]}"
+    whole=$work/whole
+done
 begin "a closed standard error"
 rm l.pgm
 err=closed ends 4 - -
@@ -441,6 +563,16 @@ if mount -t tmpfs -o size=4096 none "$work/disk" 2>"$work/mount"; then
     done
     pages=6 begin "a disk with room"
     ends 0 - 'valid 15 of 15' "${outputs[@]}"
+    # With the two grids there are five inputs.
+    whole=$changed
+    count=0
+    for output in difference volumes; do
+        pages=$((5 + count)) begin_change "a full disk for $output"
+        begun=${both[count]}:0 ends 5 "sgm: cannot write $output" - "${both[@]:0:count}"
+        count=$((count + 1))
+    done
+    pages=7 begin_change "a disk with room for a change"
+    ends 0 - "$compared" "${both[@]}"
     # A picture of 100 x 100 pixels, each as the other: 3 pages for each input, and 5 for OUT.pgm. Each pixel
     # has the index 0.
     whole=$work/large

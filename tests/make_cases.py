@@ -6,7 +6,8 @@
 A case has the file `words`, one word a line, and the files that the words name. The pictures are
 small and drawn from fixed numbers, so the cases are the same each time. They go over sizes, spans,
 windows, penalties, both versions, options, peaks and filling, warps, cameras, grids, regions, and the
-refusals. The last case is the example with the heap.
+refusals; over certificates in all directions; and over the change between two grids. The last case is
+the example with the heap.
 """
 
 import argparse
@@ -16,6 +17,7 @@ import sys
 
 import calibration_cases
 import random_inputs
+from reference_inputs import DIRECTIONS
 
 HEAP = os.path.join(os.path.dirname(os.path.abspath(__file__)), "..", "examples", "stockpile")
 
@@ -107,6 +109,8 @@ def cases():
         yield good(name, 40, 30, maxval, settings, options, make=shapes, deepest=8, seed=seed)
     yield from refusals(left, right)
     yield from calibrations()
+    yield from certificates()
+    yield from changes()
     yield heap()
 
 
@@ -280,6 +284,125 @@ def calibrations():
             bad = projective(1, 0, 0, 0, 1, 0, *below)
             settings = calibration(warp={side: bad, other: {"kind": "identity"}})
             yield f"corner-{corner}-{side}", {**pair, "c.json": json.dumps(settings)}
+
+
+def certificates():
+    """In each direction the certificates of a corner, a side and the middle, of pictures in which few, many or no pixels
+    are void, with fixed penalties and such that follow the picture."""
+    warps = {"left": tilted(23, 16, 6, 9), "right": shifted(40, 30, 256)}
+    small, outside = (3, 3), {"left": shifted(256 * 23, 0, 1), "right": tilted(23, 16, 2, 1)}
+    kinds = {
+        "fixed": (255, shapes, calibration(first=-2, window=small, penalties=(2, 9))),
+        "adapt": (255, shapes, second(True, window=small, penalties=(2, 60))),
+        "adapt-voids": (4095, shapes, second(True, window=(3, 5), penalties=(3, 90), warp=warps)),
+        "equal-penalties": (1, shapes, calibration(window=small, penalties=(1, 1))),
+        "no-codes": (255, shapes, calibration(window=small, warp=outside)),
+        "even": (255, even, calibration(window=small, penalties=(5, 40))),
+    }
+    for kind, (maxval, make, settings) in kinds.items():
+        for number, direction in enumerate(DIRECTIONS):
+            left, right = make(23, 16, maxval, settings["disparities"]["first"], 8, 60 + number)
+            files = {"l.pgm": left, "r.pgm": right, "c.json": json.dumps(settings)}
+            for x, y, d in [(11, 8, 3), (0, 15, 0), (22, 0, 7), (21, 14, number)]:
+                words = f"trace l.pgm r.pgm c.json {direction} {x} {y} {d}"
+                yield f"trace-{kind}-{direction}-{x}-{y}-{d}", {"words": words, **files}
+    pair = {"l.pgm": pgm(1, 1, 255, [9]), "r.pgm": pgm(1, 1, 255, [9])}
+    yield "trace-plain-settings", {"words": "trace l.pgm r.pgm - upleft 0 0 63", **pair}
+    for name, words in {
+        "column": "c.json right 23 0 0",
+        "row": "c.json right 0 16 0",
+        "index": "c.json right 0 0 8",
+        "direction": "c.json rightup 0 0 0",
+        "number": "c.json right 0 -1 0",
+        "option": "c.json right 0 0 0 workers=2",
+        "few-words": "c.json right 0 0",
+        "absent": "none right 0 0 0",
+    }.items():
+        yield "trace-wrong-" + name, {"words": "trace l.pgm r.pgm " + words, **files}
+
+
+def even(width, height, maxval, first, deepest, seed):
+    """A pair without any texture: all sequences of one index cost the same, and the first of them is shown."""
+    return [pgm(width, height, maxval, [seed] * (width * height))] * 2
+
+
+# Grids and changes
+
+
+def asc(cells, west=-2000, south=3000, cell=500):
+    """The text of a grid of these rows, as the program writes it."""
+    head = {"ncols": len(cells[0]), "nrows": len(cells), "xllcorner": west, "yllcorner": south, "cellsize": cell}
+    lines = [f"{name} {value}" for name, value in head.items()] + ["NODATA_value -2147483648"]
+    return "".join(line + "\n" for line in [*lines, *(" ".join(map(str, row)) for row in cells)])
+
+
+def ground(cols, rows, seed):
+    """The heights of a ground with some empty cells."""
+    draw = Draw(seed)
+    height = lambda: -2147483648 if draw.below(6) == 0 else draw.below(4000001) - 2000000
+    return [[height() for _ in range(cols)] for _ in range(rows)]
+
+
+def changes():
+    def good(name, earlier, later):
+        return "change-" + name, {"words": "change e.asc l.asc o", "e.asc": earlier, "l.asc": later}
+
+    first, second_one = asc(ground(12, 9, 1)), asc(ground(12, 9, 2))
+    yield good("of-two", first, second_one)
+    yield good("of-none", first, first)
+    yield "change-with-itself", {"words": "change e.asc e.asc o", "e.asc": first}
+    yield good("one-cell", asc([[7]]), asc([[-7]]))
+    yield good("one-row", asc(ground(40, 1, 3)), asc(ground(40, 1, 4)))
+    yield good("one-column", asc(ground(1, 40, 5)), asc(ground(1, 40, 6)))
+    empty = asc([[-2147483648] * 3] * 2)
+    yield good("empty", empty, empty)
+    yield good("come", empty, asc([[1, 2, 3]] * 2))
+    yield good("gone", asc([[1, 2, 3]] * 2), empty)
+    ends = {"west": -2000000000, "south": 2000000000, "cell": 1000000000}
+    low, high = ([[height] * 4 for _ in range(3)] for height in (-2000000000, 2000000000))
+    yield good("greatest-rise", asc(low, **ends), asc(high, **ends))
+    yield good("greatest-fall", asc(high, **ends), asc(low, **ends))
+    for name, text in {
+        "crlf": first.replace("\n", "\r\n"),
+        "tabs": first.replace(" ", "\t \t"),
+        "one-line": first.replace("\n", " "),
+        "a-word-a-line": first.replace(" ", "\n"),
+        "upper-case": first.upper(),
+        "lower-case": first.lower(),
+        "leading-zeros": first.replace(" ", " 000").replace(" 000-", " -000").replace("NODATA_value 000", "NODATA_value "),
+        "no-last-line-feed": first.rstrip("\n"),
+    }.items():
+        yield good("read-" + name, text, second_one)
+        yield good("read-later-" + name, second_one, text)
+    yield from grid_faults(first)
+
+
+def grid_faults(text):
+    """A fault of each kind and place, in either grid."""
+    words = text.split()
+    made = {"nothing": "", "spaces": " \t\r\n", "cut": text[: len(text) // 2], "a-height-more": text + "0\n"}
+    for at in range(12):
+        made[f"cut-before-word-{at}"] = " ".join(words[:at])
+        for odd in ("x", "7", "-", "1.5", "+3", "2147483648", "-2147483649"):
+            made[f"word-{at}-is-{odd}"] = " ".join([*words[:at], odd, *words[at + 1 :]])
+    for at in (12, 13, 12 + 12 * 9 - 1):
+        made[f"no-word-{at}"] = " ".join(words[:at] + words[at + 1 :])
+        for odd in ("x", "-", "1.5", "2000000000", "2000000001", "-2000000000", "-2000000001", "-9999999999", "-2147483649"):
+            made[f"word-{at}-is-{odd}"] = " ".join([*words[:at], odd, *words[at + 1 :]])
+    for name, fault in made.items():
+        yield "change-earlier-" + name, {"words": "change e.asc l.asc o", "e.asc": fault, "l.asc": text}
+        yield "change-later-" + name, {"words": "change e.asc l.asc o", "e.asc": text, "l.asc": fault}
+    both = {"e.asc": made["word-7-is-x"], "l.asc": made["word-0-is-x"]}
+    yield "change-two-faults", {"words": "change e.asc l.asc o", **both}
+    for name, words in {
+        "absent": "change e.asc none o",
+        "output-is-earlier": "change o.asc e.asc o",
+        "output-is-later": "change e.asc o.csv o",
+        "option": "change e.asc e.asc o strips=1",
+        "few-words": "change e.asc e.asc",
+        "no-folder": "change e.asc e.asc none/o",
+    }.items():
+        yield "change-wrong-" + name, {"words": words, "e.asc": text}
 
 
 def heap():

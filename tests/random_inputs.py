@@ -476,11 +476,104 @@ def faulty_calibration(draw, width, height):
     return before + data + after
 
 
+# Grids
+
+
+GRID_KEYS = {name: (key, low, high) for name, key, low, high in reference_inputs.GRID_HEAD}
+
+
+def grid_head(draw):
+    """The numbers of a small grid, by their keys."""
+    head = {}
+    for key, low, high in GRID_KEYS.values():
+        head[key] = draw.between(1, 6) if key in ("cols", "rows") else draw.of([low, high, 0, 1, draw.between(low, high)])
+        head[key] = max(low, min(high, head[key]))
+    return head
+
+
+def heights_of(draw, count, empty):
+    """That many heights; so many of a hundred cells are empty."""
+    highest = reference_inputs.HIGHEST
+    near = draw.between(-highest, highest - 5)
+
+    def height():
+        if draw.chance(empty):
+            return reference_inputs.EMPTY
+        return draw.of([near, near, near + draw.below(6), 0, -highest, highest, draw.between(-highest, highest)])
+
+    return [height() for _ in range(count)]
+
+
+def loose_number(draw, value):
+    sign = "-" if value < 0 or (value == 0 and draw.chance(30)) else ""
+    return (sign + "0" * draw.of([0, 0, 0, 1, 30]) + str(abs(value))).encode()
+
+
+def loose_name(draw, name):
+    mixed = bytes(draw.of([byte, byte ^ 32]) if 97 <= byte <= 122 else byte for byte in name)
+    return draw.of([name, name.upper(), name.title(), mixed])
+
+
+def grid_words(draw, head, heights, is_loose):
+    """The words of a grid's text."""
+    number_of = (lambda value: loose_number(draw, value)) if is_loose else (lambda value: str(value).encode())
+    words = []
+    for name, (key, *_) in GRID_KEYS.items():
+        plain = name.replace(b"nodata", b"NODATA")
+        words += [loose_name(draw, name) if is_loose else plain, number_of(head[key])]
+    return words + [number_of(height) for height in heights]
+
+
+def grid_text(draw, words, cols, is_loose):
+    """The text of such words: in lines as the program writes them, or with white space of any kind."""
+    if is_loose:
+        every = [b" ", b"\t", b"\n", b"\r\n", b"\r", b" \n\n\t "]
+        spaces = draw.of([[b" "], [b"\n"], [b"\r\n"], [b"\t", b"  "], every])
+        ends = [draw.of([b"", *spaces]), draw.of([b"", *spaces])]
+        return ends[0] + b"".join(word + draw.of(spaces) for word in words[:-1]) + b"".join(words[-1:]) + ends[1]
+    head, heights = words[:12], words[12:]
+    lines = [head[at : at + 2] for at in range(0, len(head), 2)]
+    lines += [heights[at : at + cols] for at in range(0, len(heights), cols)]
+    return b"".join(b" ".join(line) + b"\n" for line in lines)
+
+
+ODD_GRID_WORDS = [
+    b"-", b"+1", b"--1", b"1-", b"1.0", b"1e3", b"0x10", b"nan", b"x", b"\xff", b"\0", b"-9999999999", b"-9999", b"1\v2",
+    b"\xd9\xa1", b"xllcenter", b"yllcenter", b"ncols", b"NODATA", b"9" * 40, b"-" + b"9" * 40, b"0" * 60, b"-0",
+]  # fmt: skip
+
+
+def ill(draw, words):
+    """The words with one that is changed, put in or taken out: mostly a fault, at times only near to one."""
+    words, what = list(words), draw.below(8)
+    if what < 1:
+        words[draw.below(min(len(words), 12))] = draw.of(ODD_GRID_WORDS)
+    elif what < 3:
+        line = draw.below(len(GRID_KEYS))
+        _, low, high = list(GRID_KEYS.values())[line]
+        words[2 * line + 1 : 2 * line + 2] = [str(draw.of([low - 1, low, high, high + 1])).encode()]
+    elif what < 6 and len(words) > 12:
+        at = 12 + draw.below(len(words) - 12)
+        ends = [reference_inputs.HIGHEST, -reference_inputs.HIGHEST, reference_inputs.EMPTY, -reference_inputs.EMPTY]
+        near = [str(end + more).encode() for end in ends for more in (-1, 0, 1)]
+        words[at : at + 1] = [draw.of([*ODD_GRID_WORDS, *near])]
+    elif what == 6:
+        at = draw.below(len(words))
+        words.insert(at, draw.of([words[at], b"0", b"1", draw.of(ODD_GRID_WORDS)]))
+    else:
+        at = draw.below(len(words))
+        words[at : at + draw.of([1, 1, 1, 2, len(words)])] = []
+    return words
+
+
 # Words
 
 
 GOOD_WORDS = ["match", "l.pgm", "r.pgm", "c.json", "o"]
+TRACE_WORDS = ["trace", "l.pgm", "r.pgm", "c.json", "right", "0", "0", "0"]
+CHANGE_WORDS = ["change", "e.asc", "l.asc", "o"]
 ODD_WORDS = [
+    "trace", "change", "right", "left", "downright", "upleft", "Right", "UP", "up ", "rightdown", "sideways", "e.asc", "l.asc",
     "", "-", "--", "--help", "-h", "match", "demo", "MATCH", "match ", "0", "7", "4294967295", "4294967296", "00", "-1", "+1",
     "1.0", "\u0661", "l.pgm", "r.pgm", "c.json", "o", "o.pgm", "o.asc", "o.csv", "./o.pgm", "strips", "strips=", "strips=0",
     "strips=1", "strips=2", "strips=3", "strips=64", "strips=65", "strips=00064", "strips=1 ", " strips=1", "strips =1",
@@ -513,9 +606,21 @@ def odd_option(draw):
     return f"{name}={draw.of(['', '0', '00', '1', most - 1, most, most + 1, f'0{most}', f'0{most + 1}', 10 * most, -1])}"
 
 
+def trace_words(draw, width, height, count):
+    """The words of a certificate, mostly of a pixel and an index that there are."""
+    spots = []
+    for most in (width, height, count):
+        inside = draw.of([0, most - 1, draw.below(most), draw.below(most)])
+        number = inside if draw.chance(97) else draw.of([most, most + 1, 4095, 4096, 4294967295])
+        spots.append("0" * draw.of([0, 0, 0, 0, 1, 20]) + str(number))
+    return TRACE_WORDS[:4] + [draw.of(reference_inputs.DIRECTIONS), *spots]
+
+
 def odd_words(draw):
-    words = list(GOOD_WORDS) if draw.chance(80) else ["demo", draw.of(["5", "x", "", "4294967296", "0" * 30])]
-    words += options(draw)
+    words = draw.of([GOOD_WORDS, GOOD_WORDS, GOOD_WORDS, TRACE_WORDS, TRACE_WORDS, CHANGE_WORDS, ["demo"]])
+    words = words + [draw.of(["5", "x", "", "4294967296", "0" * 30])] if words == ["demo"] else list(words)
+    words += options(draw) if words[0] in ("match", "demo") or draw.chance(15) else []
+    command = reference_inputs.COMMANDS[words[0]]
     for _ in range(draw.of([1, 1, 2, 3])):
         at = draw.below(len(words) + 1)
         what = draw.below(8)
@@ -523,12 +628,17 @@ def odd_words(draw):
             words[at : at + 1] = []
         elif what == 1:
             words[at : at + 1] = [draw.of(ODD_WORDS)]
-        elif what < 4:
-            # The three inputs, one of which may be an output.
-            here = draw.between(1, 3)
+        elif what < 4 and command.names:
+            # The inputs, one of which may be an output.
+            here = draw.between(1, 2 if words[0] == "change" else 3)
             words[here : here + 1] = [draw.of(["o.pgm", "o.asc", "o.csv", "O.pgm", "./o.csv", "o", ""])]
         elif what == 4:
             words.append(draw.of(words or ODD_WORDS))
+        elif what == 5 and command.operands > command.names:
+            # What stands behind the names: a direction and numbers.
+            here = draw.of([command.names + 1, draw.between(command.names + 1, command.operands)])
+            odd = ["", "1", "07", "-1", "+1", "1.0", "4294967295", "4294967296", "\u0661", "up", "downleft", "Left"]
+            words[here : here + 1] = [draw.of([*odd, draw.of(ODD_WORDS)])]
         else:
             # Odd options come behind the operands, where they are looked at.
             words.insert(draw.of([at, len(words), len(words)]), draw.of([odd_option(draw), draw.of(ODD_WORDS)]))
@@ -560,14 +670,15 @@ def files_of(pair, calibration):
 def words_case(draw):
     width, height = sides_of(draw, 60)
     calibration = json_text(draw, settings(draw, 0, draw.between(1, 4)), False).encode()
-    words = odd_words(draw)
+    files, words = files_of(pair_of(draw, width, height), calibration), odd_words(draw)
+    files |= grids_of(draw)[0]
     try:
         reference_inputs.read_words(words)
         # A demo that runs takes the reference too long.
         words += ["again"] if words[0] == "demo" else []
     except reference_inputs.Ended:
         pass
-    return words, files_of(pair_of(draw, width, height), calibration)
+    return words, files
 
 
 def picture_case(draw):
@@ -634,17 +745,85 @@ def scene_case(draw):
     return words, files_of(pair, json_text(draw, whole, False).encode())
 
 
+def trace_case(draw):
+    """A certificate: of a picture of shapes or of noise, with voids by warps, and penalties that follow the picture."""
+    if draw.chance(50):
+        _, files = scene_case(draw)
+    else:
+        _, files = survey_case(draw)
+    words = trace_words(draw, 6, 5, 4)
+    try:
+        image = reference_inputs.read_pgm(files["l.pgm"], "left")
+        count = reference_inputs.read_calibration(files["c.json"]).count
+        words = trace_words(draw, image.width, image.height, count)
+    except reference_inputs.Ended:
+        pass
+    if draw.chance(4):
+        words[3] = "-"
+    return words, files
+
+
+def grids_of(draw):
+    """The texts of two grids of one ground, mostly with most cells alike: the files, the numbers of the head, the words
+    of both, and of each whether it is written loosely."""
+    head = grid_head(draw)
+    count, empty = head["cols"] * head["rows"], draw.of([0, 10, 40, 100])
+    earlier = heights_of(draw, count, empty)
+    later = heights_of(draw, count, empty)
+    if draw.chance(60):
+        later = [draw.of([before, before, after]) for before, after in zip(earlier, later)]
+    is_loose = [draw.chance(50), draw.chance(50)]
+    both = [grid_words(draw, head, heights, loose) for heights, loose in zip((earlier, later), is_loose)]
+    texts = [grid_text(draw, words, head["cols"], loose) for words, loose in zip(both, is_loose)]
+    return dict(zip(("e.asc", "l.asc"), texts)), head, both, is_loose
+
+
+def change_case(draw):
+    """The change between two grids, of which one may be of another ground or have faults."""
+    files, head, both, is_loose = grids_of(draw)
+    what, which = draw.below(10), draw.below(2)
+    name = ("e.asc", "l.asc")[which]
+    if what < 2:
+        # Another ground: one number differs, or some do.
+        other = dict(head)
+        for _ in range(draw.of([1, 1, 2])):
+            key = draw.of(["cols", "rows", "west", "south", "cell"])
+            low, high = reference_inputs.RANGES["grid." + key]
+            other[key] = min(high, max(low, other[key] + draw.of([-1, 1, 1000])))
+            other["cols"], other["rows"] = min(other["cols"], 7), min(other["rows"], 7)
+        heights = heights_of(draw, other["cols"] * other["rows"], 20)
+        words = grid_words(draw, other, heights, is_loose[which])
+        files[name] = grid_text(draw, words, other["cols"], is_loose[which])
+    elif what < 6:
+        words = ill(draw, both[which])
+        for _ in range(draw.below(3)):
+            words = ill(draw, words) if words else words
+        files[name] = grid_text(draw, words, head["cols"], is_loose[which])
+        if draw.chance(10):
+            files["e.asc"] = files["l.asc"] = files[name]
+    elif what < 7:
+        files[name] = damaged(draw, files[name])
+    elif what < 8:
+        files[name] = files[name][: draw.below(len(files[name]) + 1)]
+    if draw.chance(5):
+        return ["change", "l.asc", "l.asc", "o"], files
+    return list(CHANGE_WORDS), files
+
+
 def place_case(draw):
     """Inputs and outputs that aren't plain files of their own."""
     width, height = sides_of(draw, 60)
     grid = grid_of(draw)
     sections = {"camera": camera_of(draw), "grid": grid, "regions": regions_of(draw, grid)}
     calibration = json_text(draw, settings(draw, 0, draw.between(1, 4), **sections), False).encode()
-    words, files = GOOD_WORDS + options(draw), files_of(pair_of(draw, width, height), calibration)
+    files = files_of(pair_of(draw, width, height), calibration) | grids_of(draw)[0]
+    plain = draw.of([GOOD_WORDS, GOOD_WORDS, GOOD_WORDS, TRACE_WORDS, CHANGE_WORDS, CHANGE_WORDS])
+    words = list(plain) + (options(draw) if plain == GOOD_WORDS else [])
+    inputs = plain[1:3] if plain == CHANGE_WORDS else plain[1:4]
     for _ in range(draw.of([1, 1, 2])):
         output = draw.of(["o.pgm", "o.asc", "o.csv"])
-        name = draw.of(["l.pgm", "r.pgm", "c.json"])
-        at = GOOD_WORDS.index(name)
+        name = draw.of(inputs)
+        at = plain.index(name)
         what = draw.below(9)
         if what == 0:
             files.pop(name, None)
@@ -654,8 +833,8 @@ def place_case(draw):
             files[output] = draw.of([FOLDER, Link("/dev/full"), Link("/dev/null"), Link("none/o"), Link(output)])
         elif what == 3:
             files[output] = b"what was there before, and longer than some texts\n" * draw.of([0, 1, 40])
-        elif what == 4:
-            words[4] = draw.of(["none/o", "./o", "a b", "\u00fc", "-", "o.pgm", "a\nb", "/dev/null/o", "x" * 300])
+        elif what == 4 and "o" in words:
+            words[plain.index("o")] = draw.of(["none/o", "./o", "a b", "\u00fc", "-", "o.pgm", "a\nb", "/dev/null/o", "x" * 300])
         elif what == 5:
             words[at] = draw.of(["none", "./" + name, "none/" + name, "x" * 300, "/dev/null", "./" + output, "."])
         elif what == 6:
@@ -664,22 +843,24 @@ def place_case(draw):
             # An input that stands under an output's name, which no comparison of words shows.
             files[output] = files.get(name, b"")
             words[at] = "./" + output
-        else:
+        elif "o" in words:
             files["dir"] = FOLDER
-            words[4] = "dir/../o"
+            words[plain.index("o")] = "dir/../o"
     return words, files
 
 
 KINDS = {
     "surveys": survey_case,
     "scenes": scene_case,
+    "traces": trace_case,
+    "changes": change_case,
     "calibrations": calibration_case,
     "pictures": picture_case,
     "words": words_case,
     "places": place_case,
 }
-TURNS = "surveys calibrations words scenes pictures surveys calibrations".split()
-TURNS += "places words scenes pictures calibrations scenes surveys".split()
+TURNS = "surveys calibrations words traces scenes changes pictures surveys calibrations traces".split()
+TURNS += "places changes words scenes traces pictures calibrations changes scenes surveys".split()
 
 
 def case_of(seed, number):

@@ -1,11 +1,12 @@
 #!/usr/bin/env bash
-# Runs the worked example with three strips and two workers, and refuses it memory: the first allocation in the
-# first run, the second one in the second, and so on, until a run takes none of that number. All workers count
-# together, so a number may fall to any of them. Each run has to end Done, with the files and the summary whole;
-# or out of memory, with its line and status, nothing on standard output, and each file as it was, but for outputs
-# up to one: those before that one whole, and that one the beginning of its text. All is tried twice, over a folder
-# without outputs and over one with older ones. The program is the one that the variable SGM names (./sgm of this
-# repository without it); gcc builds the library that refuses, which takes the place of the C library's calls.
+# Runs the worked example with three strips and two workers, a certificate of one of its pixels, and the change between
+# its grid and another, and refuses each memory: the first allocation in the first run, the second one in the second,
+# and so on, until a run takes none of that number. All workers count together, so a number may fall to any of them.
+# Each run has to end Done, with the files and the summary whole; or out of memory, with its line and status, nothing
+# on standard output, and each file as it was, but for outputs up to one: those before that one whole, and that one the
+# beginning of its text. All is tried twice, over a folder without outputs and over one with older ones. The program is
+# the one that the variable SGM names (./sgm of this repository without it); gcc builds the library that refuses, which
+# takes the place of the C library's calls.
 #
 #     tests/refused_allocations.sh
 set -u
@@ -20,9 +21,26 @@ if ! head -c 4 "$program" | grep -q ELF; then
     echo "refused_allocations: skipped: $program is no built program"
     exit 0
 fi
-most=100000 failed=0
-line='sgm: no memory' summary='valid 15 of 15'
-outputs=(o.pgm o.asc o.csv)
+most=100000 failed=0 line='sgm: no memory'
+inputs=(l.pgm r.pgm c.json e.asc l.asc)
+
+# of COMMAND: sets the words of a run, the summary and the outputs.
+of() {
+    case $1 in
+    match)
+        words=(match l.pgm r.pgm c.json o strips=3 workers=2) summary='valid 15 of 15'
+        outputs=(o.pgm o.asc o.csv)
+        ;;
+    trace)
+        words=(trace l.pgm r.pgm c.json right 2 1 1) summary=$'least 15\n0 1 0 8 0\n1 1 0 6 0\n2 1 1 0 1'
+        outputs=()
+        ;;
+    change)
+        words=(change e.asc l.asc o) summary='compared 9 of 12'
+        outputs=(o.asc o.csv)
+        ;;
+    esac
+}
 
 cat >"$work/refuse.c" <<'C'
 #include <errno.h>
@@ -73,9 +91,16 @@ int posix_memalign(void **into, size_t unit, size_t size) {
 C
 gcc -O2 -shared -fPIC -o "$work/refuse.so" "$work/refuse.c" || exit 1
 
-# begin FOLDER [TEXT]: a folder with the example, and outputs of that text.
+# The example's grid, and a later one in which the ground rose.
+{
+    printf '%s\n' 'ncols 4' 'nrows 3' 'xllcorner 2000' 'yllcorner -2000' 'cellsize 1000' 'NODATA_value -2147483648'
+    for _ in 1 2 3; do echo 50000 50000 50000 -2147483648; done
+} >"$work/e.asc"
+sed 's/50000/51000/' "$work/e.asc" >"$work/l.asc"
+
+# begin FOLDER [TEXT]: a folder with the inputs, and outputs of that text.
 begin() {
-    rm -rf "$1" && mkdir "$1" && cp "$top"/crates/sgm_cli/data/{l.pgm,r.pgm,c.json} "$1" || exit 1
+    rm -rf "$1" && mkdir "$1" && cp "$top"/crates/sgm_cli/data/{l.pgm,r.pgm,c.json} "$work"/{e,l}.asc "$1" || exit 1
     [ $# = 1 ] || for file in "${outputs[@]}"; do echo "$2" >"$1/$file"; done
 }
 
@@ -87,38 +112,34 @@ same() { if [ -e "$1" ]; then cmp -s "$1" "$2"; else [ ! -e "$2" ]; fi; }
 
 # stopped: whether the files in made are those of a run that stopped at some output, or before all.
 stopped() {
-    local at=0
-    while [ $at -lt 3 ] && cmp -s "made/${outputs[at]}" "whole/${outputs[at]}" && ! same "made/${outputs[at]}" "before/${outputs[at]}"; do
+    local at=0 count=${#outputs[@]}
+    while [ $at -lt "$count" ] && cmp -s "made/${outputs[at]}" "whole/${outputs[at]}" && ! same "made/${outputs[at]}" "before/${outputs[at]}"; do
         at=$((at + 1))
     done
-    [ $at = 3 ] && return
+    [ $at = "$count" ] && return
     same "made/${outputs[at]}" "before/${outputs[at]}" || is_beginning "made/${outputs[at]}" "whole/${outputs[at]}" || return
-    while at=$((at + 1)) && [ $at -lt 3 ]; do same "made/${outputs[at]}" "before/${outputs[at]}" || return; done
+    while at=$((at + 1)) && [ $at -lt "$count" ]; do same "made/${outputs[at]}" "before/${outputs[at]}" || return; done
 }
 
 is_done() { [ "$status" = 0 ] && diff -r whole made >/dev/null && [ "$(cat out)" = "$summary" ] && [ ! -s err ]; }
 
-# The run in made, whose memory is refused at this number, if one is given. Sets status.
+# run [NUMBER]: the run in made, whose memory is refused at this number, if one is given. Sets status.
 run() {
     (cd made && env ${1:+LD_PRELOAD="$work/refuse.so"} REFUSED_ALLOCATION="${1-}" REFUSED_MARK="$work/mark" \
-        "$program" match l.pgm r.pgm c.json o strips=3 workers=2 >"$work/out" 2>"$work/err" </dev/null)
+        "$program" "${words[@]}" >"$work/out" 2>"$work/err" </dev/null)
     status=$?
 }
 
 wrong() {
     failed=$((failed + 1))
-    echo "refused_allocations: allocation $number, $what: $1"
+    echo "refused_allocations: ${words[0]}, allocation $number, $what: $1"
     cp -r made "$work/out" "$work/err" "$(mktemp -d "${TMPDIR:-/tmp}/sgm-refused_allocations.$number.XXXXXX")"
 }
 
-cd "$work" || exit 1
-begin made && run && mv made whole || exit 1
-if [ "$status" != 0 ] || [ "$(cat out)" != "$summary" ] || [ ! -s whole/o.csv ]; then
-    echo "refused_allocations: the worked example ends with $status: $(cat err)" >&2
-    exit 1
-fi
-count=0 without=0 with=0
-for what in "no older outputs" "older outputs"; do
+# refuse_each WHAT: refuses the words each allocation in turn, over older outputs where WHAT says so. Counts the
+# allocations in taken, and the runs in with and without.
+refuse_each() {
+    local what=$1 file
     for ((number = 1; number <= most; number++)); do
         rm -rf before mark
         if [ "$what" = "older outputs" ]; then begin made older; else begin made; fi
@@ -134,7 +155,7 @@ for what in "no older outputs" "older outputs"; do
             without=$((without + 1))
             printf '%s\n' "$line" | cmp -s - err || wrong "standard error has '$(cat err)'"
             [ ! -s out ] || wrong "standard output has '$(cat out)'"
-            for file in l.pgm r.pgm c.json; do same "made/$file" "before/$file" || wrong "$file changed"; done
+            for file in "${inputs[@]}"; do same "made/$file" "before/$file" || wrong "$file changed"; done
             [ -z "$(comm -13 <(ls whole) <(ls made))" ] || wrong "another file came"
             stopped || wrong "the outputs are neither as before nor those of a run that stopped"
             ;;
@@ -143,9 +164,25 @@ for what in "no older outputs" "older outputs"; do
     done
     # A run that takes none of the number is as any other.
     is_done || wrong "none was refused, and it isn't done"
-    count=$((count + number - 1))
-    counts=${counts:+$counts and }$((number - 1))
+    [ "$number" -gt 1 ] || wrong "no allocation was refused"
+    taken+=("$((number - 1))")
+}
+
+cd "$work" || exit 1
+without=0 with=0 told=
+for command in match trace change; do
+    of $command
+    rm -rf whole
+    begin made && run && mv made whole || exit 1
+    for file in "${outputs[@]}"; do [ -s "whole/$file" ] || status="$status, without $file"; done
+    if [ "$status" != 0 ] || [ "$(cat out)" != "$summary" ]; then
+        echo "refused_allocations: $command ends with $status: $(cat err)" >&2
+        exit 1
+    fi
+    taken=()
+    refuse_each "no older outputs"
+    [ ${#outputs[@]} = 0 ] || refuse_each "older outputs"
+    told+="${told:+, }$command ${taken[*]}"
 done
-[ "$count" -gt 0 ] || { echo "refused_allocations: no allocation was refused" && exit 1; }
-echo "refused_allocations: $counts allocations, each refused in a run of its own: $with runs done, $without out of memory, $failed wrong"
+echo "refused_allocations: allocations of $told, each refused in a run of its own: $with runs done, $without out of memory, $failed wrong"
 [ "$failed" = 0 ]

@@ -13,11 +13,10 @@ import argparse
 import functools
 import os
 import re
-import subprocess
 import sys
 import tempfile
 
-import reference
+import random_cases
 import reference_inputs
 from test_reference import WORKED
 
@@ -84,9 +83,8 @@ def answer(words, files, absent):
         for name, data in files:
             with open(os.path.join(folder, name), "wb") as file:
                 file.write(data)
-        command = [sys.executable, os.path.abspath(reference.__file__), *words]
-        done = subprocess.run(command, cwd=folder, capture_output=True)
-        parts = [str(done.returncode)]
+        status, out, err = random_cases.run_reference(folder, words)
+        parts = [str(status)]
         for name in OUTPUTS:
             path, shown = os.path.join(folder, name), absent
             if os.path.exists(path):
@@ -94,7 +92,7 @@ def answer(words, files, absent):
                     data = file.read()
                 shown = quoted(data) if len(data) <= ROOM else "too long"
             parts.append(f"{name} {shown}")
-    return " | ".join([*parts, f"out {quoted(done.stdout)}", f"err {quoted(done.stderr)}"])
+    return " | ".join([*parts, f"out {quoted(out)}", f"err {quoted(err)}"])
 
 
 def hold(is_writing):

@@ -1,0 +1,75 @@
+"""Lists of a series that look random, each made from a seed and a number alone.
+
+Most have no fault; the others have a line with too few or too many words, entries that clash, bytes that aren't UTF-8,
+or an entry too many. What stands between the words is of any kind, and words have letters of any kind.
+"""
+
+from random_inputs import Draw
+
+LIST = "list.txt"
+SPACES = [" ", " ", "  ", "\t", "\r", " \r\t "]
+# What other rules take for white space or an end of a line is a part of a word here.
+ODD_LETTERS = ["\v", "\f", "\0", "\x1c", "\x85", "\u00a0", "\u2003", "\u2028", "\ufeff", "\u00e4", "\u65e5", "\U0001f600", "#", '"', "\\"]
+ILL_BYTES = [b"\xff", b"\x80", b"\xc3", b"\xc0\xaf", b"\xed\xa0\x80", b"\xf4\x90\x80\x80", b"\xe2\x82", b"\xf8\x88\x80\x80\x80"]
+
+
+def name_of(draw, stem, number):
+    return f"{stem}{number}{draw.of(ODD_LETTERS) if draw.chance(10) else ''}"
+
+
+def entries_of(draw, count):
+    """The words of so many entries that don't clash."""
+    made = []
+    for number in range(count):
+        calib = draw.of(["-", "-", "c.json", name_of(draw, "c", number)])
+        pair = ["l.pgm", "r.pgm"] if draw.chance(40) else [name_of(draw, "l", number), name_of(draw, "r", number)]
+        made.append([*pair, calib, name_of(draw, "o", number)])
+    return made
+
+
+def clash(draw, entries):
+    """Makes an entry clash, most of the time."""
+    entry, other = draw.of(entries), draw.of(entries)
+    what, ending = draw.below(6), draw.of([".pgm", ".asc", ".csv", ".PGM", ".json", ""])
+    if what == 0:
+        entry[3] = other[3]
+    elif what < 4:
+        entry[draw.below(3)] = other[3] + ending
+    elif what == 4:
+        entry[3] = LIST.removesuffix(".txt") if draw.chance(20) else LIST
+    else:
+        entry[draw.below(4)] = draw.of([LIST, "-", "-.pgm", "./" + other[3] + ".pgm"])
+
+
+def list_of(seed, number):
+    """A list's bytes and the name under which it is held."""
+    draw = Draw(seed, number)
+    count = draw.of([0, 1, 1, 2, 3, 5, draw.below(20)])
+    if draw.chance(3):
+        count = draw.of([1000, 1001, 1200])
+    entries = entries_of(draw, count)
+    while entries and draw.chance(40):
+        clash(draw, entries)
+    if entries and draw.chance(20):
+        entry = draw.of(entries)
+        if draw.chance(50):
+            del entry[draw.below(len(entry))]
+        else:
+            entry.insert(draw.below(5), draw.of(["-", "x", "workers=2"]))
+    # The name of the list, at times one that an entry writes.
+    name = draw.of([LIST, LIST, LIST, LIST + ".pgm", "o0.pgm", "o1.csv"])
+    blank = lambda: "".join(draw.of(SPACES) for _ in range(draw.of([0, 0, 0, 1, 2])))
+    lines = []
+    for entry in entries:
+        while draw.chance(15):
+            lines.append(blank())
+        lines.append(blank() + "".join(word + draw.of(SPACES) for word in entry[:-1]) + "".join(entry[-1:]) + blank())
+    data = draw.of(["\n", "\n", "\r\n"]).join(lines).encode() + draw.of([b"\n", b"", b"\r\n", b"\n\n"])
+    if draw.chance(12):
+        at = draw.below(len(data) + 1)
+        data = data[:at] + draw.of(ILL_BYTES) + data[at:]
+    if draw.chance(5):
+        data = data[: draw.below(len(data) + 1)]
+    if draw.chance(1):
+        data += b" " * (draw.of([1048576, 1048577]) - len(data))
+    return data, name
