@@ -2,7 +2,8 @@
 ghost use Rattle.std.specs.Prelude.{◌≡◌, ◌≤◌, ◌+◌, ◌++◌, length, codes, decimal};
 ghost use Rattle.sgm_calib.specs.Paths.{path_of};
 ghost use Rattle.sgm_rectify.specs.declared.warp.WarpFault.TheVariants.{MeshSize};
-ghost use Rattle.sgm_outcome.specs.Lines.{side_word, image_line, pgm_line, calib_line, warp_line, sizes_line, input_line, asc_line, refusal_line};
+ghost use Rattle.sgm_outcome.specs.Lines.{side_word, image_line, pgm_line, calib_line, warp_line, sizes_line};
+ghost use Rattle.sgm_outcome.specs.Lines.{input_line, asc_line, refusal_line};
 
 use crate::Refusal;
 use crate::line::{Line, MAX_LINE};
