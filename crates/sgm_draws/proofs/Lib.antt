@@ -4,3 +4,4 @@ pub mod Steps
 pub mod Seats
 pub mod Dealing
 pub mod Crossing
+pub mod Popping

@@ -1,23 +1,22 @@
 -- What the calls of a table ask of a step, a split and a join.
-use Rattle.std.proofs.Common.{◌≡◌, ◌≢◌, ℕ, zero, suc, ◌+◌, ◌%◌, ◌^◌, ◌<◌, ◌≤◌, ◌⊎◌, Bool, true, false, cond, leb, min, max, List, [], ◌∷◌, ◌++◌, length, get_or, set, length-append, sym, refl, ap, ◌∙◌, subst, inl, inr, ⊎_elim, arith, mod-eq_of_lt}
+use Rattle.std.proofs.Common.{◌≡◌, ℕ, suc, ◌+◌, ◌%◌, ◌^◌, ◌<◌, ◌≤◌, Bool, true, false, cond, leb, min, max, List, [], ◌∷◌, ◌++◌, length, get_or, set, length-append, sym, refl, ap, ◌∙◌, subst, inl, inr, ⊎_elim, arith, mod-eq_of_lt}
 use mathlib.Core.Option as maybe
 use mathlib.Core.Option.{some}
-use lib.ListN.{get_elem?}
 use lib.Seq.{set-get_or}
-use Rattle.std.specs.List.{All, sum_by}
+use Rattle.std.specs.List.{sum_by}
 use Rattle.std.proofs.lemmas.List.Elements.{All-set, All-append}
 use Rattle.std.proofs.lemmas.List.Sums.{sum_by-append}
 use Rattle.std.proofs.lemmas.Bool.Decides.{leb_tells}
-use Rattle.atomic_table.specs.Table.{State, step, keeps, Allows, Splits, Joins, opening}
+use Rattle.atomic_table.specs.Table.{step, keeps, Allows, Splits, Joins, opening}
 use Rattle.atomic_table.proofs.Lists.{set_else}
 use Rattle.sgm_draws.specs.declared.view.View.{View}
 use Rattle.sgm_draws.specs.Numbers.{times, once_below, IsEachOnce}
 use Rattle.sgm_draws.specs.Views.{IsLive, spent, new_view, dealer, kept_view, dealt_view, after_draw, after_end, joined_view, count_up}
-use Rattle.sgm_draws.specs.Rules.{Rule, times_drawn, times_gathered, all_gathered, gathered_at_end, ends_seen, word_of}
-use Rattle.sgm_draws.specs.Plays.{Known, HasAllOf, draw_told, check_told}
+use Rattle.sgm_draws.specs.Rules.{Rule, gathered_at_end, word_of}
+use Rattle.sgm_draws.specs.Plays.{Known, draw_told, check_told}
 use Rattle.sgm_draws.proofs.Sums.{set_same, at_all, all_one, moved}
-use Rattle.sgm_draws.proofs.Numbers.{times_append, times_cons, times_own, times_short, once_yes, once_most, times_all, length_count_up}
-use Rattle.sgm_draws.proofs.Steps.{Table, IsTicket, end_yes, end_no, bounded, drawn_all, drew, ended}
+use Rattle.sgm_draws.proofs.Numbers.{times_append, times_cons, times_own, once_yes, times_all, length_count_up}
+use Rattle.sgm_draws.proofs.Steps.{IsTicket, bounded, drawn_all, drew, ended}
 
 module _ (count made : ℕ) where
   pub draws : (slots id : ℕ) (me : Known) → count < 2 ^ 32 → made < 2 ^ 32 → IsLive count made me.0 → me.0.seen < count

@@ -1,24 +1,19 @@
 -- The steps of tickets keep the rule.
-use Rattle.std.proofs.Common.{◌≡◌, ◌≢◌, ℕ, zero, suc, ◌+◌, ◌%◌, ◌^◌, ◌<◌, ◌≤◌, ◌⊎◌, Bool, true, false, cond, leb, min, max, List, [], ◌∷◌, ◌++◌, length, get_or, set, length-set, length-append, get_or-set_same, sym, refl, ap, ◌∙◌, subst, inl, inr, ⊎_elim, arith, mod-eq_of_lt}
-use mathlib.Core.Logic.{dite}
-use mathlib.Core.Option as maybe
+use Rattle.std.proofs.Common.{◌≡◌, ◌≢◌, ℕ, ◌+◌, ◌<◌, ◌≤◌, ◌⊎◌, Bool, true, false, cond, leb, min, [], ◌∷◌, length, set, length-set, get_or-set_same, sym, refl, ap, ◌∙◌, inl, inr, ⊎_elim, arith}
 use mathlib.Core.Option.{some}
-use native.Mathlib.Decide.{ℕ_discrete}
 use lib.ListN.{get_elem?}
-use lib.Seq.{set-get_or}
 use Rattle.std.specs.List.{All, sum_by}
-use Rattle.std.proofs.lemmas.List.Elements.{All-set, All-append}
-use Rattle.std.proofs.lemmas.List.Sums.{sum_by-append, sum_by-le-sum_by}
-use Rattle.std.proofs.lemmas.Bool.Decides.{leb_tells}
-use Rattle.atomic_table.specs.Table.{State, step, keeps, Allows, Splits, Joins}
-use Rattle.atomic_table.proofs.Lists.{at_set, set_else}
+use Rattle.std.proofs.lemmas.List.Elements.{All-set}
+use Rattle.std.proofs.lemmas.List.Sums.{sum_by-le-sum_by}
+use Rattle.atomic_table.specs.Table.{State}
+use Rattle.atomic_table.proofs.Lists.{at_set}
 use Rattle.sgm_draws.specs.declared.view.View.{View}
 use Rattle.sgm_draws.specs.Numbers.{times, once_below, IsEachOnce}
-use Rattle.sgm_draws.specs.Views.{IsLive, spent, new_view, dealer, kept_view, dealt_view, after_draw, after_end, joined_view, count_up}
-use Rattle.sgm_draws.specs.Rules.{Rule, times_drawn, times_gathered, all_gathered, gathered_at_end, ends_seen, word_of}
-use Rattle.sgm_draws.specs.Plays.{Known, HasAllOf, draw_told, check_told}
-use Rattle.sgm_draws.proofs.Sums.{set_same, at_all, all_at, all_weaker, moved, one_of, two_of, all_zero}
-use Rattle.sgm_draws.proofs.Numbers.{times_append, times_own, times_short, once_yes, once_inside, once_most, once_more, times_all, length_count_up}
+use Rattle.sgm_draws.specs.Views.{IsLive, spent, after_draw, after_end}
+use Rattle.sgm_draws.specs.Rules.{Rule, gathered_at_end, word_of}
+use Rattle.sgm_draws.specs.Plays.{HasAllOf}
+use Rattle.sgm_draws.proofs.Sums.{at_all, all_at, all_weaker, moved, one_of, two_of, all_zero}
+use Rattle.sgm_draws.proofs.Numbers.{times_append, times_short, once_inside, once_most, once_more}
 
 abbrev pub Table : Type 0
 Table = State (Unit {0}) View

@@ -1,9 +1,20 @@
-ghost use Rattle.std.specs.Prelude.{◌<◌};
-ghost use Rattle.sgm_draws.specs.Tickets.{IsTicketOf, count_of, parts_of};
+ghost use Rattle.std.specs.Prelude.{◌≡◌, ◌<◌, IfSome};
+ghost use Rattle.sgm_draws.specs.Tickets.{AreNew, IsTicketOf, count_of, parts_of};
 
 use super::{Draws, Ticket};
 use std::alloc::{AllocError, Global};
 use std::test::Fail;
+
+/// The last of new tickets.
+fn last_of(draws: &Draws, tickets: &mut Vec<Ticket>) -> Option<Ticket>
+    requires { AreNew draws.now tickets.old.items }
+    ensures own { IfSome result (IsTicketOf draws.now) }
+    ensures unused { IfSome result (λ ticket. (parts_of ticket).seen ≡ 0) }
+    ensures rest { AreNew draws.now tickets.new.items }
+{
+    let _draws = draws;
+    tickets.pop()
+}
 
 /// Draws until none is left, or so often, and tells what was drawn.
 fn draw_on(
@@ -45,7 +56,7 @@ fn draw_in_turn(
 #[test]
 fn one_ticket_draws_each_number_once(rt: HostRuntime) -> Result<(), Fail> {
     let (draws, mut tickets) = Draws::start(rt.alloc(), 3, 1)?;
-    let Some(mut ticket) = tickets.pop() else {
+    let Some(mut ticket) = last_of(&draws, &mut tickets) else {
         panic!(rt; "one ticket was asked for")
     };
     assert_eq!(rt; ticket.number(), 0);
@@ -58,7 +69,8 @@ fn one_ticket_draws_each_number_once(rt: HostRuntime) -> Result<(), Fail> {
 #[test]
 fn two_tickets_draw_different_numbers(rt: HostRuntime) -> Result<(), Fail> {
     let (draws, mut tickets) = Draws::start(rt.alloc(), 8, 2)?;
-    let (Some(second), Some(first)) = (tickets.pop(), tickets.pop()) else {
+    let (Some(second), Some(first)) = (last_of(&draws, &mut tickets), last_of(&draws, &mut tickets))
+    else {
         panic!(rt; "two tickets were asked for")
     };
     assert_eq!(rt; (first.number(), second.number()), (0, 1));

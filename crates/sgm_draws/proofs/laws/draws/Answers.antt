@@ -1,4 +1,4 @@
-use Rattle.std.proofs.Common.{rules, ◌≡◌, ℕ, ◌+◌, ◌≤◌, sym, refl, ap, arith}
+use Rattle.std.proofs.Common.{sym, refl, arith}
 use Rattle.sgm_draws.specs.declared.view.View.{View}
 use Rattle.sgm_draws.specs.Numbers.{times}
 use Rattle.sgm_draws.specs.Rules.{word_of}

@@ -1,8 +1,7 @@
-use Rattle.std.proofs.Common.{ℕ, List, [], ◌∷◌, sym, ap, subst, arith}
+use Rattle.std.proofs.Common.{List, [], ◌∷◌, sym, subst, arith}
 use Rattle.atomic_table.specs.Table.{opening}
 use Rattle.sgm_draws.specs.Rules.{Rule}
 use Rattle.sgm_draws.specs.Views.{dealer}
-use Rattle.sgm_draws.specs.Tickets.{parts_of_view}
 use Rattle.sgm_draws.proofs.Seats.{opens}
 use Rattle.sgm_draws.proofs.draws.Draws.start.Goals as goal
 
