@@ -1,5 +1,5 @@
 -- The certificate that a pair calls for, from one step to the next.
-use Rattle.std.proofs.Common.{◌≡◌, ◌∙◌, ap, subst, List, ℕ, Result, Ok, Err, MatchResult}
+use Rattle.std.proofs.Common.{◌≡◌, ◌∙◌, ap, Bool, true, false, if◌then◌else◌, Option, None, Some, List, ℕ, Result, Ok, Err}
 use Rattle.sgm_base.specs.Picture.{Picture}
 use Rattle.sgm_base.specs.declared.side.Side.TheVariants.{Left, Right}
 use Rattle.sgm_pgm.specs.declared.fault.PgmFault.{PgmFault}
@@ -15,11 +15,11 @@ use Rattle.sgm_job.specs.declared.job.SurveyFault.{SurveyFault}
 use Rattle.sgm_job.specs.declared.job.SurveyError.{SurveyError}
 use Rattle.sgm_job.specs.declared.job.SurveyError.TheVariants as survey
 use Rattle.sgm_outcome.specs.declared.outcome.Refusal.{Refusal}
-use Rattle.sgm_outcome.specs.declared.outcome.Refusal.TheVariants.{Pgm, Calib}
+use Rattle.sgm_outcome.specs.declared.outcome.Refusal.TheVariants.{Pgm, Calib, NotInside}
 use Rattle.sgm_app.specs.Judge.{StopsFor}
 use Rattle.sgm_app.specs.Stops.{survey_stop}
 use Rattle.sgm_app.specs.Refusals.{or_refused, ◌>>=◌, refusal_of, unless}
-use Rattle.sgm_app.specs.Certificates.{certificate_for, inside_refusal}
+use Rattle.sgm_app.specs.Certificates.{certificate_for, inside_refusal, is_inside}
 use Rattle.sgm_app.specs.declared.stops.TextsError.{TextsError}
 use Rattle.sgm_app.proofs.Steps.{goes_on, stops_on, stops_along}
 
@@ -93,6 +93,14 @@ stop_scene left right calib asked error a b c is_left is_right is_calib is =
     stops_along _ _ (survey_stop error) (to_scene left right calib asked a b c is_left is_right is_calib)
     (stops_on (or_refused refusal_of (prepared a b c)) (after_scene asked) (survey_stop error) (scene_stops (prepared a b c) error is))
 
--- an answer that is owed is owed to what is the same
-pub answers_along : (P : Result (List ℕ) Refusal → Type 0) (v w : Result (List ℕ) Refusal) → v ≡ w → P v → P w
-answers_along P v w same is = subst P same is
+-- ---- inside or not
+
+pub given_inside : (asked : Asked) (g : Problem) → is_inside g asked.x asked.y asked.d ≡ true → certificate_in asked g ≡ Ok (trace_text g asked.dir (pixel_at asked.x asked.y) asked.d)
+unfolding inside_refusal
+given_inside asked g is =
+    ap (λ (inside : Bool). unless (if inside then None else Some (NotInside asked.x asked.y asked.d)) (trace_text g asked.dir (pixel_at asked.x asked.y) asked.d)) is
+
+pub refused_outside : (asked : Asked) (g : Problem) → is_inside g asked.x asked.y asked.d ≡ false → certificate_in asked g ≡ Err (NotInside asked.x asked.y asked.d)
+unfolding inside_refusal
+refused_outside asked g is =
+    ap (λ (inside : Bool). unless (if inside then None else Some (NotInside asked.x asked.y asked.d)) (trace_text g asked.dir (pixel_at asked.x asked.y) asked.d)) is

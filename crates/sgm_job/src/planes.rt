@@ -24,7 +24,12 @@ pub(crate) struct Coded {
 }
 
 /// The image, rectified by the warp, with the codes of the window.
-pub(crate) fn coded_image(alloc: Global, image: &Image, warp: &Warp, window: Window) -> Result<Coded, AllocError>
+pub(crate) fn coded_image(
+    alloc: Global,
+    image: &Image,
+    warp: &Warp,
+    window: Window,
+) -> Result<Coded, AllocError>
     requires { Suits warp.now (sides_of image.now) }
     ensures { IfOk result (λ made. IsMade image.now warp.now window made.plane made.codes) }
 {

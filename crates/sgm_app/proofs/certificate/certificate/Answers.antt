@@ -1,7 +1,9 @@
-use Rattle.std.proofs.Common.{sym}
+use Rattle.std.proofs.Common.{◌≡◌, sym, subst, List, ℕ, Result, Ok, MatchResult}
+use Rattle.sgm_outcome.specs.declared.outcome.Refusal.{Refusal}
+use Rattle.sgm_app.specs.Judge.{StopsFor}
 use Rattle.sgm_app.specs.Stops.{survey_stop}
 use Rattle.sgm_app.proofs.Steps.{handed_on}
-use Rattle.sgm_app.proofs.CertificateSteps.{Asked, of_scene, stop_left, stop_right, stop_calib, stop_scene, answers_along}
+use Rattle.sgm_app.proofs.CertificateSteps.{Asked, of_scene, stop_left, stop_right, stop_calib, stop_scene}
 use Rattle.sgm_app.proofs.certificate.certificate.Goals as goal
 
 pub returns-in_err-left : goal.returns-in_err-left
@@ -45,4 +47,5 @@ returns c = λ left right calib on_left on_right on_calib.
     (c.in_ok-right.ensures right on_right)
     (c.in_ok-calib.ensures calib on_calib)
     c.in_ok-scene.ensures in
-    answers_along _ _ _ (sym same) c.certificate_of.ensures
+    let P : Result (List ℕ) Refusal → Type 0 = λ w. MatchResult c.certificate_of.result (λ text. w ≡ Ok text.items) (StopsFor w) in
+    subst P (sym same) c.certificate_of.ensures
