@@ -1,5 +1,5 @@
 -- Parcels and fronts as they are made.
-use Rattle.std.proofs.Common.{◌≡◌, ℕ, ◌+◌, ◌<◌, List, [], ◌∷◌, ◌++◌, length, get_or, map, Option, Some, None, Result, Ok, Err, refl, sym, ap, subst, ◌∙◌, inl, inr, arith}
+use Rattle.std.proofs.Common.{◌≡◌, ℕ, ◌<◌, List, [], ◌∷◌, ◌++◌, length, get_or, map, Option, Some, None, Result, Ok, Err, refl, sym, ap, subst, ◌∙◌, inl, inr, arith}
 use Rattle.std.specs.Prelude.{All, IfOk, IfSome, option_map, slice_get}
 use Rattle.std.proofs.lemmas.List.{length-map}
 use Rattle.std.proofs.lemmas.Option.{get_or_from_slice_get, slice_get-get_or, slice_get-map, slice_get_within}
@@ -10,7 +10,7 @@ use Rattle.sgm_strip.specs.Cuts.{CutParts, IsCut}
 use Rattle.sgm_strip.specs.Fronts.{FrontParts, front_parts}
 use Rattle.sgm_strip.specs.Parcels.{ParcelParts, level_done}
 use Rattle.sgm_strip.specs.Scenes.{SceneParts}
-use Rattle.sgm_strip.specs.Strips.{AreStrips, IsStripOf}
+use Rattle.sgm_strip.specs.Strips.{AreStrips}
 use Rattle.sgm_board.specs.Ready.{AreReady, IsNewFront}
 use Rattle.sgm_board.proofs.Getting.{get-push}
 use Rattle.sgm_job.specs.Matching.{AreNewFronts, IsNewParcel}

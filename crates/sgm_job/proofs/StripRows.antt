@@ -1,6 +1,6 @@
 -- The disparities of all strips, each found by itself.
-use Rattle.std.proofs.Common.{◌≡◌, ℕ, ◌<◌, List, length, map, get_or, Option, Some, ◌∙◌, ℤ}
-use Rattle.std.specs.Prelude.{IfSome, slice_get}
+use Rattle.std.proofs.Common.{◌≡◌, ℕ, ◌<◌, List, length, map, get_or, Option, Some, ◌∙◌}
+use Rattle.std.specs.Prelude.{IfSome}
 use Rattle.std.proofs.lemmas.List.{length-map}
 use Rattle.sgm_base.specs.Values.{Values}
 use Rattle.sgm_strip.specs.Cuts.{CutParts}

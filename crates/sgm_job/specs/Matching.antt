@@ -1,5 +1,5 @@
 -- What stands between the images and the disparities.
-use Rattle.std.specs.Prelude.{◌≡◌, ℕ, false, List, length, slice_get, Some, All}
+use Rattle.std.specs.Prelude.{◌≡◌, ℕ, List, length, slice_get, Some}
 use Rattle.sgm_base.specs.Picture.{Picture}
 use Rattle.sgm_base.specs.Values.{Values}
 use Rattle.sgm_census.specs.Codes.{Codes, codes_of}

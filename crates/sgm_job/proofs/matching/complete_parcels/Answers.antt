@@ -1,4 +1,3 @@
-use Rattle.std.proofs.Common.{arith}
 use Rattle.sgm_job.proofs.Making.{ready}
 use Rattle.sgm_job.proofs.matching.complete_parcels.Goals as goal
 
