@@ -1,5 +1,5 @@
 -- What the counts show, from one stage to the next.
-use Rattle.std.proofs.Common.{◌≡◌, ℕ, List, subst, sym}
+use Rattle.std.proofs.Common.{◌≡◌, ℕ, List, subst}
 use Rattle.sgm_io.specs.Held.{Held}
 use Rattle.sgm_io.specs.Counts.{Counts}
 use Rattle.sgm_words.specs.Operands.{FileNames}

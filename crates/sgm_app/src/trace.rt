@@ -40,7 +40,16 @@ pub fn run_trace<S: Shelf, O: Sink>(
         Ok(inputs) => inputs,
         Err(stop) => return stop.outcome(),
     };
-    match certificate(alloc, &inputs.left, &inputs.right, inputs.calib(), dir, x, y, d) {
+    match certificate(
+        alloc,
+        &inputs.left,
+        &inputs.right,
+        inputs.calib(),
+        dir,
+        x,
+        y,
+        d,
+    ) {
         Ok(text) => deliver_summary(out, &text),
         Err(error) => error.outcome(),
     }

@@ -1,7 +1,7 @@
 use Rattle.std.proofs.Common.{◌∙◌, sym, ap, refl, [], List, ℕ}
 use Rattle.sgm_words.specs.Operands.{of_trace}
 use Rattle.sgm_app.specs.Certificates.{certificate_for}
-use Rattle.sgm_app.specs.Verdict.{Verdict, files, calib_of}
+use Rattle.sgm_app.specs.Verdict.{files, calib_of}
 use Rattle.sgm_app.proofs.Completing.{out_counts}
 use Rattle.sgm_app.proofs.Counting.{counts_since, texts_counts}
 use Rattle.sgm_app.proofs.Delivering.{settled, out_along}
