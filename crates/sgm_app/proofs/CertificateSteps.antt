@@ -1,5 +1,5 @@
 -- The certificate that a pair calls for, from one step to the next.
-use Rattle.std.proofs.Common.{◌≡◌, ◌∙◌, ap, Bool, true, false, if◌then◌else◌, Option, None, Some, List, ℕ, Result, Ok, Err}
+use Rattle.std.proofs.Common.{◌≡◌, ◌∙◌, ap, Bool, true, false, if◌then◌else◌, None, Some, List, ℕ, Result, Ok, Err}
 use Rattle.sgm_base.specs.Picture.{Picture}
 use Rattle.sgm_base.specs.declared.side.Side.TheVariants.{Left, Right}
 use Rattle.sgm_pgm.specs.declared.fault.PgmFault.{PgmFault}

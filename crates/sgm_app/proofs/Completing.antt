@@ -4,12 +4,8 @@ use Rattle.std.specs.Str.{bytes_eq}
 use Rattle.std.proofs.lemmas.Slice.Eq.{bytes_eq-Decides}
 use Rattle.std.proofs.lemmas.List.Elements.{All-contains, Contains-append_right}
 use Rattle.std.proofs.lemmas.Bool.{cases_lt}
-use Rattle.sgm_base.specs.Picture.{Picture}
 use Rattle.sgm_io.specs.Held.{Held}
 use Rattle.sgm_io.specs.Counts.{Rose}
-use Rattle.sgm_pgm.specs.declared.fault.PgmFault.{PgmFault}
-use Rattle.sgm_calib.specs.Calibration.{Calibration}
-use Rattle.sgm_calib.specs.declared.keys.CalibFault.{CalibFault}
 use Rattle.sgm_energy.specs.declared.dir.Dir.{Dir}
 use Rattle.sgm_refine.specs.Refining.{Refining}
 use Rattle.sgm_words.specs.Operands.{Operands, operands, ChangeOperands, change_operands, FileNames, of_none, of_match, of_trace, of_change, names_of, is_plain, IsPairInput, IsChangeInput, IsInputName, IsOutputName}
@@ -24,16 +20,15 @@ use Rattle.sgm_outcome.specs.declared.outcome.Refusal.{Refusal}
 use Rattle.sgm_outcome.specs.declared.outcome.Refusal.TheVariants.{TooLong}
 use Rattle.sgm_outcome.specs.declared.outcome.Outcome.{Outcome}
 use Rattle.sgm_outcome.specs.declared.outcome.Outcome.TheVariants.{Done, Usage, Refused, ReadFault, WriteFault, NoMemory}
-use Rattle.sgm_app.specs.Readings.{Readings}
 use Rattle.sgm_app.specs.Changing.{GridTexts, change_for}
 use Rattle.sgm_app.specs.Texts.{Texts}
 use Rattle.sgm_app.specs.Certificates.{certificate_for}
 use Rattle.sgm_app.specs.Outputs.{OutputFile, IsNamed, files_of, change_files_of}
-use Rattle.sgm_app.specs.Verdict.{Verdict, usage, absent, refused, files, fetched, calib_fetched, most_bytes, pair_fetched, grids_fetched, texts_for, demo_for, unless_refused, calib_of, matched, traced, changed, demoed, outputs_of, IsFiles}
+use Rattle.sgm_app.specs.Verdict.{Verdict, usage, absent, refused, files, fetched, calib_fetched, most_bytes, pair_fetched, grids_fetched, texts_for, demo_for, unless_refused, calib_of, demoed, outputs_of, IsFiles}
 use Rattle.sgm_app.specs.Calls.{TraceCallsFor, ReadCallsFor}
 use Rattle.sgm_app.specs.Ends.{FilesStand, NoneBefore, order_of, ShownBy, Faults, ReadRose, FileRose, CountsShow, OutCountsShow, RunCounts}
 use Rattle.sgm_app.specs.Deliver.{FilesPut}
-use Rattle.sgm_app.specs.Complete.{NoReadRose, OnlyReadRose, NoWriteRose, IsUnlessMemory, IsComplete, RunComplete, IsNoFileFault, NoneRose}
+use Rattle.sgm_app.specs.Complete.{NoReadRose, OnlyReadRose, NoWriteRose, IsUnlessMemory, RunComplete, IsNoFileFault, NoneRose}
 use Rattle.sgm_app.proofs.Holding.{Distinct, in_none}
 use Rattle.sgm_app.proofs.Named.{all_named, all_distinct, all_change_named, all_change_distinct}
 use Rattle.sgm_app.proofs.VerdictLaws.{none_matched, none_traced, none_changed}

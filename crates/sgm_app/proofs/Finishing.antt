@@ -10,7 +10,10 @@ use Rattle.sgm_io.specs.Unfinished.{NameSet, with_name, without_name}
 use Rattle.sgm_io.proofs.UnfinishedLaws.{without_name-same, without_name-false, without_name-with_name}
 use Rattle.sgm_words.specs.Operands.{FileNames, IsOutputName}
 use Rattle.sgm_words.specs.declared.files.Output.{Output}
+use Rattle.sgm_outcome.specs.declared.outcome.Outcome.{Outcome}
+use Rattle.sgm_outcome.specs.declared.outcome.Outcome.TheVariants.{Done, Usage, Refused, ReadFault, WriteFault, NoMemory}
 use Rattle.sgm_app.specs.Outputs.{OutputFile, IsNamed, is_named}
+use Rattle.sgm_app.specs.Verdict.{Verdict, outputs_of}
 use Rattle.sgm_app.specs.Unfinished.{AreFinished, LeavesUnfinished, UnfinishedStands}
 use Rattle.sgm_app.specs.Deliver.{after_finishing, LeavesFile, LeavesOne, IsStopAt}
 use Rattle.sgm_app.specs.Stops.{fetch_outcome, texts_outcome, write_outcome}
@@ -186,3 +189,15 @@ fetch_stands names fetch.NoMemory old new same = none_left names _ old new same
 pub texts_stands : (names : FileNames) (stop : TextsError) (old new : NameSet) → new ≡ old → UnfinishedStands names (texts_outcome stop) old new
 texts_stands names (texts.Refused refusal) old new same = same
 texts_stands names texts.NoMemory old new same = none_left names _ old new same
+
+-- whatever the outcome
+pub same_stands : (names : FileNames) (outcome : Outcome) (old new : NameSet) → new ≡ old → UnfinishedStands names outcome old new
+same_stands names Done old new same = none_left names _ old new same
+same_stands names (Usage fault) old new same = same
+same_stands names (Refused refusal) old new same = same
+same_stands names (ReadFault input) old new same = same
+same_stands names (WriteFault output) old new same = none_left names _ old new same
+same_stands names NoMemory old new same = none_left names _ old new same
+
+pub none_finished : (v : Verdict) (names : NameSet) → outputs_of v ≡ [] → AreFinished (outputs_of v) names
+none_finished v names none = λ file c. let P : List OutputFile → Type 0 = λ fs. Contains fs file in absurd (in_none file (subst P none c))

@@ -1,5 +1,6 @@
 pub mod CertificateSteps
 pub mod Completing
+pub mod Counting
 pub mod Delivering
 pub mod Filing
 pub mod Finishing

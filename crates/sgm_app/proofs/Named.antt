@@ -37,7 +37,7 @@ volumes_named asked text = search rules
 
 pub all_change_named : (asked : ChangeOperands) (texts : GridTexts) → All (IsNamed (of_change asked)) (change_files_of asked.out texts)
 all_change_named asked texts =
-    All-append (IsNamed (of_change asked)) (file_of asked.out Difference texts.difference ∷ []) _ (difference_named asked texts.difference) (volumes_named asked texts.volumes)
+    All-append (IsNamed (of_change asked)) (file_of asked.out Difference texts.difference ∷ []) (file_of asked.out Volumes texts.volumes ∷ []) (difference_named asked texts.difference) (volumes_named asked texts.volumes)
 
 -- the name of an output's file
 pub name_is : (ending : Option (List ℕ)) (out name : List ℕ) → IsSomeAnd ending (λ e. name ≡ out ++ e) → name ≡ out ++ unwrap_or ending []

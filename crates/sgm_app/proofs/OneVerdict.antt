@@ -10,7 +10,6 @@ use Rattle.sgm_calib.specs.Calibration.{Calibration, plain}
 use Rattle.sgm_calib.specs.Read.{Reads as ReadsCalib}
 use Rattle.sgm_calib.specs.declared.keys.CalibFault.{CalibFault}
 use Rattle.sgm_calib.proofs.Answers.{some_answer, one_answer}
-use Rattle.sgm_refine.specs.Refining.{Refining}
 use Rattle.sgm_words.specs.Operands.{Operands, operands, change_operands, is_plain}
 use Rattle.sgm_words.specs.Words.{read_of}
 use Rattle.sgm_words.specs.declared.usage.UsageFault.{UsageFault}

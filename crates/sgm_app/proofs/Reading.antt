@@ -12,8 +12,7 @@ use Rattle.sgm_calib.specs.Calibration.{Calibration, plain}
 use Rattle.sgm_calib.specs.Read.{Reads as ReadsCalib}
 use Rattle.sgm_calib.specs.declared.keys.CalibFault.{CalibFault}
 use Rattle.sgm_words.specs.Operands.{Operands, is_plain}
-use Rattle.sgm_outcome.specs.declared.outcome.Refusal.{Refusal}
-use Rattle.sgm_app.specs.Changing.{GridTexts, change_for}
+use Rattle.sgm_app.specs.Changing.{change_for}
 use Rattle.sgm_app.specs.Readings.{Readings, IsReading, AreReadings, grid_reading}
 use Rattle.sgm_app.specs.Gather.{HasCalib, AtHand}
 use Rattle.sgm_app.specs.Judge.{CalibReads}

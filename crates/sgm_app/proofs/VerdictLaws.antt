@@ -24,7 +24,7 @@ use Rattle.sgm_outcome.specs.declared.outcome.Refusal.{Refusal}
 use Rattle.sgm_outcome.specs.declared.outcome.Refusal.TheVariants.{TooLong, Pgm, Calib, Asc, NotInside, GridsDiffer}
 use Rattle.sgm_app.specs.Refusals.{or_refused, ◌>>=◌, refusal_of, unless}
 use Rattle.sgm_app.specs.Certificates.{is_inside, inside_refusal, certificate_for}
-use Rattle.sgm_app.specs.Changing.{GridTexts, differ_at, ground_refusal, change_for}
+use Rattle.sgm_app.specs.Changing.{differ_at, ground_refusal, change_for}
 use Rattle.sgm_app.specs.Outputs.{OutputFile}
 use Rattle.sgm_app.specs.Verdict.{Verdict, refused, files, fetched, calib_fetched, most_bytes, texts_for, unless_refused, matched, traced, changed}
 use Rattle.sgm_app.specs.Ends.{NoneBefore, order_of}

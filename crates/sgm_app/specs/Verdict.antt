@@ -22,7 +22,7 @@ use Rattle.sgm_app.specs.Refusals.{or_refused, ◌>>=◌, refusal_of}
 use Rattle.sgm_app.specs.Readings.{Readings, grid_reading}
 use Rattle.sgm_app.specs.Texts.{Texts, texts_of, demo_text}
 use Rattle.sgm_app.specs.Certificates.{certificate_for}
-use Rattle.sgm_app.specs.Changing.{GridTexts, change_for}
+use Rattle.sgm_app.specs.Changing.{change_for}
 use Rattle.sgm_app.specs.Outputs.{OutputFile, files_of, change_files_of}
 use Rattle.sgm_app.specs.declared.demo.TheConstants.{DEMO_WIDTH, DEMO_HEIGHT}
 

@@ -23,7 +23,11 @@ pub struct ChangeTexts {
 }
 
 /// The texts that an earlier and a later grid call for by their bytes, or the first refusal.
-pub(crate) fn change_texts(alloc: Global, earlier: &[u8], later: &[u8]) -> Result<ChangeTexts, TextsError>
+pub(crate) fn change_texts(
+    alloc: Global,
+    earlier: &[u8],
+    later: &[u8],
+) -> Result<ChangeTexts, TextsError>
     ensures { MatchResult result
         (λ made. change_for (asc_reading earlier.now) (asc_reading later.now) ≡ Ok (change_texts_in made))
         (StopsFor (change_for (asc_reading earlier.now) (asc_reading later.now))) }

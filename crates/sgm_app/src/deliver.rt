@@ -1,10 +1,11 @@
 //! Writing the files, and then the summary.
-ghost use Rattle.std.specs.Prelude.{◌≡◌, ◌<◌, length, IsTrue, All};
+ghost use Rattle.std.specs.Prelude.{◌≡◌, ◌<◌, [], length, IsTrue, All};
+ghost use Rattle.sgm_io.specs.Counts.{Counts};
 ghost use Rattle.sgm_words.specs.Operands.{FileNames};
 ghost use Rattle.sgm_outcome.specs.declared.outcome.Outcome.TheVariants.{Done};
 ghost use Rattle.sgm_app.specs.Outputs.{IsNamed};
 ghost use Rattle.sgm_app.specs.Verdict.{files};
-ghost use Rattle.sgm_app.specs.Ends.{StageCounts, ShownBy, OutStands, OutUntouched, WritingStands, CountsShow, faults};
+ghost use Rattle.sgm_app.specs.Ends.{StageCounts, ShownBy, OutStands, OutUntouched, WritingStands, CountsShow, OutCountsShow, faults};
 ghost use Rattle.sgm_app.specs.Unfinished.{AreFinished, UnfinishedStands};
 ghost use Rattle.sgm_app.specs.Deliver.{WritesFile, StopsAtFile, EndsWriting, FinishesFile, FileCounts};
 ghost use Rattle.sgm_app.specs.Deliver.{WritesFiles, FinishesFiles, FilesCounts, FilesPut};
@@ -75,5 +76,18 @@ pub fn deliver<S: Shelf, O: Sink>(shelf: &mut S, out: &mut O, delivery: &Deliver
             Err(_) => Outcome::WriteFault(Output::Summary),
         },
         Err(stop) => stop.outcome(),
+    }
+}
+
+/// Writes the summary of a run that writes no file. It takes no memory.
+pub fn deliver_summary<O: Sink>(out: &mut O, summary: &[u8]) -> Outcome
+    ensures shown { ShownBy (files [] summary.now) result }
+    ensures out { IsTrue O.tells → OutStands result (files [] summary.now) (O.written out.old) (O.written out.new) }
+    ensures untouched { IsTrue O.tells → OutUntouched result (O.written out.old) (O.written out.new) }
+    ensures counts { (reads writes : Counts) → OutCountsShow result (faults reads writes (O.faults out.old)) (faults reads writes (O.faults out.new)) }
+{
+    match write_whole(out, summary) {
+        Ok(()) => Outcome::Done,
+        Err(_) => Outcome::WriteFault(Output::Summary),
     }
 }

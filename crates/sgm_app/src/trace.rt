@@ -5,11 +5,12 @@ ghost use Rattle.sgm_app.specs.Calls.{TraceCallsFor};
 ghost use Rattle.sgm_app.specs.Ends.{ShownBy, OutStands, OutUntouched, CountsShow, faults};
 ghost use Rattle.sgm_app.specs.Verdict.{Verdict};
 
+use crate::Outcome;
 use crate::certificate::certificate;
+use crate::deliver::deliver_summary;
 use crate::gather::gather;
-use crate::{Outcome, Output};
 use sgm_energy::Dir;
-use sgm_io::{Shelf, Sink, write_whole};
+use sgm_io::{Shelf, Sink};
 use sgm_words::OperandWords;
 use std::alloc::Global;
 
@@ -39,11 +40,17 @@ pub fn run_trace<S: Shelf, O: Sink>(
         Ok(inputs) => inputs,
         Err(stop) => return stop.outcome(),
     };
-    match certificate(alloc, &inputs.left, &inputs.right, inputs.calib(), dir, x, y, d) {
-        Ok(text) => match write_whole(out, &text) {
-            Ok(()) => Outcome::Done,
-            Err(_) => Outcome::WriteFault(Output::Summary),
-        },
+    match certificate(
+        alloc,
+        &inputs.left,
+        &inputs.right,
+        inputs.calib(),
+        dir,
+        x,
+        y,
+        d,
+    ) {
+        Ok(text) => deliver_summary(out, &text),
         Err(error) => error.outcome(),
     }
 }

@@ -82,15 +82,7 @@ fn grids_that_do_not_read_or_suit_are_refused(rt: HostRuntime) -> Result<(), Fai
 fn words_and_absent_files_end_a_change(rt: HostRuntime) -> Result<(), Fail> {
     let alloc = rt.alloc();
     let err = "sgm: word 1 is also an output\n";
-    assert_refused(
-        &rt,
-        alloc,
-        HEIGHTS,
-        LATER,
-        "change o.asc l.asc o",
-        2,
-        err,
-    )?;
+    assert_refused(&rt, alloc, HEIGHTS, LATER, "change o.asc l.asc o", 2, err)?;
     let err = "sgm: cannot read later\n";
     assert_refused(&rt, alloc, HEIGHTS, LATER, "change e.asc none o", 4, err)
 }

@@ -1,11 +1,85 @@
-use Rattle.std.proofs.Common.{◌∙◌, sym, ap, List, ℕ}
+use Rattle.std.proofs.Common.{◌∙◌, sym, refl}
+use Rattle.sgm_words.specs.Operands.{of_change}
 use Rattle.sgm_app.specs.Changing.{change_for}
 use Rattle.sgm_app.specs.Made.{change_texts_in}
 use Rattle.sgm_app.specs.Outputs.{change_files_of}
 use Rattle.sgm_app.specs.Readings.{grid_reading}
 use Rattle.sgm_app.specs.Verdict.{files}
-use Rattle.sgm_app.proofs.Delivering.{settled, delivered, put_along, finished_along}
-use Rattle.sgm_app.proofs.Reading.{grid_read_made, grid_read_stop}
-use Rattle.sgm_app.proofs.Steps.{shown_along, stop_shown}
+use Rattle.sgm_app.proofs.Counting.{counts_since, texts_counts}
+use Rattle.sgm_app.proofs.Delivering.{settled, delivered, put_along, finished_along, out_along}
+use Rattle.sgm_app.proofs.Reading.{grids_at}
+use Rattle.sgm_app.proofs.Steps.{shown_along, stop_shown, stops_along}
 use Rattle.sgm_app.proofs.VerdictLaws.{none_changed}
 use Rattle.sgm_app.proofs.change.run_change.Goals as goal
+
+pub returns-in-Err-clause-cause : goal.returns-in-Err-clause-cause
+returns-in-Err-clause-cause g c = λ told v calls.
+    let asked = c.args.operands.now in let held = g.S.Shelf.held c.args.shelf.now in
+    rw c.outcome.ensures (shown_along v _ _ (sym calls) (c.in-Err.ensures.verdict told _ (none_changed 5 asked held)))
+
+pub returns-in-Err-change_texts-clause-cause : goal.returns-in-Err-change_texts-clause-cause
+returns-in-Err-change_texts-clause-cause g c = λ told v calls.
+    let asked = c.args.operands.now in let held = g.S.Shelf.held c.args.shelf.now in
+    let at = c.in-Ok.ensures.at_hand told in
+    rw c.outcome-in-Err-change_texts.ensures (shown_along v _ _ (sym calls ∙ c.in-Ok.ensures.verdict told _ (none_changed 5 asked held))
+    (stop_shown (change_for (grid_reading (held asked.earlier)) (grid_reading (held asked.later))) (λ t. files (change_files_of asked.out t) t.summary) c.in-Err-change_texts.error
+    (stops_along _ _ c.in-Err-change_texts.error (grids_at _ _ _ _ _ _ at.earlier at.later c.deref.ensures.value c.deref-2.ensures.value) c.in-Err-change_texts.ensures)))
+
+pub returns-in-Ok-name_change-clause-files : goal.returns-in-Ok-name_change-clause-files
+returns-in-Ok-name_change-clause-files g c = λ told v calls.
+    let asked = c.args.operands.now in let held = g.S.Shelf.held c.args.shelf.now in
+    let at = c.in-Ok.ensures.at_hand told in
+    put_along c.deliver.result v _ _ _ _
+    (delivered _ _ _ _ v c.in-Ok-name_change.ensures.files c.in-Ok-name_change.ensures.summary
+    (settled _ v (change_for (grid_reading (held asked.earlier)) (grid_reading (held asked.later))) (λ t. files (change_files_of asked.out t) t.summary) (change_texts_in c.in-Ok-change_texts.texts) calls
+    (c.in-Ok.ensures.verdict told _ (none_changed 5 asked held))
+    (grids_at _ _ _ _ _ _ at.earlier at.later c.deref.ensures.value c.deref-2.ensures.value ∙ c.in-Ok-change_texts.ensures)))
+    (c.in-Ok.ensures.held told) (c.deliver.ensures.files told)
+
+pub returns-in-Ok-name_change-clause-finished : goal.returns-in-Ok-name_change-clause-finished
+returns-in-Ok-name_change-clause-finished g c = λ told v calls done.
+    let asked = c.args.operands.now in let held = g.S.Shelf.held c.args.shelf.now in
+    let at = c.in-Ok.ensures.at_hand told in
+    finished_along v (files c.in-Ok-name_change.delivery.files.items c.in-Ok-name_change.delivery.summary.items) _
+    (delivered _ _ _ _ v c.in-Ok-name_change.ensures.files c.in-Ok-name_change.ensures.summary
+    (settled _ v (change_for (grid_reading (held asked.earlier)) (grid_reading (held asked.later))) (λ t. files (change_files_of asked.out t) t.summary) (change_texts_in c.in-Ok-change_texts.texts) calls
+    (c.in-Ok.ensures.verdict told _ (none_changed 5 asked held))
+    (grids_at _ _ _ _ _ _ at.earlier at.later c.deref.ensures.value c.deref-2.ensures.value ∙ c.in-Ok-change_texts.ensures)))
+    (c.deliver.ensures.finished done)
+
+pub returns-in-Err-change_texts-clause-counts : goal.returns-in-Err-change_texts-clause-counts
+returns-in-Err-change_texts-clause-counts g c =
+    let kept = c.in-Ok.ensures.counts (of_change c.args.operands.now) (λ input name is. is) in
+    rw c.outcome-in-Err-change_texts.ensures (texts_counts (of_change c.args.operands.now) c.in-Err-change_texts.error _ _ (record { reads = kept.0; writes = kept.1; out = refl }))
+
+pub returns-in-Ok-name_change-clause-counts : goal.returns-in-Ok-name_change-clause-counts
+returns-in-Ok-name_change-clause-counts g c =
+    let kept = c.in-Ok.ensures.counts (of_change c.args.operands.now) (λ input name is. is) in
+    counts_since (of_change c.args.operands.now) c.deliver.result _ _ _ _ _ _ kept (c.deliver.ensures.counts (of_change c.args.operands.now) c.in-Ok-name_change.ensures.named)
+
+pub returns-clause-counts : goal.returns-clause-counts
+returns-clause-counts g c =
+    let kept = c.in-Ok.ensures.counts (of_change c.args.operands.now) (λ input name is. is) in
+    record { reads = kept.0; writes = kept.1; out = refl }
+
+pub returns-in-Ok-name_change-clause-cause : goal.returns-in-Ok-name_change-clause-cause
+returns-in-Ok-name_change-clause-cause g c = λ told v calls.
+    let asked = c.args.operands.now in let held = g.S.Shelf.held c.args.shelf.now in
+    let at = c.in-Ok.ensures.at_hand told in
+    shown_along v (files c.in-Ok-name_change.delivery.files.items c.in-Ok-name_change.delivery.summary.items) c.deliver.result
+    (sym (delivered _ _ _ _ v c.in-Ok-name_change.ensures.files c.in-Ok-name_change.ensures.summary
+    (settled _ v (change_for (grid_reading (held asked.earlier)) (grid_reading (held asked.later))) (λ t. files (change_files_of asked.out t) t.summary) (change_texts_in c.in-Ok-change_texts.texts) calls
+    (c.in-Ok.ensures.verdict told _ (none_changed 5 asked held))
+    (grids_at _ _ _ _ _ _ at.earlier at.later c.deref.ensures.value c.deref-2.ensures.value ∙ c.in-Ok-change_texts.ensures))))
+    c.deliver.ensures.shown
+
+pub returns-in-Ok-name_change-clause-out : goal.returns-in-Ok-name_change-clause-out
+returns-in-Ok-name_change-clause-out g c = λ told told_out v calls.
+    let asked = c.args.operands.now in let held = g.S.Shelf.held c.args.shelf.now in
+    let at = c.in-Ok.ensures.at_hand told in
+    out_along c.deliver.result v (files c.in-Ok-name_change.delivery.files.items c.in-Ok-name_change.delivery.summary.items) _ _
+    (delivered _ _ _ _ v c.in-Ok-name_change.ensures.files c.in-Ok-name_change.ensures.summary
+    (settled _ v (change_for (grid_reading (held asked.earlier)) (grid_reading (held asked.later))) (λ t. files (change_files_of asked.out t) t.summary) (change_texts_in c.in-Ok-change_texts.texts) calls
+    (c.in-Ok.ensures.verdict told _ (none_changed 5 asked held))
+    (grids_at _ _ _ _ _ _ at.earlier at.later c.deref.ensures.value c.deref-2.ensures.value ∙ c.in-Ok-change_texts.ensures)))
+    (c.deliver.ensures.out told_out)

@@ -1,15 +1,20 @@
-use Rattle.std.proofs.Common.{◌∙◌, ap, sym, arith}
+use Rattle.std.proofs.Common.{◌∙◌, ap, sym, arith, List, ℕ}
 use Rattle.sgm_io.specs.Held.{Held}
 use Rattle.sgm_words.specs.Operands.{is_plain}
 use Rattle.sgm_words.specs.declared.files.Input.TheVariants as input
+use Rattle.sgm_app.specs.Stops.{fetch_outcome}
 use Rattle.sgm_app.specs.Verdict.{pair_fetched, fetched, calib_fetched}
+use Rattle.sgm_app.proofs.Counting.{counts_since, goes_by, shown_by}
 use Rattle.sgm_app.proofs.Steps.{shown_along}
 use Rattle.sgm_app.proofs.VerdictLaws.{none_zero, none_less, none_calib_fetched}
 use Rattle.sgm_app.proofs.gather.gather.Goals as goal
 
 pub returns-in-Err-clause-verdict : goal.returns-in-Err-clause-verdict
 unfolding pair_fetched
-returns-in-Err-clause-verdict g c = λ told last none. c.in-Err.ensures.bytes told _ (none_zero _)
+returns-in-Err-clause-verdict g c = λ told last none.
+    let asked = c.args.operands.now in let held = g.S.Shelf.held c.args.shelf.now in
+    let next = fetched input.Right (held asked.right) (calib_fetched (is_plain asked) (held asked.calib) last) in
+    shown_by input.Left held c.left.result.now asked.left next (fetch_outcome c.in-Err.stop) c.left.ensures (c.in-Err.ensures.bytes told next (none_zero next))
 
 pub returns-in-Err-fetch_input-clause-verdict : goal.returns-in-Err-fetch_input-clause-verdict
 unfolding pair_fetched
@@ -17,7 +22,9 @@ returns-in-Err-fetch_input-clause-verdict g c = λ told last none.
     let asked = c.args.operands.now in let held = g.S.Shelf.held c.args.shelf.now in
     let next = calib_fetched (is_plain asked) (held asked.calib) last in
     shown_along _ _ _
-    ((c.in-Ok.ensures.bytes told).1 _ ∙ ap (λ (h : Held). fetched input.Right (h asked.right) next) (sym (c.in-Ok.ensures.held told)))
+    (goes_by input.Left held c.left.result.now asked.left (fetched input.Right (held asked.right) next) c.left.ensures ((c.in-Ok.ensures.bytes told).1 (fetched input.Right (held asked.right) next))
+    ∙ ap (λ (n : List ℕ). fetched input.Right (held n) next) (sym c.right.ensures)
+    ∙ ap (λ (h : Held). fetched input.Right (h c.right.result.now) next) (sym (c.in-Ok.ensures.held told)))
     (c.in-Err-fetch_input.ensures.bytes told next (none_calib_fetched 1 (is_plain asked) (held asked.calib) last (omega arith) (none_less 1 3 last (omega arith) none)))
 
 pub returns-in-Err-fetch_calib-clause-verdict : goal.returns-in-Err-fetch_calib-clause-verdict
@@ -27,8 +34,11 @@ returns-in-Err-fetch_calib-clause-verdict g c = λ told last none.
     let next = calib_fetched (is_plain asked) (held asked.calib) last in
     let kept = c.in-Ok-fetch_input.ensures.held told ∙ c.in-Ok.ensures.held told in
     shown_along _ _ _
-    ((c.in-Ok.ensures.bytes told).1 _ ∙ ap (λ (h : Held). fetched input.Right (h asked.right) next) (sym (c.in-Ok.ensures.held told))
-    ∙ (c.in-Ok-fetch_input.ensures.bytes told).1 next ∙ ap (λ (h : Held). calib_fetched (is_plain asked) (h asked.calib) last) (sym kept))
+    (goes_by input.Left held c.left.result.now asked.left (fetched input.Right (held asked.right) next) c.left.ensures ((c.in-Ok.ensures.bytes told).1 (fetched input.Right (held asked.right) next))
+    ∙ ap (λ (n : List ℕ). fetched input.Right (held n) next) (sym c.right.ensures)
+    ∙ ap (λ (h : Held). fetched input.Right (h c.right.result.now) next) (sym (c.in-Ok.ensures.held told))
+    ∙ (c.in-Ok-fetch_input.ensures.bytes told).1 next
+    ∙ ap (λ (h : Held). calib_fetched (is_plain asked) (h asked.calib) last) (sym kept))
     (c.in-Err-fetch_calib.ensures.bytes told last (none_less 2 3 last (omega arith) none))
 
 pub returns-in-Ok-fetch_calib-clause-verdict : goal.returns-in-Ok-fetch_calib-clause-verdict
@@ -37,6 +47,27 @@ returns-in-Ok-fetch_calib-clause-verdict g c = λ told last none.
     let asked = c.args.operands.now in let held = g.S.Shelf.held c.args.shelf.now in
     let next = calib_fetched (is_plain asked) (held asked.calib) last in
     let kept = c.in-Ok-fetch_input.ensures.held told ∙ c.in-Ok.ensures.held told in
-    (c.in-Ok.ensures.bytes told).1 _ ∙ ap (λ (h : Held). fetched input.Right (h asked.right) next) (sym (c.in-Ok.ensures.held told))
-    ∙ (c.in-Ok-fetch_input.ensures.bytes told).1 next ∙ ap (λ (h : Held). calib_fetched (is_plain asked) (h asked.calib) last) (sym kept)
+    goes_by input.Left held c.left.result.now asked.left (fetched input.Right (held asked.right) next) c.left.ensures ((c.in-Ok.ensures.bytes told).1 (fetched input.Right (held asked.right) next))
+    ∙ ap (λ (n : List ℕ). fetched input.Right (held n) next) (sym c.right.ensures)
+    ∙ ap (λ (h : Held). fetched input.Right (h c.right.result.now) next) (sym (c.in-Ok.ensures.held told))
+    ∙ (c.in-Ok-fetch_input.ensures.bytes told).1 next
+    ∙ ap (λ (h : Held). calib_fetched (is_plain asked) (h asked.calib) last) (sym kept)
     ∙ (c.in-Ok-fetch_calib.ensures.bytes told).1 last
+
+pub returns-in-Err-fetch_input-clause-counts : goal.returns-in-Err-fetch_input-clause-counts
+returns-in-Err-fetch_input-clause-counts g c = λ names have out.
+    let left = c.in-Ok.ensures.counts names (have input.Left c.left.result.now c.left.ensures) in
+    counts_since names (fetch_outcome c.in-Err-fetch_input.stop) _ _ out _ _ _ left (c.in-Err-fetch_input.ensures.counts names (have input.Right c.right.result.now c.right.ensures) out)
+
+pub returns-in-Err-fetch_calib-clause-counts : goal.returns-in-Err-fetch_calib-clause-counts
+returns-in-Err-fetch_calib-clause-counts g c = λ names have out.
+    let left = c.in-Ok.ensures.counts names (have input.Left c.left.result.now c.left.ensures) in
+    let right = c.in-Ok-fetch_input.ensures.counts names (have input.Right c.right.result.now c.right.ensures) in
+    counts_since names (fetch_outcome c.in-Err-fetch_calib.stop) _ _ out _ _ _ (right.0 ∙ left.0, right.1 ∙ left.1) (c.in-Err-fetch_calib.ensures.counts names have out)
+
+pub returns-in-Ok-fetch_calib-clause-counts : goal.returns-in-Ok-fetch_calib-clause-counts
+returns-in-Ok-fetch_calib-clause-counts g c = λ names have.
+    let left = c.in-Ok.ensures.counts names (have input.Left c.left.result.now c.left.ensures) in
+    let right = c.in-Ok-fetch_input.ensures.counts names (have input.Right c.right.result.now c.right.ensures) in
+    let calib = c.in-Ok-fetch_calib.ensures.counts names have in
+    (calib.0 ∙ right.0 ∙ left.0, calib.1 ∙ right.1 ∙ left.1)

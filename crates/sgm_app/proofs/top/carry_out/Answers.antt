@@ -1,21 +1,58 @@
 use Rattle.std.proofs.Common.{◌∙◌, sym, ap, subst, Result, Ok}
-use Rattle.sgm_words.specs.Operands.{Operands, operands, bytes_of}
+use Rattle.sgm_words.specs.Operands.{Operands, ChangeOperands, of_none, operands, bytes_of}
 use Rattle.sgm_words.specs.declared.options.Options.{Options}
 use Rattle.sgm_words.specs.declared.usage.UsageFault.{UsageFault}
-use Rattle.sgm_app.specs.Calls.{MatchCallsFor, ReadCallsFor}
-use Rattle.sgm_app.proofs.Completing.{demo_put, summary_alone}
+use Rattle.sgm_app.specs.Calls.{MatchCallsFor, ChangeCallsFor, ReadCallsFor}
+use Rattle.sgm_app.specs.Ends.{RunCounts, faults}
+use Rattle.sgm_app.proofs.Completing.{demo_put, summary_alone, out_counts, trace_outputs, trace_put, trace_summary_alone}
+use Rattle.sgm_app.proofs.Finishing.{none_finished}
 use Rattle.sgm_app.proofs.top.carry_out.Goals as goal
 
 pub returns-in-Match-clause-finished : goal.returns-in-Match-clause-finished
 returns-in-Match-clause-finished g c = λ told v calls done.
     let e = sym c.read_words.ensures.exact ∙ c.in-Ok.is ∙ ap (λ (o : Options). let r : Result Options UsageFault = Ok o in r) c.in-Match.is in
-    let P : Result Options UsageFault → Type 0 = λ read. ReadCallsFor read (operands (bytes_of c.args.words.now)) (g.S.Shelf.held c.args.shelf.now) v in
+    let P : Result Options UsageFault → Type 0 = λ read. ReadCallsFor read (bytes_of c.args.words.now) (g.S.Shelf.held c.args.shelf.now) v in
     let Q : Operands → Type 0 = λ asked. MatchCallsFor asked c.in-Match.refine (g.S.Shelf.held c.args.shelf.now) v in
     c.run_match.ensures.finished told v (subst Q (sym c.of.ensures) (subst P e calls)) done
 
 pub returns-in-Demo-clause-files : goal.returns-in-Demo-clause-files
 returns-in-Demo-clause-files g c = λ told v calls.
     let e = sym c.read_words.ensures.exact ∙ c.in-Ok.is ∙ ap (λ (o : Options). let r : Result Options UsageFault = Ok o in r) c.in-Demo.is in
-    let P : Result Options UsageFault → Type 0 = λ read. ReadCallsFor read (operands (bytes_of c.args.words.now)) (g.S.Shelf.held c.args.shelf.now) v in
+    let P : Result Options UsageFault → Type 0 = λ read. ReadCallsFor read (bytes_of c.args.words.now) (g.S.Shelf.held c.args.shelf.now) v in
     demo_put c.in-Demo.number c.in-Demo.refine v c.run_demo.result (g.S.Shelf.held c.args.shelf.now) (subst P e calls)
     (summary_alone c.run_demo.result _ _ (c.run_demo.ensures.counts (g.S.Shelf.read_faults c.args.shelf.now) (g.S.Shelf.write_faults c.args.shelf.now)))
+
+pub returns-in-Match-clause-cause : goal.returns-in-Match-clause-cause
+returns-in-Match-clause-cause g c = λ told v calls.
+    let e = sym c.read_words.ensures.exact ∙ c.in-Ok.is ∙ ap (λ (o : Options). let r : Result Options UsageFault = Ok o in r) c.in-Match.is in
+    let P : Result Options UsageFault → Type 0 = λ read. ReadCallsFor read (bytes_of c.args.words.now) (g.S.Shelf.held c.args.shelf.now) v in
+    let Q : Operands → Type 0 = λ asked. MatchCallsFor asked c.in-Match.refine (g.S.Shelf.held c.args.shelf.now) v in
+    c.run_match.ensures.cause told v (subst Q (sym c.of.ensures) (subst P e calls))
+
+pub returns-in-Demo-clause-counts : goal.returns-in-Demo-clause-counts
+returns-in-Demo-clause-counts g c =
+    let e = sym c.read_words.ensures.exact ∙ c.in-Ok.is ∙ ap (λ (o : Options). let r : Result Options UsageFault = Ok o in r) c.in-Demo.is in
+    let P : Result Options UsageFault → Type 0 = λ read. RunCounts read (bytes_of c.args.words.now) c.run_demo.result
+    (faults (g.S.Shelf.read_faults c.args.shelf.now) (g.S.Shelf.write_faults c.args.shelf.now) (g.O.Sink.faults c.args.out.now))
+    (faults (g.S.Shelf.read_faults c.args.shelf.now) (g.S.Shelf.write_faults c.args.shelf.now) (g.O.Sink.faults c.run_demo.new.out)) in
+    subst P (sym e) (out_counts of_none c.run_demo.result _ _ (c.run_demo.ensures.counts (g.S.Shelf.read_faults c.args.shelf.now) (g.S.Shelf.write_faults c.args.shelf.now)))
+
+pub returns-in-Trace-clause-files : goal.returns-in-Trace-clause-files
+returns-in-Trace-clause-files g c = λ told v calls.
+    let e = sym c.read_words.ensures.exact ∙ c.in-Ok.is ∙ ap (λ (o : Options). let r : Result Options UsageFault = Ok o in r) c.in-Trace.is in
+    let P : Result Options UsageFault → Type 0 = λ read. ReadCallsFor read (bytes_of c.args.words.now) (g.S.Shelf.held c.args.shelf.now) v in
+    trace_put (operands (bytes_of c.args.words.now)) c.in-Trace.dir c.in-Trace.x c.in-Trace.y c.in-Trace.d (g.S.Shelf.held c.args.shelf.now) _ v c.run_trace.result (subst P e calls)
+    (trace_summary_alone _ c.run_trace.result _ _ c.run_trace.ensures.counts) (c.run_trace.ensures.held told)
+
+pub returns-in-Trace-clause-finished : goal.returns-in-Trace-clause-finished
+returns-in-Trace-clause-finished g c = λ told v calls done.
+    let e = sym c.read_words.ensures.exact ∙ c.in-Ok.is ∙ ap (λ (o : Options). let r : Result Options UsageFault = Ok o in r) c.in-Trace.is in
+    let P : Result Options UsageFault → Type 0 = λ read. ReadCallsFor read (bytes_of c.args.words.now) (g.S.Shelf.held c.args.shelf.now) v in
+    none_finished v _ (trace_outputs (operands (bytes_of c.args.words.now)) c.in-Trace.dir c.in-Trace.x c.in-Trace.y c.in-Trace.d (g.S.Shelf.held c.args.shelf.now) v (subst P e calls))
+
+pub returns-in-Change-clause-cause : goal.returns-in-Change-clause-cause
+returns-in-Change-clause-cause g c = λ told v calls.
+    let e = sym c.read_words.ensures.exact ∙ c.in-Ok.is ∙ ap (λ (o : Options). let r : Result Options UsageFault = Ok o in r) c.in-Change.is in
+    let P : Result Options UsageFault → Type 0 = λ read. ReadCallsFor read (bytes_of c.args.words.now) (g.S.Shelf.held c.args.shelf.now) v in
+    let Q : ChangeOperands → Type 0 = λ asked. ChangeCallsFor asked (g.S.Shelf.held c.args.shelf.now) v in
+    c.run_change.ensures.cause told v (subst Q (sym c.of-in-Change.ensures) (subst P e calls))

@@ -1,7 +1,10 @@
-use Rattle.std.proofs.Common.{◌∙◌, sym}
+use Rattle.std.proofs.Common.{◌∙◌, sym, ap, refl, [], List, ℕ}
+use Rattle.sgm_words.specs.Operands.{of_trace}
 use Rattle.sgm_app.specs.Certificates.{certificate_for}
 use Rattle.sgm_app.specs.Verdict.{files, calib_of}
-use Rattle.sgm_app.proofs.Delivering.{settled, files_shown, out_along}
+use Rattle.sgm_app.proofs.Completing.{out_counts}
+use Rattle.sgm_app.proofs.Counting.{counts_since, texts_counts}
+use Rattle.sgm_app.proofs.Delivering.{settled, out_along}
 use Rattle.sgm_app.proofs.Reading.{image_reads, calib_reads}
 use Rattle.sgm_app.proofs.Steps.{shown_along, stop_shown}
 use Rattle.sgm_app.proofs.VerdictLaws.{none_traced}
@@ -12,8 +15,39 @@ returns-in-Err-clause-cause g c = λ told v calls.
     let asked = c.args.operands.now in let r = calls.readings in
     rw c.outcome.ensures (shown_along v _ _ (sym calls.is) (c.in-Err.ensures.verdict told _ (none_traced 3 c.args.dir c.args.x c.args.y c.args.d r.left r.right (calib_of asked r))))
 
-pub returns-in-Err-certificate-clause-cause : goal.returns-in-Err-certificate-clause-cause
-returns-in-Err-certificate-clause-cause g c = λ told v calls.
+pub returns-in-Ok-certificate-clause-cause : goal.returns-in-Ok-certificate-clause-cause
+returns-in-Ok-certificate-clause-cause g c = λ told v calls.
+    let asked = c.args.operands.now in let r = calls.readings in let are = calls.are_readings in
+    let at = c.in-Ok.ensures.at_hand told in
+    shown_along v (files [] c.deref-in-Ok-certificate.result.now) c.deliver_summary.result
+    (sym (ap (λ (s : List ℕ). files [] s) c.deref-in-Ok-certificate.ensures.value
+    ∙ settled _ v (certificate_for r.left r.right (calib_of asked r) c.args.dir c.args.x c.args.y c.args.d) (λ t. files [] t) c.in-Ok-certificate.text.items calls.is
+    (c.in-Ok.ensures.verdict told _ (none_traced 3 c.args.dir c.args.x c.args.y c.args.d r.left r.right (calib_of asked r)))
+    (c.in-Ok-certificate.ensures r.left r.right (calib_of asked r)
+    (image_reads _ _ _ r.left at.left c.deref.ensures.value are.left) (image_reads _ _ _ r.right at.right c.deref-2.ensures.value are.right)
+    (calib_reads asked _ r c.in-Ok.inputs _ at are c.calib.ensures))))
+    c.deliver_summary.ensures.shown
+
+pub returns-in-Ok-certificate-clause-out : goal.returns-in-Ok-certificate-clause-out
+returns-in-Ok-certificate-clause-out g c = λ told told_out v calls.
+    let asked = c.args.operands.now in let r = calls.readings in let are = calls.are_readings in
+    let at = c.in-Ok.ensures.at_hand told in
+    out_along c.deliver_summary.result v (files [] c.deref-in-Ok-certificate.result.now) _ _
+    (ap (λ (s : List ℕ). files [] s) c.deref-in-Ok-certificate.ensures.value
+    ∙ settled _ v (certificate_for r.left r.right (calib_of asked r) c.args.dir c.args.x c.args.y c.args.d) (λ t. files [] t) c.in-Ok-certificate.text.items calls.is
+    (c.in-Ok.ensures.verdict told _ (none_traced 3 c.args.dir c.args.x c.args.y c.args.d r.left r.right (calib_of asked r)))
+    (c.in-Ok-certificate.ensures r.left r.right (calib_of asked r)
+    (image_reads _ _ _ r.left at.left c.deref.ensures.value are.left) (image_reads _ _ _ r.right at.right c.deref-2.ensures.value are.right)
+    (calib_reads asked _ r c.in-Ok.inputs _ at are c.calib.ensures)))
+    (c.deliver_summary.ensures.out told_out)
+
+pub returns-in-Ok-certificate-clause-counts : goal.returns-in-Ok-certificate-clause-counts
+returns-in-Ok-certificate-clause-counts g c =
+    let kept = c.in-Ok.ensures.counts (of_trace c.args.operands.now) (λ input name is. is) in
+    counts_since (of_trace c.args.operands.now) c.deliver_summary.result _ _ _ _ _ _ kept (out_counts (of_trace c.args.operands.now) c.deliver_summary.result _ _ (c.deliver_summary.ensures.counts _ _))
+
+pub returns-clause-cause : goal.returns-clause-cause
+returns-clause-cause g c = λ told v calls.
     let asked = c.args.operands.now in let r = calls.readings in let are = calls.are_readings in
     let at = c.in-Ok.ensures.at_hand told in
     rw c.outcome-in-Err-certificate.ensures (shown_along v _ _ (sym calls.is ∙ c.in-Ok.ensures.verdict told _ (none_traced 3 c.args.dir c.args.x c.args.y c.args.d r.left r.right (calib_of asked r)))
@@ -21,3 +55,8 @@ returns-in-Err-certificate-clause-cause g c = λ told v calls.
     (c.in-Err-certificate.ensures r.left r.right (calib_of asked r)
     (image_reads _ _ _ r.left at.left c.deref.ensures.value are.left) (image_reads _ _ _ r.right at.right c.deref-2.ensures.value are.right)
     (calib_reads asked _ r c.in-Ok.inputs _ at are c.calib.ensures))))
+
+pub returns-clause-counts : goal.returns-clause-counts
+returns-clause-counts g c =
+    let kept = c.in-Ok.ensures.counts (of_trace c.args.operands.now) (λ input name is. is) in
+    rw c.outcome-in-Err-certificate.ensures (texts_counts (of_trace c.args.operands.now) c.in-Err-certificate.error _ _ (record { reads = kept.0; writes = kept.1; out = refl }))
