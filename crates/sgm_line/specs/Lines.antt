@@ -1,6 +1,6 @@
 -- A line and its passes, as contracts see them.
 use Rattle.std.specs.Prelude.{ℕ, ◌≤◌}
-use Rattle.crossbeam_queue.specs.Passes.{view, IsPassOf}
+use Rattle.crossbeam_queue.specs.Passes.{view, IsPassOf, ruled_capacity}
 use Rattle.sgm_line.specs.declared.log.Log.{Log}
 use Rattle.sgm_line.specs.declared.line.Line.{Line}
 use Rattle.sgm_line.specs.declared.pass.LinePass.{LinePass}
@@ -17,3 +17,7 @@ module _ {T : Type 0} where
 
   abbrev pub HasBoth : Log T → Type 0
   HasBoth log = 2 ≤ log.shares
+
+  -- for how many values a line has room
+  abbrev pub room_of : Line T → ℕ
+  room_of line = ruled_capacity line.queue

@@ -8,3 +8,6 @@ mod rule;
 
 pub use line::Line;
 pub use pass::LinePass;
+
+#[cfg(test)]
+mod tests;

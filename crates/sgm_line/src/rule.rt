@@ -43,7 +43,9 @@ impl<T> Outcome<T, Log<T>> for Push {
 }
 
 impl<T> Lesson<T, Log<T>> for Push {
-    ghost fact = { λ v items. Unit {0} };
+    ghost use Rattle.sgm_line.specs.Rules.{Known};
+
+    ghost fact = { Known };
 }
 
 pub struct Pop;
