@@ -69,7 +69,7 @@ module _ {T : Type 0} where
         → (to : ℕ) × (u' : Log T) × (get_elem? (set views id w) to ≡ some u') × Contains u'.pushed x
     from_set w keeps x at u h c = dite (ℕ_discrete at id)
         (λ e. let same : v ≡ u = some-injective v u (sym here ∙ (ap (get_elem? views) (sym e) ∙ h)) in
-          (id, w, set_at views id v w here, keeps x (subst (λ (l : Log T). Contains l.pushed x) (sym same) c)))
+        (id, w, set_at views id v w here, keeps x (subst (λ (l : Log T). Contains l.pushed x) (sym same) c)))
         (λ ne. (at, u, set_else views id at w ne ∙ h, c))
 
     pub push : (x : T) → 1 ≤ v.shares → Rule (items ++ x ∷ []) (set views id (after_push v x))
@@ -181,10 +181,10 @@ module _ {T : Type 0} where
             let f = rule.from_passes x c in
             dite (ℕ_discrete f.0 id)
             (λ e. let same : v ≡ f.1 = some-injective v f.1 (sym here ∙ (ap (get_elem? views) (sym e) ∙ f.2)) in
-              (id, both, stays, Contains-append_left v.pushed u.pushed x (subst (λ (l : Log T). Contains l.pushed x) (sym same) f.3)))
+            (id, both, stays, Contains-append_left v.pushed u.pushed x (subst (λ (l : Log T). Contains l.pushed x) (sym same) f.3)))
             (λ apart. dite (ℕ_discrete f.0 other)
             (λ e. let same : u ≡ f.1 = some-injective u f.1 (sym was ∙ (ap (get_elem? views) (sym e) ∙ f.2)) in
-              (id, both, stays, Contains-append_right v.pushed u.pushed x (subst (λ (l : Log T). Contains l.pushed x) (sym same) f.3)))
+            (id, both, stays, Contains-append_right v.pushed u.pushed x (subst (λ (l : Log T). Contains l.pushed x) (sym same) f.3)))
             (λ far. (f.0, f.1, set_else vs other f.0 spent far ∙ (set_else views id f.0 both apart ∙ f.2), f.3)));
       }
 
