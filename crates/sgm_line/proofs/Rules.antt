@@ -1,16 +1,15 @@
 -- Each kind of step keeps the rule.
-use Rattle.std.proofs.Common.{◌≡◌, ◌≢◌, ℕ, zero, suc, ◌+◌, ◌<◌, ◌≤◌, ◌⊎◌, Bool, true, List, [], ◌∷◌, ◌++◌, length, set, sym, refl, ap, ◌∙◌, subst, ⊎_elim, arith}
+use Rattle.std.proofs.Common.{◌≡◌, ◌≢◌, ℕ, zero, suc, ◌+◌, ◌<◌, ◌≤◌, ◌⊎◌, Bool, List, [], ◌∷◌, ◌++◌, length, set, sym, refl, ap, ◌∙◌, subst, ⊎_elim, arith}
 use mathlib.Core.Logic.{dite}
 use mathlib.Core.Option.{some, some-injective, some-ne-none}
 use native.Mathlib.Decide.{ℕ_discrete}
 use lib.ListN.{get_elem?}
 use Rattle.std.specs.Prelude.{count_by, Contains, cond}
 use Rattle.std.specs.List.{sum_by}
-use Rattle.std.specs.Prelude.{Result, Ok, Err, OnErr, MatchResult}
 use Rattle.std.proofs.lemmas.List.Elements.{Contains-append_left, Contains-append_right, Contains-push, Contains-push_cases}
 use Rattle.std.proofs.lemmas.List.Sums.{sum_by-append, sum_by-cons}
 use Rattle.atomic_table.proofs.Lists.{at_set, set_else, at_longer}
-use Rattle.crossbeam_queue.specs.Fifo.{Held, Pushes, Pops, Forks, Merges, Learns}
+use Rattle.crossbeam_queue.specs.Fifo.{Pushes, Pops, Forks, Merges, Learns}
 use Rattle.sgm_line.specs.declared.log.Log.{Log}
 use Rattle.sgm_line.specs.Logs.{after_pop, after_push, first, given, joined, kept, log, spent}
 use Rattle.sgm_line.specs.Rules.{Known, PopTold, Rule}
@@ -25,11 +24,6 @@ module _ {T : Type 0} where
 
   count_join : (test : T → Bool) (xs ys : List T) → count_by test (xs ++ ys) ≡ count_by test xs + count_by test ys
   count_join test xs ys = sum_by-append (λ y. cond (test y) 1 0) xs ys
-
-  -- every value passes a test that asks nothing
-  count_all : (xs : List T) → count_by (λ x. true) xs ≡ length xs
-  count_all [] = refl
-  count_all (x ∷ xs) = let e = count_cons (λ y. true) x xs in let r = count_all xs in omega arith
 
   none_in : (x : T) → Contains [] x → ⊥
   none_in x h = let inside = h.1 in omega arith
@@ -187,16 +181,3 @@ module _ {T : Type 0} where
             (id, both, stays, Contains-append_right v.pushed u.pushed x (subst (λ (l : Log T). Contains l.pushed x) (sym same) f.3)))
             (λ far. (f.0, f.1, set_else vs other f.0 spent far ∙ (set_else views id f.0 both apart ∙ f.2), f.3)));
       }
-
-  -- what a pass with both shares knows of the line's length
-  pub known_length : (v : Log T) (n : ℕ) → Held n (Known v) → 2 ≤ v.shares → n + length v.popped ≡ length v.pushed
-  known_length v n (items, long, known) both =
-      let k = known both (λ x. true) in
-      let a = count_all items in
-      let b = count_all v.popped in
-      let c = count_all v.pushed in
-      omega arith
-
-pub on_err : {A B : Type 0} (r : Result A B) (P : A → Type 0) (Q : B → Type 0) (X : Type 0) → ((x : B) → Q x → X) → MatchResult r P Q → OnErr r X
-on_err (Ok a) P Q X f h = tt
-on_err (Err b) P Q X f h = f b h

@@ -1,7 +1,7 @@
 //! The line.
-ghost use Rattle.std.specs.Prelude.{◌≡◌, ◌+◌, ◌<◌, Bool, length, count_by, Contains, IfOk, OnOk, OnErr, IfErr, IfNone, IfSome};
+ghost use Rattle.std.specs.Prelude.{◌≡◌, ◌<◌, Bool, count_by, Contains, IfOk, OnOk, OnErr, IfErr, IfNone, IfSome};
 ghost use Rattle.sgm_line.specs.Logs.{after_pop, after_push, first, given, joined, kept};
-ghost use Rattle.sgm_line.specs.Lines.{IsLinePassOf, HasBoth, log_of, room_of};
+ghost use Rattle.sgm_line.specs.Lines.{IsLinePassOf, HasBoth, WasFull, log_of, room_of};
 
 use crate::log::Log;
 use crate::pass::LinePass;
@@ -40,15 +40,13 @@ impl<T: Drop> Line<T> {
         }
     }
 
-    /// Pushes a value. It comes back only where the line was full at one moment of this call; where the pass
-    /// has both shares, all that was pushed and not popped is what the line has.
+    /// Pushes a value. It comes back only where the line was full at one moment of this call.
     pub fn push<R: Wait>(&self, rt: &R, pass: &mut LinePass<T>, value: T) -> Result<(), T>
         requires own { IsLinePassOf self.now pass.old }
         ensures own { IsLinePassOf self.now pass.new }
         ensures ok { OnOk result (log_of pass.new ≡ after_push (log_of pass.old) value) }
         ensures err { IfErr result (λ x. (x ≡ value) × (log_of pass.new ≡ log_of pass.old)) }
-        ensures full { OnErr result (HasBoth (log_of pass.old)
-            → room_of self.now + length (log_of pass.old).popped ≡ length (log_of pass.old).pushed) }
+        ensures full { OnErr result (WasFull self.now (log_of pass.old)) }
     {
         self.queue.push_as::<Push, R>(rt, &mut pass.pass, value)
     }
