@@ -155,7 +155,7 @@ fold -s -w 112 <<<"$trusted" | sed 's/^/    /; s/ *$//' >"$work/trusted"
 sed -e "s/@VERSION@/$version/" -e "s/@COMMIT@/$commit/" -e "s/@KIT@/$(rt version)/" -e "s/@CHANGED@/$changed/" \
     -e "/@SUMS@/r $work/sums" -e "/@TRUSTED@/r $work/trusted" -e '/@SUMS@\|@TRUSTED@/d' packaging/provenance.txt >"$doc/PROVENANCE"
 sed "s/@YEAR@/$(date -u -d "@$SOURCE_DATE_EPOCH" +%Y)/" packaging/copyright.txt >"$doc/copyright"
-maintainer=$(git log -1 --format='%cn <%ce>')
+maintainer=$(sed -n 's/^Maintainer: //p' packaging/control.txt)
 cat >"$doc/changelog" <<CHANGES
 sgm ($version) unstable; urgency=medium
 
@@ -169,7 +169,7 @@ gzip -9n "$doc/changelog" "$usr"/share/man/man1/*
 
 mkdir "$tree/DEBIAN"
 size=$(find "$usr" \( -type f -printf '%s\n' \) -o -printf '1\n' | awk '{ total += int(($1 + 1023) / 1024) } END { print total }')
-sed -e "s/@VERSION@/$version/" -e "s/@MAINTAINER@/$maintainer/" -e "s/@SIZE@/$size/" -e "s/@LIBC@/${libc#GLIBC_}/" \
+sed -e "s/@VERSION@/$version/" -e "s/@SIZE@/$size/" -e "s/@LIBC@/${libc#GLIBC_}/" \
     packaging/control.txt >"$tree/DEBIAN/control"
 (cd "$tree" && find usr -type f -print0 | sort -z | xargs -0 md5sum) >"$tree/DEBIAN/md5sums"
 find "$tree" -exec touch -h -d "@$SOURCE_DATE_EPOCH" {} +

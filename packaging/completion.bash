@@ -56,4 +56,4 @@ _sgm_tool() {
 
 complete -F _sgm sgm
 complete -F _sgm_tool sgm-calibrate sgm-calibration sgm-photo sgm-page sgm-heights sgm-stretch sgm-cubic-metres \
-    sgm-check-trace sgm-explain-pixel
+    sgm-change-volumes sgm-cell-pixels sgm-check-trace sgm-explain-pixel

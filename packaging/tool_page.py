@@ -28,7 +28,8 @@ def installed_names(file):
 
 
 def renamed(text, names):
-    """The text with each tool under the name that it has where it is installed."""
+    """The text with the program and each tool under the name that it has where it is installed."""
+    text = text.replace("./sgm ", "sgm ")
     for tool, name in names.items():
         text = re.sub(rf"(?:\btools/)?\b{tool}\.py\b", name, text)
     return text
