@@ -5,10 +5,10 @@
 
 The commands are those that stand between ```sh and ```; they are run as they stand from the top of the
 repository, with `./sgm` being the program that the variable SGM names (./sgm itself without it), and /tmp/survey
-and /tmp/heap being in a new folder. Each has to end with 0 and to write the files that it names, and the grids
-in metres have to be the survey's and the change's. Other blocks that begin with ``` show files and what is printed; in the chapters on
-certificates and on change, whose numbers no package has a part in, each line of such a block has to be printed by
-one of the commands. Needs what the tools need, and GDAL. Takes a minute.
+and /tmp/heap being in a new folder. Each has to end with 0 and to write the files that it names, and the grids in
+metres have to be the survey's and the change's. Other blocks that begin with ``` show files and what is printed; in
+the chapters on certificates and on change, whose numbers no package has a part in, each line of such a block has to
+be printed by one of the commands. Needs what the tools need, and GDAL. Takes a minute.
 """
 
 import argparse
