@@ -103,7 +103,8 @@ class Case:
 
 
 def main():
-    parser = argparse.ArgumentParser(description=__doc__.split("\n\n")[0], epilog="Example: tests/certificates.py --cases 1000")
+    epilog = "Example: tests/certificates.py --cases 1000"
+    parser = argparse.ArgumentParser(description=__doc__.split("\n\n")[0], epilog=epilog)
     parser.add_argument("--seed", type=int, default=0, help="another one gives other cases (0)")
     parser.add_argument("--cases", type=int, default=300, metavar="N", help="how many (300)")
     words = parser.parse_args()
@@ -126,7 +127,8 @@ def main():
             raise Wrong(f"of {number} pairs {number - held} were refused")
     if words.cases >= 100 and min(seen.values()) < words.cases // 10:
         raise Wrong(f"too few of a kind: {seen}")
-    what = f"{seen['adaptive']} with penalties that follow the picture, {seen['void']} with voids, {seen['long']} of more than 8 pixels"
+    what = f"{seen['adaptive']} with penalties that follow the picture, {seen['void']} with voids, "
+    what += f"{seen['long']} of more than 8 pixels"
     print(f"certificates: {held} hold ({what}), and of {seen['changed']} that were changed none does")
 
 

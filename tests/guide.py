@@ -5,10 +5,10 @@
 
 The commands are those that stand between ```sh and ```; they are run as they stand from the top of the
 repository, with `./sgm` being the program that the variable SGM names (./sgm itself without it), and /tmp/survey
-and /tmp/heap being in a new folder. Each has to end with 0 and to write the files that it names, and the grid
-in metres has to be the survey's. Other blocks that begin with ``` show files and what is printed; in the chapters on
-certificates and on change, whose numbers no package has a part in, each line of such a block has to be printed by
-one of the commands. Needs what the tools need, and GDAL. Takes a minute.
+and /tmp/heap being in a new folder. Each has to end with 0 and to write the files that it names, and the grids in
+metres have to be the survey's and the change's. Other blocks that begin with ``` show files and what is printed; in
+the chapters on certificates and on change, whose numbers no package has a part in, each line of such a block has to
+be printed by one of the commands. Needs what the tools need, and GDAL. Takes a minute.
 """
 
 import argparse
@@ -81,12 +81,12 @@ def run(folder, environment):
     return len(given), f"nothing prints\n{missing[0]}" if missing else None
 
 
-def metres_fault(folder):
-    """What is wrong with the grid in metres: its corners, and its lowest and highest height; None where nothing is."""
-    words = ["gdalinfo", "-json", "-mm", os.path.join(folder, "survey", "heap.tif")]
+def metres_fault(folder, name):
+    """What is wrong with a grid in metres: its corners, and its lowest and highest number; None where nothing is."""
+    words = ["gdalinfo", "-json", "-mm", os.path.join(folder, "survey", name + ".tif")]
     found = json.loads(subprocess.run(words, capture_output=True, check=True).stdout)
     band, corners = found["bands"][0], found["cornerCoordinates"]
-    with open(os.path.join(folder, "survey", "heap.asc"), encoding="ascii") as file:
+    with open(os.path.join(folder, "survey", name + ".asc"), encoding="ascii") as file:
         numbers = file.read().split()
     cols, rows, west, south, cell, empty = map(int, numbers[1:12:2])
     heights = [int(word) for word in numbers[12:] if int(word) != empty]
@@ -94,7 +94,7 @@ def metres_fault(folder):
     got = [*corners["upperLeft"], *corners["lowerRight"], band["computedMin"], band["computedMax"]]
     # gdalinfo gives the lowest and the highest with three decimals.
     near = [abs(a * 1e6 - b) < limit for a, b, limit in zip(got, wanted, [1, 1, 1, 1, 501, 501])]
-    return None if all(near) else f"the grid in metres has {got}, not {wanted} micrometres"
+    return None if all(near) else f"{name}.tif has {got}, not {wanted} micrometres"
 
 
 def main():
@@ -107,7 +107,7 @@ def main():
     folder = os.path.realpath(words.keep) if words.keep else tempfile.mkdtemp(prefix="sgm-guide.")
     try:
         count, fault = run(folder, {**os.environ, "SGM": program})
-        fault = fault or metres_fault(folder)
+        fault = fault or metres_fault(folder, "heap") or metres_fault(folder, "change")
     finally:
         if not words.keep:
             shutil.rmtree(folder)

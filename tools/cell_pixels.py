@@ -45,7 +45,8 @@ class Points:
         away = rounded(self.focal * self.baseline, k)
         if not self.near <= away <= self.far:
             return None
-        return rounded((256 * x - self.cx) * self.baseline, k), rounded((self.cy - 256 * y) * self.baseline, k), self.mount - away
+        east = rounded((256 * x - self.cx) * self.baseline, k)
+        return east, rounded((self.cy - 256 * y) * self.baseline, k), self.mount - away
 
 
 def pixels_in(values, filled, points, grid, col, row):
@@ -59,7 +60,7 @@ def pixels_in(values, filled, points, grid, col, row):
     north = rounded((points.cy - 256 * ys) * points.baseline, k)
     inside = (points.near <= away) & (away <= points.far) & (west <= east) & (east < west + grid.cell)
     inside &= (south <= north) & (north < south + grid.cell)
-    found = zip(points.mount - away[inside], xs[inside], ys[inside], values[ys, xs][inside], east[inside], north[inside])
+    found = zip(*(it[inside] for it in (points.mount - away, xs, ys, values[ys, xs], east, north)))
     return sorted((tuple(map(int, it)) for it in found), key=lambda it: (-it[0], it[2], it[1]))
 
 
@@ -94,7 +95,8 @@ def main():
     height = int(grid.heights[words.row, words.col]) if grid.filled[words.row, words.col] else None
     if (found[0][0] if found else None) != height:
         raise Wrong(f"{words.survey}.pgm and {words.survey}.asc aren't of one survey by {words.calib}")
-    print(f"cell {words.col} {words.row}: " + (f"{decimal(height, 6)} m, from {len(found)} pixels" if found else "empty"))
+    what = f"{decimal(height, 6)} m, from {len(found)} pixels" if found else "empty"
+    print(f"cell {words.col} {words.row}: {what}")
     for high, x, y, value, east, north in found[: None if words.all else SHOWN]:
         where = ", ".join(decimal(it, 6) for it in (east, north))
         print(f"pixel {x} {y}: disparity {sixteenths(value, points.first)}, at {where}, height {decimal(high, 6)} m")

@@ -101,7 +101,8 @@ def main():
     parser.add_argument("change", metavar="OUT", help="the last word of the change")
     parser.add_argument("--calib", required=True, metavar="FILE.json", help="the calibration of either survey")
     parser.add_argument("--still", metavar="NAME", help="a region in which nothing has changed")
-    parser.add_argument("--digits", type=int, choices=range(19), metavar="N", help="decimals, 0 to 18 (all if not given)")
+    digits = "decimals, 0 to 18 (all if not given)"
+    parser.add_argument("--digits", type=int, choices=range(19), metavar="N", help=digits)
     words = parser.parse_args()
     sgm_files.need(numpy=numpy)
     named = tallies(words.change, sgm_files.read_json(words.calib))

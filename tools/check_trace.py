@@ -236,7 +236,8 @@ def fault(ray, d, text):
     for number in range(len(indices) - 1, 0, -1):
         best = ray.best_before(number, indices[number])
         if indices[number - 1] != best:
-            return f"line {number + 1}: the index is {indices[number - 1]}, and {best} costs less, or is lesser and costs as much"
+            why = f"the index is {indices[number - 1]}, and {best} costs less, or is lesser and costs as much"
+            return f"line {number + 1}: {why}"
     if total != energy:
         return f"line 1: the costs and jumps add up to {total}, not {energy}"
     return None

@@ -157,7 +157,8 @@ def main():
     parser.add_argument("--ground", metavar="NAME", help="the region of flat ground above which others are measured")
     parser.add_argument("--calibration", metavar="CALIB.json", help="that of the survey; --ground takes it")
     parser.add_argument("--out", metavar="FILE.csv", help="the new table (standard output if not given)")
-    parser.add_argument("--digits", type=int, choices=range(19), metavar="N", help="decimals, 0 to 18 (all if not given)")
+    digits = "decimals, 0 to 18 (all if not given)"
+    parser.add_argument("--digits", type=int, choices=range(19), metavar="N", help=digits)
     words = parser.parse_args()
     if (words.ground is None) != (words.calibration is None):
         parser.error("--ground and --calibration take each other")

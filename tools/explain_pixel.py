@@ -12,8 +12,8 @@ there (`sgm match`, without peaks or filling, in a folder that goes away again),
 calibration has a camera.
 
 It ends with 0 where all of it holds together, and names what doesn't and ends with 1 elsewhere. The program is what
---sgm names, or the variable SGM, or the one of this repository, or the one on the PATH. Needs numpy. Takes seconds for small pictures,
-a minute for large ones.
+--sgm names, or the variable SGM, or the one of this repository, or the one on the PATH. Needs numpy. Takes seconds
+for small pictures, a minute for large ones.
 """
 
 import argparse
@@ -92,7 +92,8 @@ def check_certificates(program, words, directions, indices, chosen):
     for number, direction in enumerate(directions):
         sgm_files.progress(f"checking direction {number + 1} of {len(directions)}")
         for d in indices:
-            text = run_program(program, "trace", words.left, words.right, words.calib, direction.name, words.x, words.y, d)
+            place = (direction.name, words.x, words.y, d)
+            text = run_program(program, "trace", words.left, words.right, words.calib, *place)
             direction.check(d, text)
             if d == chosen:
                 direction.count(text)
@@ -148,27 +149,30 @@ def partner(pair, x, y, chosen):
 
 def explain(pair, words, value, directions, indices, chosen):
     sums = [sum(it.paths[d] for it in directions) for d in range(pair.count)]
-    yield f"Pixel {words.x} {words.y}: disparities {pair.first} to {pair.first + pair.count - 1} were tried, index 0 being the first."
+    tried = f"{pair.first} to {pair.first + pair.count - 1}"
+    yield f"Pixel {words.x} {words.y}: disparities {tried} were tried, index 0 being the first."
     yield "The lines of pixels that lead to it from eight sides, and what each index costs at their end:"
     yield ""
     yield from table(directions, indices, chosen)
     yield ""
-    yield f"All {len(directions) * len(indices)} certificates hold. A column `index` has their energies, less what the line"
-    yield "before the pixel costs at least, which is the same for every index. The last three say what the"
-    yield f"certificates of index {chosen} are made of: costs of pixels, changes by one disparity, larger ones."
+    yield f"All {len(directions) * len(indices)} certificates hold. A column `index` has their energies, less what the"
+    yield "line before the pixel costs at least, which is the same for every index. The last three columns say"
+    yield f"what the certificates of index {chosen} are made of: costs of pixels, changes by one, larger ones."
     yield ""
     yield f"Index {chosen}, disparity {pair.first + chosen}, has the least sum, {sums[chosen]}."
     yield from comparison(sums, chosen, pair.first)
     moved = offset(*sums[chosen - 1 : chosen + 2]) if 0 < chosen < pair.count - 1 else 0
     if moved:
-        yield f"The parabola through the three sums has its lowest point {abs(moved)}/16 {'below' if moved < 0 else 'above'} it."
+        where = "below" if moved < 0 else "above"
+        yield f"The parabola through the three sums has its lowest point {abs(moved)}/16 {where} it."
     if value is None:
         yield f"The program's picture has no disparity here: {partner(pair, words.x, words.y, chosen)}"
         return
     if value != 16 * chosen + moved:
-        wanted = sixteenths(16 * chosen + moved, pair.first)
-        raise Wrong(f"the program's picture has disparity {sixteenths(value, pair.first)} here, the sums ask for {wanted}")
-    yield f"So the disparity is {sixteenths(value, pair.first)}, in pixels, and that is what the program's picture has here."
+        found, wanted = (sixteenths(it, pair.first) for it in (value, 16 * chosen + moved))
+        raise Wrong(f"the program's picture has disparity {found} here, the sums ask for {wanted}")
+    found = sixteenths(value, pair.first)
+    yield f"So the disparity is {found}, in pixels, and that is what the program's picture has here."
 
 
 def point_line(calibration, words, value):

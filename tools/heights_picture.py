@@ -1,5 +1,5 @@
 #!/usr/bin/env python3
-"""Turns a height grid (OUT.asc) into a picture of the ground as a map shows it, coloured and shaded, or a change into one.
+"""Turns a height grid (OUT.asc) into a picture of the ground as a map shows it, or a difference into one.
 
     tools/heights_picture.py OUT.asc --out FILE.png [--zoom 4]
 
@@ -78,7 +78,7 @@ def darkest_of(grid):
 
 
 def changed(grid):
-    """The colours of a difference, white where nothing has changed, and the darkest blue's and the darkest red's change."""
+    """The colours of a difference, white where nothing has changed, and the changes of the darkest blue and red."""
     if not grid.filled.any():
         return numpy.zeros((*grid.heights.shape, 3), numpy.uint8), None
     darkest = darkest_of(grid)
@@ -89,7 +89,7 @@ def changed(grid):
 
 
 def drawn(grid):
-    """The colours of heights or of a difference, and the numbers that have the end colours; None where there are none."""
+    """The colours of heights or of a difference, and the numbers that have the end colours; None for no numbers."""
     return changed(grid) if grid.nothing == sgm_files.NO_DIFFERENCE else shaded(grid)
 
 
@@ -114,7 +114,8 @@ def main():
     grid = sgm_files.read_grid(words.file)
     colours, ends = drawn(grid)
     sgm_files.write_png(words.out, zoomed(colours, words.zoom or zoom_of(*grid.heights.shape)))
-    low, high, what = ("blue", "red", "change") if grid.nothing == sgm_files.NO_DIFFERENCE else ("green", "white", "height")
+    is_change = grid.nothing == sgm_files.NO_DIFFERENCE
+    low, high, what = ("blue", "red", "change") if is_change else ("green", "white", "height")
     print(f"{ends[0]} ({low}) to {ends[1]} ({high}) micrometres of {what}" if ends else "every cell is empty")
 
 

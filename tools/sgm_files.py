@@ -114,7 +114,7 @@ def read_pgm(name):
     need(numpy=numpy)
     data = read_bytes(name)
     head = PGM_HEAD.match(data)
-    if not head or max(len(number) for number in head.groups()) > 9:
+    if not head or max(len(number.lstrip(b"0")) for number in head.groups()) > 9:
         raise Wrong(f"{name}: not a binary PGM")
     width, height, most = map(int, head.groups())
     if not (1 <= width <= 4096 and 1 <= height <= 4096 and 1 <= most <= 65535):

@@ -48,7 +48,8 @@ def main():
         unit = "sixteenths of a pixel above the first disparity"
     else:
         grid = sgm_files.read_grid(words.file)
-        values, filled, unit = grid.heights, grid.filled, "micrometres of height"
+        what = "change" if grid.nothing == sgm_files.NO_DIFFERENCE else "height"
+        values, filled, unit = grid.heights, grid.filled, f"micrometres of {what}"
     numbers, ends = stretched(values, filled)
     sgm_files.write_png(words.out, numbers, PALETTE)
     print("no value anywhere" if ends is None else f"{ends[0]} (dark) to {ends[1]} (light) {unit}")

@@ -185,8 +185,9 @@ def change_of(out, calibration, grid):
     report = []
     for (name, it), (_, at) in zip(tallies, change_volumes.regions_of(calibration, grid)):
         found = grid.heights[at][grid.filled[at]]
-        ends = {"lowest": int(found.min()), "highest": int(found.max())} if it.cells else {"lowest": None, "highest": None}
-        report.append({"region": name, "cells": it.cells, "empty": it.empty, "fill": it.fill, "cut": it.cut, **ends})
+        lowest, highest = (int(found.min()), int(found.max())) if it.cells else (None, None)
+        numbers = (name, it.cells, it.empty, it.fill, it.cut, lowest, highest)
+        report.append(dict(zip(sgm_files.REPORT_NAMES, numbers)))
     regions = regions_of(calibration, report)
     counts = {key: said[key] for key in ("both", "come", "gone")}
     volumes = {key: str(said[key]) for key in ("fill", "cut")}
@@ -210,7 +211,8 @@ def main():
     epilog = "Example: tools/survey_page.py /tmp/heap --calib calibration.json --left left.pgm"
     parser = argparse.ArgumentParser(description=__doc__.split("\n\n")[0], epilog=epilog)
     parser.add_argument("survey", metavar="OUT", help="the last word of the match, or of the change")
-    parser.add_argument("--calib", required=True, metavar="FILE.json", help="the calibration of that match, or of either")
+    calib = "the calibration of that match, or of either"
+    parser.add_argument("--calib", required=True, metavar="FILE.json", help=calib)
     parser.add_argument("--left", metavar="FILE.pgm", help="the left picture, to be shown too")
     parser.add_argument("--out", metavar="FILE.html", help="the page (OUT.html)")
     parser.add_argument("--title", metavar="TEXT", help="the heading (the name of OUT)")

@@ -37,7 +37,7 @@ class Pgm(Files):
         for data, most, samples in [
             (b"P5 2 1 255\n\0\xff", 255, [[0, 255]]),
             (b"P5#a\n#b\r 002\t1\v200#no\n 3", 200, None),
-            (b"P5#a\n#b\r 002\t1\v200 \1\2rest", 200, [[1, 2]]),
+            (b"P5#a\n#b\r 0000000000002\t1\v200 \1\2rest", 200, [[1, 2]]),
             (b"P5\n1 2\n65535\n\1\2\xff\xfe", 65535, [[258], [65534]]),
         ]:
             if samples is None:

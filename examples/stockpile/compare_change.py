@@ -56,7 +56,8 @@ def print_cells(out, calibration, noise):
                 errors.append(int(grid.heights[row, col]) - true_change(x, y))
     mean = math.fsum(errors) / len(errors)
     root = math.sqrt(math.fsum(it * it for it in errors) / len(errors))
-    print(f"cells   of the pile off by {mean / METRE:+.3f} m in the mean, {root / METRE:.3f} m by the root of the mean square")
+    print(f"cells   of the pile off by {mean / METRE:+.3f} m in the mean, ", end="")
+    print(f"{root / METRE:.3f} m by the root of the mean square")
     print(f"        of the ground, where nothing has changed, {noise / METRE:.3f} m by the root of the mean square")
 
 
