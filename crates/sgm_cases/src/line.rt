@@ -4,6 +4,7 @@
 use crate::parts::cut;
 use sgm_base::{Side, Size};
 use sgm_calib::{CalibFault, Key};
+use sgm_grid::AscFault;
 use sgm_io::MemorySink;
 use sgm_outcome::{Outcome, Refusal, write_fault};
 use sgm_pgm::PgmFault;
@@ -58,6 +59,8 @@ fn read_input(word: &str) -> Option<Input> {
         "left" => Some(Input::Left),
         "right" => Some(Input::Right),
         "calibration" => Some(Input::Calibration),
+        "earlier" => Some(Input::Earlier),
+        "later" => Some(Input::Later),
         _ => None,
     }
 }
@@ -68,6 +71,8 @@ fn read_output(word: &str) -> Option<Output> {
         "heights" => Some(Output::Heights),
         "report" => Some(Output::Report),
         "summary" => Some(Output::Summary),
+        "difference" => Some(Output::Difference),
+        "volumes" => Some(Output::Volumes),
         _ => None,
     }
 }
@@ -86,6 +91,7 @@ fn read_usage(text: &str) -> Option<UsageFault> {
     let position = rest.parse().ok()?;
     match name {
         "empty_name" => Some(UsageFault::EmptyName { position }),
+        "bad_direction" => Some(UsageFault::BadDirection { position }),
         "bad_number" => Some(UsageFault::BadNumber { position }),
         "bad_option" => Some(UsageFault::BadOption { position }),
         "repeated_option" => Some(UsageFault::RepeatedOption { position }),
@@ -162,6 +168,46 @@ fn read_sizes(text: &str) -> Option<Refusal> {
     Some(Refusal::SizesDiffer { left, right })
 }
 
+fn read_asc(text: &str) -> Option<AscFault> {
+    let (name, rest) = cut(text);
+    match name {
+        "word" => Some(AscFault::Word {
+            at: rest.parse().ok()?,
+        }),
+        "range" => Some(AscFault::Range {
+            at: rest.parse().ok()?,
+        }),
+        "count" => {
+            let (have, need) = two(rest)?;
+            Some(AscFault::Count { have, need })
+        }
+        "height" => Some(AscFault::Height {
+            index: rest.parse().ok()?,
+        }),
+        _ => None,
+    }
+}
+
+fn read_inside(text: &str) -> Option<Refusal> {
+    let (x, rest) = cut(text);
+    let (y, d) = cut(rest);
+    Some(Refusal::NotInside {
+        x: x.parse().ok()?,
+        y: y.parse().ok()?,
+        d: d.parse().ok()?,
+    })
+}
+
+fn read_differing(text: &str) -> Option<Refusal> {
+    let (at, rest) = cut(text);
+    let (earlier, later) = cut(rest);
+    Some(Refusal::GridsDiffer {
+        at: at.parse().ok()?,
+        earlier: earlier.parse().ok()?,
+        later: later.parse().ok()?,
+    })
+}
+
 fn read_refusal(name: &str, rest: &str) -> Option<Refusal> {
     let (first, second) = cut(rest);
     match name {
@@ -173,6 +219,9 @@ fn read_refusal(name: &str, rest: &str) -> Option<Refusal> {
             cells: rest.parse().ok()?,
         }),
         "warp" => Some(Refusal::Warp(read_side(first)?, read_warp(second)?)),
+        "not_inside" => read_inside(rest),
+        "asc" => Some(Refusal::Asc(read_input(first)?, read_asc(second)?)),
+        "grids" => read_differing(rest),
         _ => None,
     }
 }

@@ -34,6 +34,10 @@ fn options_text(alloc: Global, options: Options) -> Result<String, AllocError> {
             let refine = refine_text(alloc, refine)?;
             format!(in alloc; "demo number={number} strips={strips} workers={workers} {refine}")
         }
+        Options::Trace { dir, x, y, d } => {
+            format!(in alloc; "trace dir={dir:?} x={x} y={y} d={d}")
+        }
+        Options::Change => String::from_str(alloc, "change"),
     }
 }
 

@@ -10,14 +10,17 @@ use Rattle.sgm_pgm.specs.declared.fault.PgmFault.{PgmFault}
 use Rattle.sgm_pgm.specs.declared.fault.PgmFault.TheVariants as pgm
 use Rattle.sgm_rectify.specs.declared.warp.WarpFault.{WarpFault}
 use Rattle.sgm_rectify.specs.declared.warp.WarpFault.TheVariants as warp
+use Rattle.sgm_grid.specs.declared.asc_fault.AscFault.{AscFault}
+use Rattle.sgm_grid.specs.declared.asc_fault.AscFault.TheVariants as asc
 use Rattle.sgm_calib.specs.declared.keys.CalibFault.{CalibFault}
 use Rattle.sgm_calib.specs.declared.keys.CalibFault.TheVariants as calib
 use Rattle.sgm_calib.specs.Paths.{path_of}
 use Rattle.sgm_words.specs.Files.{input_word, output_word}
+use Rattle.sgm_words.specs.declared.files.Input.{Input}
 use Rattle.sgm_words.specs.declared.usage.UsageFault.{UsageFault}
 use Rattle.sgm_words.specs.declared.usage.UsageFault.TheVariants as usage
 use Rattle.sgm_outcome.specs.declared.outcome.Refusal.{Refusal}
-use Rattle.sgm_outcome.specs.declared.outcome.Refusal.TheVariants.{TooLong, Pgm, Calib, SizesDiffer, VolumeTooLarge, Warp}
+use Rattle.sgm_outcome.specs.declared.outcome.Refusal.TheVariants.{TooLong, Pgm, Calib, SizesDiffer, VolumeTooLarge, Warp, NotInside, Asc, GridsDiffer}
 use Rattle.sgm_outcome.specs.declared.outcome.Outcome.{Outcome}
 use Rattle.sgm_outcome.specs.declared.outcome.Outcome.TheVariants.{Done, Usage, Refused, ReadFault, WriteFault, NoMemory}
 
@@ -36,6 +39,7 @@ usage_line usage.NoCommand = codes "sgm: no command\n"
 usage_line usage.UnknownCommand = codes "sgm: unknown command\n"
 usage_line (usage.TooFew have need) = codes "sgm: " ++ decimal have ++ codes " words after the command, " ++ decimal need ++ codes " needed\n"
 usage_line (usage.EmptyName position) = word_line position (codes " is empty\n")
+usage_line (usage.BadDirection position) = word_line position (codes " is not a direction\n")
 usage_line (usage.BadNumber position) = word_line position (codes " is not a number in range\n")
 usage_line (usage.BadOption position) = word_line position (codes " is not an option\n")
 usage_line (usage.RepeatedOption position) = word_line position (codes " repeats an option\n")
@@ -75,14 +79,28 @@ abbrev pub sizes_line : Sides → Sides → List ℕ
 sizes_line left right =
     codes "sgm: sizes differ: " ++ decimal left.width ++ codes "x" ++ decimal left.height ++ codes " and " ++ decimal right.width ++ codes "x" ++ decimal right.height ++ codes "\n"
 
+-- what is wrong with an input
+abbrev pub input_line : Input → List ℕ → List ℕ
+input_line input what = codes "sgm: " ++ input_word input ++ what
+
+-- the line of a grid that is refused
+abbrev pub asc_line : Input → AscFault → List ℕ
+asc_line input (asc.Word at) = input_line input (codes ": word ") ++ decimal at ++ codes " is not as expected\n"
+asc_line input (asc.Range at) = input_line input (codes ": word ") ++ decimal at ++ codes " is out of range\n"
+asc_line input (asc.Count have need) = input_line input (codes ": ") ++ decimal have ++ codes " heights, " ++ decimal need ++ codes " needed\n"
+asc_line input (asc.Height index) = input_line input (codes ": height ") ++ decimal index ++ codes " is not in range\n"
+
 -- the line of a refusal
 abbrev pub refusal_line : Refusal → List ℕ
-refusal_line (TooLong input) = codes "sgm: " ++ input_word input ++ codes " is too long\n"
+refusal_line (TooLong input) = input_line input (codes " is too long\n")
 refusal_line (Pgm side fault) = pgm_line side fault
 refusal_line (Calib fault) = calib_line fault
 refusal_line (SizesDiffer left right) = sizes_line left right
 refusal_line (VolumeTooLarge cells) = codes "sgm: volume of " ++ decimal cells ++ codes " cells is above " ++ decimal MAX_VOLUME ++ codes "\n"
 refusal_line (Warp side fault) = warp_line side fault
+refusal_line (NotInside x y d) = codes "sgm: no pixel " ++ decimal x ++ codes " " ++ decimal y ++ codes " with index " ++ decimal d ++ codes "\n"
+refusal_line (Asc input fault) = asc_line input fault
+refusal_line (GridsDiffer at earlier later) = codes "sgm: grids differ at word " ++ decimal at ++ codes "\n"
 
 -- the line of an outcome; nothing for Done
 unfoldable pub line_of : Outcome → List ℕ

@@ -3,6 +3,7 @@ ghost use Rattle.sgm_outcome.specs.Status.{status_of};
 
 use sgm_base::{Side, Size};
 use sgm_calib::CalibFault;
+use sgm_grid::AscFault;
 use sgm_pgm::PgmFault;
 use sgm_rectify::WarpFault;
 use sgm_words::{Input, Output, UsageFault};
@@ -19,6 +20,12 @@ pub enum Refusal {
     VolumeTooLarge { cells: u64 },
     /// The image of this side can't be rectified by its warp.
     Warp(Side, WarpFault),
+    /// The pixel isn't in the image, or the index isn't below the count.
+    NotInside { x: u32, y: u32, d: u32 },
+    /// The bytes of this input are no grid's text.
+    Asc(Input, AscFault),
+    /// The word `at` of the two grids' heads, counted from 0, is the first number in which they differ.
+    GridsDiffer { at: usize, earlier: i64, later: i64 },
 }
 
 /// How a run ended.

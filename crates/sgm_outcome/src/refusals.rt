@@ -2,14 +2,17 @@
 ghost use Rattle.std.specs.Prelude.{◌≡◌, ◌≤◌, ◌+◌, ◌++◌, length, codes, decimal};
 ghost use Rattle.sgm_calib.specs.Paths.{path_of};
 ghost use Rattle.sgm_rectify.specs.declared.warp.WarpFault.TheVariants.{MeshSize};
-ghost use Rattle.sgm_outcome.specs.Lines.{side_word, image_line, pgm_line, calib_line, warp_line, sizes_line, refusal_line};
+ghost use Rattle.sgm_outcome.specs.Lines.{side_word, image_line, pgm_line, calib_line, warp_line, sizes_line};
+ghost use Rattle.sgm_outcome.specs.Lines.{input_line, asc_line, refusal_line};
 
 use crate::Refusal;
 use crate::line::{Line, MAX_LINE};
 use sgm_base::{MAX_VOLUME, Side, Size};
 use sgm_calib::{CalibFault, Key};
+use sgm_grid::AscFault;
 use sgm_pgm::PgmFault;
 use sgm_rectify::WarpFault;
+use sgm_words::Input;
 
 fn side_word(side: Side) -> &'static str
     ensures word { result.now ≡ side_word side }
@@ -146,19 +149,65 @@ fn volume_line(cells: u64) -> Line
         .text("\n")
 }
 
+// What is wrong with an input.
+fn input_line(input: Input, what: &str) -> Line
+    requires { length what.now ≤ 64 }
+    ensures bytes { result ≡ input_line input what.now }
+    ensures short { length result ≤ 16 + length what.now }
+{
+    Line::new().text("sgm: ").text(input.word()).text(what)
+}
+
+fn asc_line(input: Input, fault: AscFault) -> Line
+    ensures { result ≡ asc_line input fault }
+{
+    match fault {
+        AscFault::Word { at } => input_line(input, ": word ")
+            .number(at as u64)
+            .text(" is not as expected\n"),
+        AscFault::Range { at } => input_line(input, ": word ")
+            .number(at as u64)
+            .text(" is out of range\n"),
+        AscFault::Count { have, need } => input_line(input, ": ")
+            .number(have as u64)
+            .text(" heights, ")
+            .number(need as u64)
+            .text(" needed\n"),
+        AscFault::Height { index } => input_line(input, ": height ")
+            .number(index as u64)
+            .text(" is not in range\n"),
+    }
+}
+
+fn inside_line(x: u32, y: u32, d: u32) -> Line
+    ensures { result ≡ codes "sgm: no pixel " ++ decimal x ++ codes " " ++ decimal y ++ codes " with index " ++ decimal d ++ codes "\n" }
+{
+    Line::new()
+        .text("sgm: no pixel ")
+        .number(x as u64)
+        .text(" ")
+        .number(y as u64)
+        .text(" with index ")
+        .number(d as u64)
+        .text("\n")
+}
+
 /// The line of a refusal.
 pub fn refusal_line(refusal: Refusal) -> Line
     ensures { result ≡ refusal_line refusal }
 {
     match refusal {
-        Refusal::TooLong(input) => Line::new()
-            .text("sgm: ")
-            .text(input.word())
-            .text(" is too long\n"),
+        Refusal::TooLong(input) => input_line(input, " is too long\n"),
         Refusal::Pgm(side, fault) => pgm_line(side, fault),
         Refusal::Calib(fault) => calib_line(fault),
         Refusal::SizesDiffer { left, right } => sizes_line(left, right),
         Refusal::VolumeTooLarge { cells } => volume_line(cells),
         Refusal::Warp(side, fault) => warp_line(side, fault),
+        Refusal::NotInside { x, y, d } => inside_line(x, y, d),
+        Refusal::Asc(input, fault) => asc_line(input, fault),
+        Refusal::GridsDiffer { at, .. } => Line::new()
+            .text("sgm: grids differ at word ")
+            .number(at as u64)
+            .text("\n"),
     }
 }

@@ -3,6 +3,7 @@
 use crate::{Outcome, Refusal, write_fault};
 use sgm_base::{Side, Size};
 use sgm_calib::{CalibFault, Key};
+use sgm_grid::AscFault;
 use sgm_io::MemorySink;
 use sgm_pgm::PgmFault;
 use sgm_rectify::WarpFault;
@@ -27,6 +28,11 @@ fn each_end_has_its_status_and_its_line(rt: HostRuntime) -> Result<(), Fail> {
             Outcome::Usage(UsageFault::TooFew { have: 3, need: 4 }),
             2,
             "sgm: 3 words after the command, 4 needed\n",
+        ),
+        (
+            Outcome::Usage(UsageFault::BadDirection { position: 4 }),
+            2,
+            "sgm: word 4 is not a direction\n",
         ),
         (
             Outcome::Refused(Refusal::TooLong(Input::Left)),
@@ -71,6 +77,12 @@ fn each_refusal_has_its_line(rt: HostRuntime) -> Result<(), Fail> {
         number: 44,
         index: 12,
     };
+    let short = AscFault::Count { have: 11, need: 12 };
+    let cells = Refusal::GridsDiffer {
+        at: 9,
+        earlier: 1000,
+        later: 2000,
+    };
     for (refusal, line) in [
         (
             Refusal::Pgm(Side::Right, PgmFault::RasterShort { have: 9, need: 15 }),
@@ -92,6 +104,27 @@ fn each_refusal_has_its_line(rt: HostRuntime) -> Result<(), Fail> {
             Refusal::Warp(Side::Left, wide),
             "sgm: left warp: mesh is 3x2, 4x5 needed\n",
         ),
+        (
+            Refusal::NotInside { x: 9, y: 3, d: 1 },
+            "sgm: no pixel 9 3 with index 1\n",
+        ),
+        (
+            Refusal::Asc(Input::Earlier, AscFault::Word { at: 0 }),
+            "sgm: earlier: word 0 is not as expected\n",
+        ),
+        (
+            Refusal::Asc(Input::Later, AscFault::Range { at: 3 }),
+            "sgm: later: word 3 is out of range\n",
+        ),
+        (
+            Refusal::Asc(Input::Later, short),
+            "sgm: later: 11 heights, 12 needed\n",
+        ),
+        (
+            Refusal::Asc(Input::Earlier, AscFault::Height { index: 7 }),
+            "sgm: earlier: height 7 is not in range\n",
+        ),
+        (cells, "sgm: grids differ at word 9\n"),
     ] {
         let outcome = Outcome::Refused(refusal);
         assert_told(&rt, MemorySink::make(alloc, 256, None)?, outcome, 3, line);

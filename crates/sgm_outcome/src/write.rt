@@ -32,6 +32,7 @@ fn usage_line(fault: UsageFault) -> Line
             .number(need as u64)
             .text(" needed\n"),
         UsageFault::EmptyName { position } => word_line(position, " is empty\n"),
+        UsageFault::BadDirection { position } => word_line(position, " is not a direction\n"),
         UsageFault::BadNumber { position } => word_line(position, " is not a number in range\n"),
         UsageFault::BadOption { position } => word_line(position, " is not an option\n"),
         UsageFault::RepeatedOption { position } => word_line(position, " repeats an option\n"),

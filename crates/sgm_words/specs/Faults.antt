@@ -1,9 +1,10 @@
 -- What is wrong with the words after a command. A fault is looked for at each position, and the first counts.
-use Rattle.std.specs.Prelude.{ℕ, ◌+◌, ◌-◌, List, [], Bool, nat_lt, if◌then◌else◌, Option, None, Some, is_some, take, drop, length, slice_get}
+use Rattle.std.specs.Prelude.{ℕ, ◌+◌, ◌-◌, List, [], Bool, not, ◌&&◌, nat_lt, if◌then◌else◌, Option, None, Some, is_some, take, drop, length, slice_get}
 use Rattle.std.specs.List.{filter_map, list_any, range_with_len}
 use Rattle.std.specs.Option.{option_or}
 use Rattle.std.specs.Str.{bytes_eq}
 use Rattle.sgm_words.specs.Commands.{entry_of}
+use Rattle.sgm_words.specs.Directions.{direction_of}
 use Rattle.sgm_words.specs.Files.{is_file_name}
 use Rattle.sgm_words.specs.Numbers.{number_of}
 use Rattle.sgm_words.specs.Operands.{word}
@@ -11,7 +12,7 @@ use Rattle.sgm_words.specs.OptionTable.{set_by, given}
 use Rattle.sgm_words.specs.declared.commands.Command.{Command}
 use Rattle.sgm_words.specs.declared.option_table.Setting.{Setting}
 use Rattle.sgm_words.specs.declared.usage.UsageFault.{UsageFault}
-use Rattle.sgm_words.specs.declared.usage.UsageFault.TheVariants.{TooFew, EmptyName, BadNumber, BadOption, RepeatedOption, OutputIsInput}
+use Rattle.sgm_words.specs.declared.usage.UsageFault.TheVariants.{TooFew, EmptyName, BadDirection, BadNumber, BadOption, RepeatedOption, OutputIsInput}
 
 -- the first fault that a check finds at one of so many positions from this one on
 unfoldable pub first_fault : (ℕ → Option UsageFault) → ℕ → ℕ → Option UsageFault
@@ -26,6 +27,12 @@ too_few command words =
 -- the name at this position is empty
 abbrev pub name_fault : List (List ℕ) → ℕ → Option UsageFault
 name_fault words position = if bytes_eq (word words position) [] then Some (EmptyName position) else None
+
+-- the command has a direction, and the word after the names is none
+abbrev pub direction_fault : Command → List (List ℕ) → Option UsageFault
+direction_fault command words =
+    let position = (entry_of command).names + 1 in
+    if (entry_of command).has_direction && not (is_some (direction_of (word words position))) then Some (BadDirection position) else None
 
 -- the word at this position is no number
 abbrev pub number_fault : List (List ℕ) → ℕ → Option UsageFault
@@ -65,7 +72,8 @@ operand_fault command words =
     let entry = entry_of command in
     option_or (too_few command words)
     (option_or (first_fault (name_fault words) 1 entry.names)
-    (first_fault (number_fault words) (entry.operands + 1 - entry.numbers) entry.numbers))
+    (option_or (direction_fault command words)
+    (first_fault (number_fault words) (entry.operands + 1 - entry.numbers) entry.numbers)))
 
 -- the first fault of the words after the operands
 abbrev pub options_fault : Command → List (List ℕ) → Option UsageFault

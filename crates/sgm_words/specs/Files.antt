@@ -3,15 +3,17 @@ use Rattle.std.specs.Prelude.{◌≡◌, ℕ, List, ◌++◌, Bool, false, codes
 use Rattle.std.specs.Option.{option_map_or}
 use Rattle.std.specs.Str.{bytes_eq}
 use Rattle.sgm_words.specs.declared.files.Input.{Input}
-use Rattle.sgm_words.specs.declared.files.Input.TheVariants.{Left, Right, Calibration}
+use Rattle.sgm_words.specs.declared.files.Input.TheVariants.{Left, Right, Calibration, Earlier, Later}
 use Rattle.sgm_words.specs.declared.files.Output.{Output}
-use Rattle.sgm_words.specs.declared.files.Output.TheVariants.{Disparity, Heights, Report, Summary}
+use Rattle.sgm_words.specs.declared.files.Output.TheVariants.{Disparity, Heights, Report, Summary, Difference, Volumes}
 
 -- an input's word in fault lines
 abbrev pub input_word : Input → List ℕ
 input_word Left = codes "left"
 input_word Right = codes "right"
 input_word Calibration = codes "calibration"
+input_word Earlier = codes "earlier"
+input_word Later = codes "later"
 
 -- an output's word in fault lines
 abbrev pub output_word : Output → List ℕ
@@ -19,6 +21,8 @@ output_word Disparity = codes "disparity"
 output_word Heights = codes "heights"
 output_word Report = codes "report"
 output_word Summary = codes "summary"
+output_word Difference = codes "difference"
+output_word Volumes = codes "volumes"
 
 -- the ending of the name of an output's file; the summary is no file
 abbrev pub ending_of : Output → Option (List ℕ)
@@ -26,6 +30,8 @@ ending_of Disparity = Some (codes ".pgm")
 ending_of Heights = Some (codes ".asc")
 ending_of Report = Some (codes ".csv")
 ending_of Summary = None
+ending_of Difference = Some (codes ".asc")
+ending_of Volumes = Some (codes ".csv")
 
 -- the name is that of the output's file: OUT and the output's ending
 abbrev pub IsFileName : Output → List ℕ → List ℕ → Type 0

@@ -1,4 +1,5 @@
 pub mod Commands
+pub mod Directions
 pub mod Faults
 pub mod Files
 pub mod Numbers

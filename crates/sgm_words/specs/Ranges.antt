@@ -1,10 +1,10 @@
 -- The ranges of what the words ask for.
-use Rattle.std.specs.Prelude.{ℕ, ◌≤◌}
+use Rattle.std.specs.Prelude.{⊤, ℕ, ◌≤◌}
 use Rattle.sgm_base.specs.declared.limits.TheConstants.{MAX_STRIPS, MAX_WORKERS}
 use Rattle.sgm_words.specs.Commands.{entry_of}
 use Rattle.sgm_words.specs.declared.commands.Command.TheVariants as command
 use Rattle.sgm_words.specs.declared.options.Options.{Options}
-use Rattle.sgm_words.specs.declared.options.Options.TheVariants.{Match, Demo}
+use Rattle.sgm_words.specs.declared.options.Options.TheVariants.{Match, Demo, Trace, Change}
 
 -- a number of strips
 abbrev pub IsStrips : ℕ → Type 0
@@ -18,8 +18,12 @@ IsWorkers n = (1 ≤ n) × (n ≤ MAX_WORKERS)
 abbrev pub AreInRange : Options → Type 0
 AreInRange (Match strips workers refine) = IsStrips strips × IsWorkers workers
 AreInRange (Demo number strips workers refine) = IsStrips strips × IsWorkers workers
+AreInRange (Trace dir x y d) = ⊤
+AreInRange Change = ⊤
 
 -- how many operands go with the options
 abbrev pub operand_count : Options → ℕ
 operand_count (Match strips workers refine) = (entry_of command.Match).operands
 operand_count (Demo number strips workers refine) = (entry_of command.Demo).operands
+operand_count (Trace dir x y d) = (entry_of command.Trace).operands
+operand_count Change = (entry_of command.Change).operands

@@ -8,16 +8,19 @@ use crate::Output;
 pub enum Command {
     Match,
     Demo,
+    Trace,
+    Change,
 }
 
-/// A command: its name, how many operands it has, how many of them are names, which come first, and how
-/// many are numbers, which come last, whether options follow, and the outputs that are named after its
-/// last name.
+/// A command: its name, how many operands it has, how many of them are names, which come first, whether a
+/// direction comes after the names, how many are numbers, which come last, whether options follow, and the
+/// outputs that are named after its last name.
 #[derive(Clone, Copy)]
 pub struct CommandRow {
     pub name: &'static str,
     pub operands: usize,
     pub names: usize,
+    pub has_direction: bool,
     pub numbers: usize,
     pub has_options: bool,
     pub outputs: &'static [Output],
@@ -26,7 +29,12 @@ pub struct CommandRow {
     ghost numbers_fit: { numbers ≤ operands },
 }
 
-const COMMANDS: [Command; 2] = [Command::Match, Command::Demo];
+const COMMANDS: [Command; 4] = [
+    Command::Match,
+    Command::Demo,
+    Command::Trace,
+    Command::Change,
+];
 
 impl Command {
     /// Its row of the table.
@@ -34,6 +42,7 @@ impl Command {
         ensures name { result.name.now ≡ (entry_of self).name }
         ensures operands { result.operands ≡ (entry_of self).operands }
         ensures names { result.names ≡ (entry_of self).names }
+        ensures has_direction { result.has_direction ≡ (entry_of self).has_direction }
         ensures numbers { result.numbers ≡ (entry_of self).numbers }
         ensures has_options { result.has_options ≡ (entry_of self).has_options }
         ensures outputs { result.outputs.now ≡ (entry_of self).outputs }
@@ -43,6 +52,7 @@ impl Command {
                 name: "match",
                 operands: 4,
                 names: 4,
+                has_direction: false,
                 numbers: 0,
                 has_options: true,
                 outputs: &[Output::Disparity, Output::Heights, Output::Report],
@@ -51,9 +61,28 @@ impl Command {
                 name: "demo",
                 operands: 1,
                 names: 0,
+                has_direction: false,
                 numbers: 1,
                 has_options: true,
                 outputs: &[],
+            },
+            Command::Trace => CommandRow {
+                name: "trace",
+                operands: 7,
+                names: 3,
+                has_direction: true,
+                numbers: 3,
+                has_options: false,
+                outputs: &[],
+            },
+            Command::Change => CommandRow {
+                name: "change",
+                operands: 3,
+                names: 3,
+                has_direction: false,
+                numbers: 0,
+                has_options: false,
+                outputs: &[Output::Difference, Output::Volumes],
             },
         }
     }

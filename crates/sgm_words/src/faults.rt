@@ -1,11 +1,13 @@
 //! What is wrong with the operands of a command.
 ghost use Rattle.std.specs.Prelude.{◌≡◌, ◌<◌, ◌+◌, ◌^◌};
 ghost use Rattle.std.specs.Option.{option_or};
-ghost use Rattle.sgm_words.specs.Faults.{first_fault, too_few, name_fault, number_fault, is_output, output_fault, operand_fault, overwrite_fault};
+ghost use Rattle.sgm_words.specs.Faults.{first_fault, too_few, name_fault, direction_fault, number_fault};
+ghost use Rattle.sgm_words.specs.Faults.{is_output, output_fault, operand_fault, overwrite_fault};
 ghost use Rattle.sgm_words.specs.Operands.{bytes_of};
 
 use crate::UsageFault;
 use crate::commands::Command;
+use crate::directions::direction;
 use crate::numbers::number;
 use crate::operands::word_at;
 
@@ -26,6 +28,19 @@ fn name_fault(words: &[String], position: usize) -> Option<UsageFault>
 {
     if word_at(words, position).is_empty() {
         Some(UsageFault::EmptyName { position })
+    } else {
+        None
+    }
+}
+
+// What is wrong with the direction of a command that has one.
+fn direction_fault(command: Command, words: &[String]) -> Option<UsageFault>
+    ensures { result ≡ direction_fault command (bytes_of words.now) }
+{
+    let row = command.row();
+    let position = row.names + 1;
+    if row.has_direction && direction(word_at(words, position)).is_none() {
+        Some(UsageFault::BadDirection { position })
     } else {
         None
     }
@@ -88,7 +103,7 @@ fn numbers_fault(words: &[String], from: usize, numbers: usize) -> Option<UsageF
     None
 }
 
-/// What is wrong with the number of the operands, a name or a number.
+/// What is wrong with the number of the operands, a name, a direction or a number.
 pub fn operand_fault(command: Command, words: &[String]) -> Option<UsageFault>
     ensures { result ≡ operand_fault command (bytes_of words.now) }
 {
@@ -97,6 +112,9 @@ pub fn operand_fault(command: Command, words: &[String]) -> Option<UsageFault>
         return Some(fault);
     }
     if let Some(fault) = names_fault(words, row.names) {
+        return Some(fault);
+    }
+    if let Some(fault) = direction_fault(command, words) {
         return Some(fault);
     }
     numbers_fault(words, row.operands + 1 - row.numbers, row.numbers)

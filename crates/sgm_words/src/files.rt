@@ -4,12 +4,17 @@ ghost use Rattle.sgm_words.specs.Files.{input_word, output_word, ending_of, IsFi
 
 use std::alloc::{AllocError, Global};
 
+/// The greatest size of a grid that is read, in bytes.
+pub const MAX_GRID_BYTES: usize = 268_435_456;
+
 /// A file that is read, in the order in which they are fetched.
 #[derive(Clone, Copy, Debug, PartialEq, Eq)]
 pub enum Input {
     Left,
     Right,
     Calibration,
+    Earlier,
+    Later,
 }
 
 /// What is written, in this order.
@@ -19,6 +24,8 @@ pub enum Output {
     Heights,
     Report,
     Summary,
+    Difference,
+    Volumes,
 }
 
 impl Input {
@@ -31,6 +38,8 @@ impl Input {
             Input::Left => "left",
             Input::Right => "right",
             Input::Calibration => "calibration",
+            Input::Earlier => "earlier",
+            Input::Later => "later",
         }
     }
 }
@@ -39,13 +48,15 @@ impl Output {
     /// Its word in fault lines.
     pub fn word(self) -> &'static str
         ensures value { result.now ≡ output_word self }
-        ensures short { length result.now ≤ 9 }
+        ensures short { length result.now ≤ 10 }
     {
         match self {
             Output::Disparity => "disparity",
             Output::Heights => "heights",
             Output::Report => "report",
             Output::Summary => "summary",
+            Output::Difference => "difference",
+            Output::Volumes => "volumes",
         }
     }
 
@@ -58,6 +69,8 @@ impl Output {
             Output::Heights => Some(".asc"),
             Output::Report => Some(".csv"),
             Output::Summary => None,
+            Output::Difference => Some(".asc"),
+            Output::Volumes => Some(".csv"),
         }
     }
 

@@ -3,6 +3,7 @@
 #![tactic(auto)]
 
 mod commands;
+mod directions;
 mod faults;
 mod files;
 mod numbers;
@@ -13,8 +14,8 @@ mod read;
 mod settings;
 mod usage;
 
-pub use files::{Input, Output};
-pub use operands::OperandWords;
+pub use files::{Input, MAX_GRID_BYTES, Output};
+pub use operands::{ChangeWords, OperandWords};
 pub use options::Options;
 pub use read::read_words;
 pub use usage::UsageFault;

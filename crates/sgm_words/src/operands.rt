@@ -1,10 +1,9 @@
 ghost use Rattle.std.specs.Prelude.{◌≡◌, ◌<◌, length};
-ghost use Rattle.sgm_words.specs.Operands.{bytes_of, word, operands, is_plain, input_name};
+ghost use Rattle.sgm_words.specs.Operands.{bytes_of, word, operands, is_plain, change_operands};
 
-use crate::Input;
 use std::marker::Model;
 
-/// The operands of a match.
+/// The operands of `match`, of which the first three are those of `trace` too.
 #[derive(Drop)]
 pub struct OperandWords<'a> {
     left: &'a str,
@@ -59,22 +58,59 @@ impl<'a> OperandWords<'a> {
         self.out
     }
 
-    /// The operand for an input.
-    pub fn input(&self, input: Input) -> &'a str
-        ensures { result.now ≡ input_name self.now input }
-    {
-        match input {
-            Input::Left => self.left,
-            Input::Right => self.right,
-            Input::Calibration => self.calib,
-        }
-    }
-
     /// Whether the calibration is the plain one.
     pub fn is_plain(&self) -> bool
         ensures { result ≡ is_plain self.now }
     {
         self.calib == "-"
+    }
+}
+
+/// The operands of `change`.
+#[derive(Drop)]
+pub struct ChangeWords<'a> {
+    earlier: &'a str,
+    later: &'a str,
+    out: &'a str,
+}
+
+impl<'a> Model for ChangeWords<'a> {
+    ghost use Rattle.sgm_words.specs.Operands.{ChangeOperands};
+
+    ghost Value = { ChangeOperands };
+
+    ghost view = { λ o. record { earlier = o.earlier.now; later = o.later.now; out = o.out.now } };
+}
+
+impl<'a> ChangeWords<'a> {
+    /// The words 1 to 3.
+    pub fn of(words: &'a [String]) -> ChangeWords<'a>
+        requires { 3 < length words.now }
+        ensures { result ≡ change_operands (bytes_of words.now) }
+    {
+        ChangeWords {
+            earlier: words[1].as_str(),
+            later: words[2].as_str(),
+            out: words[3].as_str(),
+        }
+    }
+
+    pub fn earlier(&self) -> &'a str
+        ensures { result.now ≡ self.now.earlier }
+    {
+        self.earlier
+    }
+
+    pub fn later(&self) -> &'a str
+        ensures { result.now ≡ self.now.later }
+    {
+        self.later
+    }
+
+    pub fn out(&self) -> &'a str
+        ensures { result.now ≡ self.now.out }
+    {
+        self.out
     }
 }
 

@@ -1,6 +1,8 @@
+use sgm_energy::Dir;
 use sgm_refine::Refine;
 
-/// What the words ask for. The operands of `match` are the words 1 to 4.
+/// What the words ask for. The operands of `match` are the words 1 to 4, those of `change` the words 1 to 3,
+/// and the images and the calibration of `trace` the words 1 to 3.
 #[derive(Clone, Copy, Debug, PartialEq, Eq)]
 pub enum Options {
     Match {
@@ -14,4 +16,12 @@ pub enum Options {
         workers: u32,
         refine: Refine,
     },
+    /// A certificate for the pixel (x, y) at the index d, along the ray of the direction.
+    Trace {
+        dir: Dir,
+        x: u32,
+        y: u32,
+        d: u32,
+    },
+    Change,
 }

@@ -4,16 +4,32 @@ ghost use Rattle.sgm_words.specs.Faults.{options_at, fault_of};
 ghost use Rattle.sgm_words.specs.Operands.{bytes_of};
 ghost use Rattle.sgm_words.specs.Ranges.{AreInRange, operand_count};
 ghost use Rattle.sgm_words.specs.Settings.{AreGiven};
-ghost use Rattle.sgm_words.specs.Words.{asked_of, unless_fault, read_of};
+ghost use Rattle.sgm_words.specs.Words.{number_at, direction_at, asked_of, unless_fault, read_of};
 
 use crate::commands::Command;
+use crate::directions::direction;
 use crate::faults::{operand_fault, overwrite_fault};
 use crate::numbers::number;
 use crate::operands::word_at;
 use crate::option_table::{FILL, PEAK, STRIPS, WORKERS};
 use crate::settings::{Settings, read_settings, value_at};
 use crate::{Options, UsageFault};
+use sgm_energy::Dir;
 use sgm_refine::Refine;
+
+// The number at a position.
+fn number_at(words: &[String], position: usize) -> u32
+    ensures { result ≡ number_at (bytes_of words.now) position }
+{
+    number(word_at(words, position)).unwrap_or(0)
+}
+
+// The direction at a position.
+fn direction_at(words: &[String], position: usize) -> Dir
+    ensures { result ≡ direction_at (bytes_of words.now) position }
+{
+    direction(word_at(words, position)).unwrap_or(Dir::Right)
+}
 
 // What the words of a command ask for that sets its options to this.
 fn asked(command: Command, words: &[String], settings: &Settings) -> Options
@@ -37,11 +53,18 @@ fn asked(command: Command, words: &[String], settings: &Settings) -> Options
             refine,
         },
         Command::Demo => Options::Demo {
-            number: number(word_at(words, 1)).unwrap_or(0),
+            number: number_at(words, 1),
             strips,
             workers,
             refine,
         },
+        Command::Trace => Options::Trace {
+            dir: direction_at(words, 4),
+            x: number_at(words, 5),
+            y: number_at(words, 6),
+            d: number_at(words, 7),
+        },
+        Command::Change => Options::Change,
     }
 }
 

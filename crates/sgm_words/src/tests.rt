@@ -1,6 +1,7 @@
 //! The words, one check after the other.
 
-use crate::{Input, OperandWords, Options, Output, UsageFault, read_words};
+use crate::{ChangeWords, Input, OperandWords, Options, Output, UsageFault, read_words};
+use sgm_energy::Dir;
 use sgm_refine::Refine;
 use std::alloc::{AllocError, Global};
 use std::test::Fail;
@@ -23,6 +24,10 @@ fn each_fault_is_the_first_that_stands(rt: HostRuntime) -> Result<(), Fail> {
         ("match a b -", UsageFault::TooFew { have: 3, need: 4 }),
         ("demo", UsageFault::TooFew { have: 0, need: 1 }),
         ("match a  - o", UsageFault::EmptyName { position: 2 }),
+        (
+            "trace a b - sideways 2 y 1",
+            UsageFault::BadDirection { position: 4 },
+        ),
         ("demo x", UsageFault::BadNumber { position: 1 }),
         ("demo 4294967296", UsageFault::BadNumber { position: 1 }),
         (
@@ -35,12 +40,20 @@ fn each_fault_is_the_first_that_stands(rt: HostRuntime) -> Result<(), Fail> {
         ),
         ("demo 7 fill=2", UsageFault::BadOption { position: 2 }),
         (
+            "trace a b - right 2 1 1 strips=1",
+            UsageFault::BadOption { position: 8 },
+        ),
+        (
             "match a b - o peak=0 strips=2 peak=0",
             UsageFault::RepeatedOption { position: 7 },
         ),
         (
             "match o.pgm b - o",
             UsageFault::OutputIsInput { position: 1 },
+        ),
+        (
+            "change a o.csv o",
+            UsageFault::OutputIsInput { position: 2 },
         ),
     ] {
         assert_eq!(rt; read_words(&words_of(alloc, line)?), Err(fault), "{line}");
@@ -82,18 +95,46 @@ fn options_stand_in_any_order(rt: HostRuntime) -> Result<(), Fail> {
 }
 
 #[test]
+fn trace_and_change_have_no_options(rt: HostRuntime) -> Result<(), Fail> {
+    let alloc = rt.alloc();
+    for (line, options) in [
+        (
+            "trace a b - upleft 2 1 0",
+            Options::Trace {
+                dir: Dir::UpLeft,
+                x: 2,
+                y: 1,
+                d: 0,
+            },
+        ),
+        ("change a b o", Options::Change),
+    ] {
+        assert_eq!(rt; read_words(&words_of(alloc, line)?), Ok(options), "{line}");
+    }
+    Ok(())
+}
+
+#[test]
 fn operands_and_outputs_have_names(rt: HostRuntime) -> Result<(), Fail> {
     let alloc = rt.alloc();
     let words = words_of(alloc, "match l r c o")?;
     assert!(rt; words.len() > 4);
     let operands = OperandWords::of(&words);
-    assert_eq!(rt; operands.input(Input::Calibration), "c");
+    assert_eq!(rt;
+        (operands.left(), operands.right(), operands.calib()),
+        ("l", "r", "c")
+    );
     assert!(rt; !operands.is_plain());
+    let change = ChangeWords::of(&words);
+    assert_eq!(rt;
+        (change.earlier(), change.later(), change.out()),
+        ("l", "r", "c")
+    );
     let name = Output::Heights.file_name(alloc, operands.out())?;
     assert_eq!(rt; name.as_str(), "o.asc");
     assert_eq!(rt;
-        (Input::Right.word(), Output::Report.word()),
-        ("right", "report")
+        (Input::Right.word(), Output::Difference.word()),
+        ("right", "difference")
     );
     Ok(())
 }

@@ -5,6 +5,7 @@ pub enum UsageFault {
     UnknownCommand,
     TooFew { have: usize, need: usize },
     EmptyName { position: usize },
+    BadDirection { position: usize },
     BadNumber { position: usize },
     BadOption { position: usize },
     RepeatedOption { position: usize },
