@@ -131,24 +131,35 @@ def judged(left_data, right_data, calibration_data):
     return left, right, calibration
 
 
-def fetch_pair(left_name, right_name, calibration_name):
+def fetch_inputs(left_name, right_name, calibration_name):
+    """The bytes of the three inputs, with None for a calibration of `-`."""
     left = fetch(left_name, LONGEST_IMAGE, "left")
     right = fetch(right_name, LONGEST_IMAGE, "right")
-    calibration = None
-    if calibration_name != "-":
-        calibration = fetch(calibration_name, LONGEST_CALIBRATION, "calibration")
-    return judged(left, right, calibration)
+    if calibration_name == "-":
+        return left, right, None
+    return left, right, fetch(calibration_name, LONGEST_CALIBRATION, "calibration")
+
+
+def match_texts(left, right, calibration, **refine):
+    """The outputs, each as the ending of its name, its text and its word in fault lines, and the summary."""
+    found, cells, tallies = survey(left, right, calibration, **refine)
+    outputs = [(".pgm", disparity_text(found), "disparity")]
+    if cells is not None:
+        outputs.append((".asc", grid_text(calibration.grid, cells), "heights"))
+    if tallies is not None:
+        outputs.append((".csv", table_text(calibration.regions, tallies), "report"))
+    return outputs, summary_text(found)
+
+
+def deliver(out, outputs, summary):
+    for ending, data, what in outputs:
+        write(out + ending, data, what)
+    say(summary)
 
 
 def match(left_name, right_name, calibration_name, out, **refine):
-    left, right, calibration = fetch_pair(left_name, right_name, calibration_name)
-    found, cells, tallies = survey(left, right, calibration, **refine)
-    write(out + ".pgm", disparity_text(found), "disparity")
-    if cells is not None:
-        write(out + ".asc", grid_text(calibration.grid, cells), "heights")
-    if tallies is not None:
-        write(out + ".csv", table_text(calibration.regions, tallies), "report")
-    say(summary_text(found))
+    judged_inputs = judged(*fetch_inputs(left_name, right_name, calibration_name))
+    deliver(out, *match_texts(*judged_inputs, **refine))
 
 
 def certificate(left, right, calibration, direction, x, y, d):
@@ -159,7 +170,8 @@ def certificate(left, right, calibration, direction, x, y, d):
 
 
 def trace(left_name, right_name, calibration_name, direction, *numbers):
-    say(certificate(*fetch_pair(left_name, right_name, calibration_name), direction, *map(int, numbers)))
+    judged_inputs = judged(*fetch_inputs(left_name, right_name, calibration_name))
+    say(certificate(*judged_inputs, direction, *map(int, numbers)))
 
 
 def judged_grids(earlier_data, later_data):
@@ -183,9 +195,7 @@ def change(earlier_name, later_name, out):
     earlier = fetch(earlier_name, LONGEST_GRID, "earlier")
     later = fetch(later_name, LONGEST_GRID, "later")
     difference, volumes, summary = change_texts(*judged_grids(earlier, later))
-    write(out + ".asc", difference, "difference")
-    write(out + ".csv", volumes, "volumes")
-    say(summary)
+    deliver(out, [(".asc", difference, "difference"), (".csv", volumes, "volumes")], summary)
 
 
 def demo(number, **refine):
@@ -193,9 +203,13 @@ def demo(number, **refine):
     say(summary_text(found) + f"sum {sum(disparity_samples(found))}\n")
 
 
+def is_text(words):
+    """Whether all words are UTF-8. One that isn't comes with bytes in disguise, and then there are no words."""
+    return not any("\udc80" <= letter <= "\udcff" for word in words for letter in word)
+
+
 def main(words):
-    # A word that isn't UTF-8 comes with bytes in disguise: then there are no words.
-    if any("\udc80" <= letter <= "\udcff" for word in words for letter in word):
+    if not is_text(words):
         return 1
     try:
         operands, options = read_words(words)
