@@ -26,6 +26,7 @@ scripts             opencv      tests/scripts.py
 shellcheck          shellcheck  shellcheck -x sgm .ci/run $(cd "$top" && echo tests/*.sh packaging/*.sh packaging/*.bash)
 reference           -           tests/test_reference.py
 reference_lists     -           tests/test_reference_lists.py
+reference_series    -           tests/test_reference_series.py
 stored_runs         -           tests/stored_runs.py
 least_energies      -           tests/least_energies.py --check
 cubic_metres        -           tools/test_cubic_metres.py

@@ -19,10 +19,13 @@ import sys
 
 import calibration_cases
 import least_energies
+import random_inputs
+import random_lists
 import reference
 import reference_inputs as inputs
+import reference_lists
 import reference_matching as matching
-from test_reference import WORKED
+from test_reference import DIFFERENCE_TEXT, GRID_TEXT, LATER_TEXT, WORKED, asc
 
 CRATES = os.path.join(os.path.dirname(os.path.abspath(__file__)), "..", "crates")
 COMMON = """◌≡◌ ℕ ℤ pos negsuc ◌+◌ ◌*◌ List [] ◌∷◌ ◌++◌ map codes slice_index Option Some None true false refl
@@ -159,6 +162,38 @@ def energies(draw):
                 page.holds(f"ray {whole_problem} {direction} (pixel_at {x} {y})", shown)
                 left = f"map (path_value {whole_problem} {direction} (pixel_at {x} {y})) (below {count})"
                 page.holds(left, listed(values[y][x]))
+    return page
+
+
+def certificates(draw):
+    """Which sequence a certificate shows, and its text."""
+    page = Page(
+        "certificates",
+        {
+            "sgm_base.Values": "values_of",
+            "sgm_energy.specs.declared.dir.Dir.TheVariants": DIRECTIONS,
+            "sgm_energy.Rays": "Pixel pixel_at guided_problem",
+            "sgm_energy.Energies": "",
+            "sgm_trace.Best": "",
+            "sgm_trace.Texts": "trace_text",
+        },
+    )
+    images = [(some_costs(draw, 3, 1, 3, 1), 1, 1, None), (some_costs(draw, 3, 3, 2, 1), 1, 2, None)]
+    images += [([[(0, 9, 9), (9, 9, 0)]], 1, 6, [[10, 13]]), (some_costs(draw, 2, 3, 3, 2), 1, 9, [[0, 9], [None, 4], [4, 7]])]
+    for costs, p1, p2, guide in images:
+        height, width, count = len(costs), len(costs[0]), len(costs[0][0])
+        whole_problem = problem(costs, p1, p2, guide)
+        for name, direction in zip(DIRECTIONS.split(), matching.DIRECTIONS):
+            for y, x in itertools.product(range(height), range(width)):
+                ray = matching.ray_to(x, y, direction, width, height)
+                # Rays of one pixel are all alike.
+                for d in range(count if len(ray) > 1 else (x + y) % 2):
+                    energy, steps = matching.certified(costs, guide, p1, p2, ray, d)
+                    shown = listed(ray, lambda p: f"pixel_at {p[0]} {p[1]}")
+                    page.holds(f"best {whole_problem} {shown} {d}", listed([step[2] for step in steps]))
+                    if d == 0:
+                        left = f"trace_text {whole_problem} {name} (pixel_at {x} {y}) {d}"
+                        page.holds(left, text(reference.trace_text(energy, steps)))
     return page
 
 
@@ -461,6 +496,68 @@ def grids(draw):
     return page
 
 
+# The line of a grid that is refused, in the place of its fault.
+GRID_LINES = (
+    "abbrev with_line : Result Cells AscFault → Result Cells (List ℕ)\n"
+    "with_line (Ok grid) = Ok grid\n"
+    "with_line (Err fault) = Err (asc_line Later fault)\n"
+)
+
+
+def readings(draw):
+    """The reading of a grid's text: the grid, or the line of the first fault."""
+    page = Page(
+        "readings",
+        {
+            "sgm_grid.Cells": "Cells cells_of",
+            "sgm_grid.specs.declared.asc_fault.AscFault": "AscFault",
+            "sgm_grid.Words": "",
+            "sgm_grid.Asc": "asc_reading",
+            "sgm_words.specs.declared.files.Input.TheVariants": "Later",
+            "sgm_outcome.Lines": "asc_line",
+        },
+        GRID_LINES,
+    )
+    cases = [b"", b" \r\n\t", b"ncols", b"ncols -", GRID_TEXT, DIFFERENCE_TEXT, LATER_TEXT[: LATER_TEXT.rindex(b" ")]]
+    cases += [asc("1 2"), asc("1"), asc("1 x 2"), asc("1 2", cols=0, nodata="x"), asc("x", nodata=0), asc("1\v2")]
+    cases += [asc("-2147483648 -2000000000"), asc("1 2000000001"), asc("-2147483649 x"), asc("-0 00000000000000000000012")]
+    cases += [asc("7 8", cols=1, rows=2, west=-2000000000, south=2000000000, cell=1000000000), asc("", cols=4096, rows=4096)]
+    cases += [asc("1 2", **{key: end}) for key, end in [("rows", 4097), ("west", 2000000001), ("south", -2000000001), ("cell", 0)]]
+    for number in range(40):
+        files = random_inputs.change_case(random_inputs.Draw(7, number))[1]
+        cases += [data for data in files.values() if len(data) < 250]
+    for data in cases:
+        try:
+            answer = f"(Ok {cells_of(*inputs.read_grid(data, 'later'))})"
+        except inputs.Ended as end:
+            answer = f"(Err {text(end.line + chr(10))})"
+        page.holds(f"with_line (asc_reading {text(data)})", answer)
+    return page
+
+
+def some_ground(draw, cols, rows):
+    return [[draw.choice([None, 0, 7, -7, -2000000000, 2000000000]) for _ in range(cols)] for _ in range(rows)]
+
+
+def changed_of(changed):
+    return record(**dict(zip("both come gone empty fill cut".split(), map(natural, changed))))
+
+
+def changes(draw):
+    """The counts and volumes between two grids, the text of their difference, and that of the volumes."""
+    page = Page("changes", {"sgm_grid.Cells": "cells_of", "sgm_change.Changes": "change_of", "sgm_change.Texts": "grids_text volumes_text"})
+    for cols, rows, cell in [(1, 1, 1), (3, 2, 10), (2, 4, 1000000000), (4, 3, 7), (5, 1, 1000)]:
+        grid = dict(west=draw.randrange(-9, 9), south=draw.randrange(-9, 9), cell=cell, cols=cols, rows=rows)
+        earlier, later = some_ground(draw, cols, rows), some_ground(draw, cols, rows)
+        both = f"{cells_of(grid, earlier)} {cells_of(grid, later)}"
+        changed = matching.changed(earlier, later, cell)
+        page.holds(f"change_of {both}", changed_of(changed))
+        difference = reference.grid_text(grid, matching.differences(earlier, later), reference.NO_DIFFERENCE)
+        page.holds(f"grids_text {both}", text(difference))
+        page.holds(f"volumes_text {changed_of(changed)}", text(reference.volumes_text(changed)))
+    return page
+
+
 def area_of(region):
     numbers = {name: natural(region[name]) for name in ("col", "row", "cols", "rows")}
     return record(name=text(region["name"]), **numbers, base=whole(region["base"]))
@@ -579,9 +676,11 @@ def words(draw):
         "words",
         {
             "sgm_words.specs.declared.options.Options": "Options",
-            "sgm_words.specs.declared.options.Options.TheVariants": "Match Demo",
+            "sgm_words.specs.declared.options.Options.TheVariants": "Match Demo Trace Change",
             "sgm_words.specs.declared.usage.UsageFault": "UsageFault",
+            "sgm_energy.specs.declared.dir.Dir.TheVariants": DIRECTIONS,
             "sgm_words.Commands": "",
+            "sgm_words.Directions": "",
             "sgm_words.Faults": "",
             "sgm_words.Numbers": "",
             "sgm_words.Operands": "",
@@ -604,12 +703,25 @@ def words(draw):
         operands = draw.choices(names, weights=[4, 4, 4, 8, 1, 1, 1], k=4)
         cases.append(["match", *operands, *draw.choices(options, k=draw.randrange(4))])
         cases.append(["demo", draw.choice(numbers), *draw.choices(options, k=draw.randrange(4))])
+    directions = [*inputs.DIRECTIONS, "Up", "", "rightup"]
+    for number, direction in enumerate(2 * directions):
+        inputs_of = ["l", "r", "-"] if number < len(directions) else draw.choices(names, weights=[4, 4, 4, 8, 1, 1, 1], k=3)
+        spot = draw.choices(["0", "7", "007", "4294967295"], k=3) if number < len(directions) else draw.choices(numbers, k=3)
+        cases.append(["trace", *inputs_of, direction, *spot, *draw.choices(options, k=draw.choice([0, 0, 0, 1]))])
+        cases.append(["change", *draw.choices(names, k=3), *draw.choices(options, k=draw.choice([0, 0, 0, 1]))])
+    cases += [["trace", "l", "r", "-", "up", "0", "0"], ["trace"], ["change", "a", "b"], ["change", "a", "b", "o"], ["change"]]
+    cases += [["change", "o.pgm", "b", "o"], ["change", "b", "o.asc", "o"], ["change", "o.csv", "o.asc", "o"]]
     for case in cases:
         try:
             operands, asked = inputs.read_words(case)
             options_of = f"{asked['strips']} {asked['workers']} {refine_of(asked['peak'], asked['fill'] == 1)}"
-            is_match = case[0] == "match"
-            answer = f"(Ok (Match {options_of}))" if is_match else f"(Ok (Demo {int(operands[0])} {options_of}))"
+            made = {"match": f"(Match {options_of})", "change": "Change"}
+            if case[0] == "demo":
+                made["demo"] = f"(Demo {int(operands[0])} {options_of})"
+            if case[0] == "trace":
+                direction = DIRECTIONS.split()[inputs.DIRECTIONS.index(operands[3])]
+                made["trace"] = f"(Trace {direction} {' '.join(str(int(word)) for word in operands[4:])})"
+            answer = f"(Ok {made[case[0]]})"
         except inputs.Ended as end:
             answer = f"(Err {text(end.line + chr(10))})"
         page.holds(f"with_line (read_of {listed(case, lambda word: text(word))})", answer)
@@ -688,8 +800,113 @@ def surveys(draw):
     return page
 
 
-PAGES = [energies, penalties, codes, selection, refinement, rectification, points, grids, reports]
-PAGES += [calibrations, words, texts, surveys]
+def calls(draw):
+    """What a trace prints and what a change writes, over what is read, or the line of the first refusal."""
+    page = Page(
+        "calls",
+        {
+            "sgm_base.Picture": "picture",
+            "sgm_base.Values": "values_of",
+            "sgm_rectify.specs.declared.warp.Warp.TheVariants": "Identity Projective Mesh",
+            "sgm_energy.specs.declared.dir.Dir.TheVariants": DIRECTIONS,
+            "sgm_rectify.Places": "",
+            "sgm_rectify.Bilinear": "",
+            "sgm_rectify.Faults": "",
+            "sgm_rectify.Rectified": "",
+            "sgm_census.Codes": "",
+            "sgm_census.Costs": "",
+            "sgm_energy.Rays": "",
+            "sgm_energy.Energies": "",
+            "sgm_energy.Pens": "",
+            "sgm_trace.Best": "",
+            "sgm_grid.Cells": "cells_of",
+            "sgm_grid.Words": "",
+            "sgm_grid.Asc": "asc_reading",
+            "sgm_change.Changes": "",
+            "sgm_calib.Calibration": "settings",
+            "sgm_job.Survey": "",
+            "sgm_outcome.specs.declared.outcome.Refusal": "Refusal",
+            "sgm_outcome.Lines": "refusal_line",
+            "sgm_app.Refusals": "",
+            "sgm_app.Certificates": "certificate_for",
+            "sgm_app.Changing": "GridTexts change_for",
+        },
+        "abbrev with_line : {X : Type 0} → Result X Refusal → Result X (List ℕ)\n"
+        "with_line (Ok made) = Ok made\n"
+        "with_line (Err refusal) = Err (refusal_line refusal)\n",
+    )
+    calibration = inputs.read_calibration(WORKED["c.json"])
+    pair = [inputs.read_pgm(WORKED[name], name) for name in ("l.pgm", "r.pgm")]
+    noise = [inputs.Image(3, 3, 255, [draw.randrange(9) for _ in range(9)]) for _ in range(2)]
+    moved = {"kind": "projective", "matrix": [1, 0, 1, 0, 1, 0, 0, 0, 1]}
+    turned = {"kind": "projective", "matrix": [1, 0, 0, 0, 1, 0, -1, 0, 1]}
+    spots = [("right", 2, 1, 1), ("down", 0, 0, 0), ("upleft", 2, 0, 0), ("left", 2, 2, 1), ("downright", 1, 1, 0)]
+    outside = [("right", 5, 0, 0), ("up", 0, 3, 0), ("down", 0, 0, 2), ("left", 4294967295, 4294967295, 4294967295)]
+    cases = [(pair, {}, spot) for spot in spots + outside]
+    cases += [(noise, {"is_adaptive": True}, spot) for spot in spots]
+    cases += [(noise, {"is_adaptive": True, "left": moved}, spot) for spot in spots[:2]]
+    cases += [((noise[0], pair[0]), {}, outside[0]), (noise, {"right": turned}, outside[0]), (noise, {"right": turned}, spots[1])]
+    for (left, right), settings, (direction, x, y, d) in cases:
+        made = inputs.Calibration()
+        vars(made).update({**vars(calibration), **settings})
+        shown = DIRECTIONS.split()[inputs.DIRECTIONS.index(direction)]
+        try:
+            reference.fitting(left, right, made)
+            answer = f"(Ok {text(reference.certificate(left, right, made, direction, x, y, d))})"
+        except inputs.Ended as end:
+            answer = f"(Err {text(end.line + chr(10))})"
+        read = f"(Ok {picture_of(left)}) (Ok {picture_of(right)}) {settings_of(made)}"
+        page.holds(f"with_line (certificate_for {read} {shown} {x} {y} {d})", answer)
+    grids = [(GRID_TEXT, LATER_TEXT), (LATER_TEXT, GRID_TEXT), (b"", b""), (GRID_TEXT, b"ncols"), (asc("1 2"), asc("1"))]
+    grids += [(asc("1 2"), asc("1 2", **{key: 9})) for key in ("west", "south", "cell")]
+    grids += [(asc("1 2"), asc("1 2", cols=1, rows=2)), (asc("1 2"), asc("1 2 3 4", rows=2, cell=5))]
+    for earlier, later in grids:
+        try:
+            difference, volumes, summary = reference.change_texts(*reference.judged_grids(earlier, later))
+            answer = f"(Ok {record(difference=text(difference), volumes=text(volumes), summary=text(summary))})"
+        except inputs.Ended as end:
+            answer = f"(Err {text(end.line + chr(10))})"
+        page.holds(f"with_line (change_for (asc_reading {text(earlier)}) (asc_reading {text(later)}))", answer)
+    return page
+
+
+def entry_of(entry):
+    calib = None if entry.calib == "-" else entry.calib
+    return record(left=text(entry.left), right=text(entry.right), calib=option(calib, text), out=text(entry.out))
+
+
+def lists(draw):
+    """The entries of a series' list, and the line of its first fault, or none. That a list isn't UTF-8 can't be computed
+    here, since the library's definition of it has parts that have no name outside."""
+    page = Page(
+        "lists",
+        {
+            "std.specs.Option": "option_or",
+            "sgm_list.Entries": "entries_of",
+            "sgm_list.Faults": "line_fault count_fault clash_fault",
+            "sgm_list.Lines": "fault_line",
+        },
+    )
+    cases = [(b"", "l"), (b"a b - o", "o.csv"), (b"x\n", "l"), (b"a b c o\r\n\n\td e\t- p\n", "l"), (b"a b - -", "-")]
+    cases += [(b"o.pgm b - p\na b - o\n", "l"), (b"a b - o\na b - o", "l"), (b"-.pgm b - -", "l"), (b"a b - o", "o")]
+    for number in range(60):
+        data, name = random_lists.list_of(5, number)
+        cases += [(data, name)] if len(data) < 120 else []
+    for data, name in cases:
+        try:
+            entries, line = reference_lists.read_list(data, name), None
+            page.holds(f"entries_of {text(data)}", listed(entries, entry_of))
+        except inputs.Ended as end:
+            line = end.line + "\n"
+        if line == "sgm_series: list is not text\n":
+            continue
+        faults = f"option_or (count_fault {text(data)}) (clash_fault {text(name)} {text(data)})"
+        page.holds(f"option_map fault_line (option_or (line_fault {text(data)}) ({faults}))", option(line, text))
+    return page
+
+
+PAGES = [energies, certificates, penalties, codes, selection, refinement, rectification, points, grids, readings, changes]
+PAGES += [reports, calibrations, words, texts, surveys, calls, lists]
 
 
 def write_pages(folder, is_wrong):

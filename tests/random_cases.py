@@ -1,7 +1,7 @@
 #!/usr/bin/env python3
 """Holds the program to the reference on random words, pictures and calibrations.
 
-    tests/random_cases.py [--seed S] [--cases N] [--case NUMBER] [--keep FOLDER]
+    tests/random_cases.py [--seed S] [--cases N] [--case NUMBER] [--keep FOLDER] [--series]
 
 Each case is a folder of files and the words of a run. The program and the separate implementation
 (reference.py) run on a copy each, and everything has to be the same: the status, both streams, and all
@@ -21,7 +21,8 @@ that stands in the folder afterwards. The kinds of cases take turns:
 
 A case is made from the seed and its number alone, so --case runs it again. What differs is printed, and
 its folder stays: `given` before the runs, `program` and `reference` after them. The program is the one that
-the variable SGM names (./sgm of this repository without it).
+the variable SGM names (./sgm of this repository without it). With --series the cases are whole series, of up to 20
+entries, and the program is the one that SGM_SERIES names (./sgm_series without it).
 """
 
 import argparse
@@ -35,12 +36,31 @@ import tempfile
 import time
 
 import random_inputs
+import random_lists
 import reference
+import reference_series
 
 HERE = os.path.dirname(os.path.abspath(__file__))
-SGM = os.path.realpath(os.environ.get("SGM", os.path.join(HERE, "..", "sgm")))
 # The longest run of the program, in seconds.
 PATIENCE = 120
+
+
+class Single:
+    """The program sgm, its reference, its cases, and its line without words."""
+
+    path = os.path.realpath(os.environ.get("SGM", os.path.join(HERE, "..", "sgm")))
+    main = staticmethod(reference.main)
+    case_of = staticmethod(random_inputs.case_of)
+    line = b"sgm: no command\n"
+
+
+class Series:
+    """The same of sgm_series."""
+
+    path = os.path.realpath(os.environ.get("SGM_SERIES", os.path.join(HERE, "..", "sgm_series")))
+    main = staticmethod(reference_series.main)
+    case_of = staticmethod(random_lists.case_of)
+    line = b"sgm_series: no list\n"
 
 
 def write_case(folder, case):
@@ -56,10 +76,10 @@ def write_case(folder, case):
                 file.write(content)
 
 
-def run_program(folder, words):
+def run_program(path, folder, words):
     """The status and both streams; a status that no program has where it takes too long."""
     # The program has no part in a word's encoding: words go out as the bytes that they came from.
-    command = [os.fsencode(SGM), *map(os.fsencode, words)]
+    command = [os.fsencode(path), *map(os.fsencode, words)]
     try:
         done = subprocess.run(command, cwd=folder, stdin=subprocess.DEVNULL, capture_output=True, timeout=PATIENCE)
     except subprocess.TimeoutExpired:
@@ -67,7 +87,7 @@ def run_program(folder, words):
     return done.returncode, done.stdout, done.stderr
 
 
-def run_reference(folder, words):
+def run_reference(folder, words, main=reference.main):
     """The same of the reference, which runs in a process that is forked off, as it needs its own streams."""
     with tempfile.TemporaryFile() as out, tempfile.TemporaryFile() as err:
         child = os.fork()
@@ -77,7 +97,7 @@ def run_reference(folder, words):
                 os.chdir(folder)
                 os.dup2(out.fileno(), 1)
                 os.dup2(err.fileno(), 2)
-                status = reference.main(words)
+                status = main(words)
             finally:
                 os._exit(status)
         status = os.waitstatus_to_exitcode(os.waitpid(child, 0)[1])
@@ -107,9 +127,9 @@ def shown(value):
     return text if len(text) <= 200 else text[:150] + f".. ({len(value)} long)"
 
 
-def differences(program, reference_, folders):
+def differences(made, wanted, folders):
     """Lines on what isn't the same."""
-    for what, ours, theirs in zip(("status", "standard output", "standard error"), program, reference_):
+    for what, ours, theirs in zip(("status", "standard output", "standard error"), made, wanted):
         if ours != theirs:
             yield f"{what}: {shown(ours)}, the reference has {shown(theirs)}"
     ours, theirs = map(standing, folders)
@@ -118,15 +138,15 @@ def differences(program, reference_, folders):
             yield f"{name}: {shown(ours.get(name))}, the reference has {shown(theirs.get(name))}"
 
 
-def try_case(case, folder):
+def try_case(program, case, folder):
     """The reference's status, and the lines on what differs."""
     given, ours, theirs = (os.path.join(folder, name) for name in ("given", "program", "reference"))
     for name in (given, ours, theirs):
         write_case(name, case)
     with open(os.path.join(folder, "command"), "wb") as file:
-        file.write(os.fsencode(" ".join(map(shlex.quote, [SGM, *case.words]))) + b"\n")
-    program, wanted = run_program(ours, case.words), run_reference(theirs, case.words)
-    return wanted[0], list(differences(program, wanted, (ours, theirs)))
+        file.write(os.fsencode(" ".join(map(shlex.quote, [program.path, *case.words]))) + b"\n")
+    made, wanted = run_program(program.path, ours, case.words), run_reference(theirs, case.words, program.main)
+    return wanted[0], list(differences(made, wanted, (ours, theirs)))
 
 
 def keep(folder, name):
@@ -137,14 +157,14 @@ def keep(folder, name):
     return place
 
 
-def try_cases(words):
+def try_cases(program, words):
     numbers = range(words.cases) if words.case is None else [words.case]
     statuses, differ, begin = {}, 0, time.monotonic()
     with tempfile.TemporaryDirectory(prefix="sgm-random_cases.") as work:
         for number in numbers:
-            case = random_inputs.case_of(words.seed, number)
+            case = program.case_of(words.seed, number)
             folder = words.keep or os.path.join(work, str(number))
-            status, lines = try_case(case, folder)
+            status, lines = try_case(program, case, folder)
             statuses[status] = statuses.get(status, 0) + 1
             if lines:
                 differ += 1
@@ -160,11 +180,11 @@ def try_cases(words):
     return 1 if differ else 0
 
 
-def runs():
+def runs(program):
     """Whether the program runs: without words it ends with 2 and a line. What has to be built is built here."""
-    with subprocess.Popen([SGM], stdin=subprocess.DEVNULL, stderr=subprocess.PIPE) as process:
+    with subprocess.Popen([program.path], stdin=subprocess.DEVNULL, stderr=subprocess.PIPE) as process:
         for line in process.stderr:
-            if line != b"sgm: no command\n":
+            if line != program.line:
                 sys.stderr.buffer.write(line)
                 sys.stderr.flush()
     return process.returncode == 2
@@ -186,14 +206,16 @@ def main():
     parser.add_argument("--cases", type=natural, default=300, metavar="N", help="how many, from number 0 on (300)")
     parser.add_argument("--case", type=natural, metavar="NUMBER", help="this case alone")
     parser.add_argument("--keep", metavar="FOLDER", help="where the folder of --case stays, a new one")
+    parser.add_argument("--series", action="store_true", help="whole series, by the program sgm_series")
     parser.add_argument("--verbose", action="store_true", help="a line for each case")
     words = parser.parse_args()
     if words.keep is not None and words.case is None:
         parser.error("--keep takes --case")
+    program = Series if words.series else Single
     try:
-        if not runs():
-            sys.exit(f"random_cases: {SGM} doesn't run")
-        return try_cases(words)
+        if not runs(program):
+            sys.exit(f"random_cases: {program.path} doesn't run")
+        return try_cases(program, words)
     except OSError as error:
         sys.exit(f"random_cases: {error}")
 

@@ -1,10 +1,16 @@
-"""Lists of a series that look random, each made from a seed and a number alone.
+"""Lists of a series, and whole series, that look random, each made from a seed and a number alone.
 
-Most have no fault; the others have a line with too few or too many words, entries that clash, bytes that aren't UTF-8,
-or an entry too many. What stands between the words is of any kind, and words have letters of any kind.
+Most lists have no fault; the others have a line with too few or too many words, entries that clash, bytes that aren't
+UTF-8, or an entry too many. What stands between the words is of any kind, and words have letters of any kind. A whole
+series has up to 20 entries, some of them refused, and at times an input that is absent or an output that can't be
+written.
 """
 
-from random_inputs import Draw
+import json
+
+import random_inputs
+from calibration_cases import WHOLE
+from random_inputs import FOLDER, Case, Draw, Link
 
 LIST = "list.txt"
 SPACES = [" ", " ", "  ", "\t", "\r", " \r\t "]
@@ -41,6 +47,17 @@ def clash(draw, entries):
         entry[draw.below(4)] = draw.of([LIST, "-", "-.pgm", "./" + other[3] + ".pgm"])
 
 
+def text_of(draw, entries):
+    """A list's text with the words of these entries."""
+    blank = lambda: "".join(draw.of(SPACES) for _ in range(draw.of([0, 0, 0, 1, 2])))
+    lines = []
+    for entry in entries:
+        while draw.chance(15):
+            lines.append(blank())
+        lines.append(blank() + "".join(word + draw.of(SPACES) for word in entry[:-1]) + "".join(entry[-1:]) + blank())
+    return draw.of(["\n", "\n", "\r\n"]).join(lines).encode() + draw.of([b"\n", b"", b"\r\n", b"\n\n"])
+
+
 def list_of(seed, number):
     """A list's bytes and the name under which it is held."""
     draw = Draw(seed, number)
@@ -58,13 +75,7 @@ def list_of(seed, number):
             entry.insert(draw.below(5), draw.of(["-", "x", "workers=2"]))
     # The name of the list, at times one that an entry writes.
     name = draw.of([LIST, LIST, LIST, LIST + ".pgm", "o0.pgm", "o1.csv"])
-    blank = lambda: "".join(draw.of(SPACES) for _ in range(draw.of([0, 0, 0, 1, 2])))
-    lines = []
-    for entry in entries:
-        while draw.chance(15):
-            lines.append(blank())
-        lines.append(blank() + "".join(word + draw.of(SPACES) for word in entry[:-1]) + "".join(entry[-1:]) + blank())
-    data = draw.of(["\n", "\n", "\r\n"]).join(lines).encode() + draw.of([b"\n", b"", b"\r\n", b"\n\n"])
+    data = text_of(draw, entries)
     if draw.chance(12):
         at = draw.below(len(data) + 1)
         data = data[:at] + draw.of(ILL_BYTES) + data[at:]
@@ -73,3 +84,44 @@ def list_of(seed, number):
     if draw.chance(1):
         data += b" " * (draw.of([1048576, 1048577]) - len(data))
     return data, name
+
+
+def pairs_of(draw):
+    """Small pairs and calibrations, most of which suit one another: the files, and for each entry to be its inputs."""
+    files = {"bad.pgm": b"P2 1 1 255 7", "bad.json": b"{", "c.json": json.dumps(WHOLE).encode()}
+    good, refused = [], [["bad.pgm", "l0.pgm", "-"], ["l0.pgm", "bad.pgm", "c.json"], ["l0.pgm", "r0.pgm", "bad.json"]]
+    for number in range(3):
+        # Of different widths, so that none suits another.
+        width, height = 3 * number + draw.between(1, 3), draw.between(1, 4)
+        both = random_inputs.pair_of(draw, width, height)
+        files |= {f"l{number}.pgm": both[0], f"r{number}.pgm": both[1]}
+        good += [[f"l{number}.pgm", f"r{number}.pgm", calib] for calib in ("-", "c.json")]
+        refused.append([f"l{number}.pgm", f"r{(number + 1) % 3}.pgm", "-"])
+    return files, good, refused
+
+
+def case_of(seed, number):
+    """The words and files of a whole series."""
+    draw = Draw(seed, number)
+    files, good, refused = pairs_of(draw)
+    count, ill = draw.of([1, 2, 7, 8, 9, 16, 17, draw.between(1, 20)]), draw.of([0, 0, 10, 40])
+    entries = [[*draw.of(refused if draw.chance(ill) else good), f"o{it}"] for it in range(count)]
+    if draw.chance(25):
+        draw.of(entries)[draw.below(3)] = draw.of(["none", "dir", "loop", "./o0.pgm"])
+        files |= {"dir": FOLDER, "loop": Link("loop")}
+    if draw.chance(15):
+        draw.of(entries)[3] = draw.of(["none/o", "dir/../o", "/dev/null/o", "x" * 300, "./o0"])
+        files["dir"] = FOLDER
+    if draw.chance(10):
+        name = draw.of(entries)[3] + draw.of([".pgm", ".asc", ".csv"])
+        if "/" not in name:
+            files[name] = draw.of([FOLDER, Link("/dev/full"), b"older\n" * 40])
+    if draw.chance(10):
+        clash(draw, entries)
+    files[LIST] = text_of(draw, entries)
+    if draw.chance(5):
+        files[LIST] = list_of(seed, number)[0]
+    words = [LIST] + draw.of([[], ["workers=1"], ["workers=2"], ["workers=2"]])
+    if draw.chance(6):
+        words = draw.of([[], [""], ["none"], ["."], ["./" + LIST], [*words, "workers=1"], [LIST, "workers=3"], [LIST, "x"]])
+    return Case("series", words, files)

@@ -74,6 +74,10 @@ def trace_text(energy, steps):
     return "".join(line + "\n" for line in lines)
 
 
+# What stands for a cell that isn't filled in both grids. No difference is as low.
+NO_DIFFERENCE = -9999999999
+
+
 def volumes_text(changed):
     return ("both,come,gone,empty,fill,cut\n" + ",".join(map(str, changed)) + "\n").encode()
 
@@ -106,10 +110,8 @@ def say(text):
         raise Ended(UNWRITTEN, "sgm: cannot write summary")
 
 
-def judged(left_data, right_data, calibration_data):
-    """The two pictures and the calibration, or the first refusal."""
-    left, right = read_pgm(left_data, "left"), read_pgm(right_data, "right")
-    calibration = Calibration() if calibration_data is None else read_calibration(calibration_data)
+def fitting(left, right, calibration):
+    """Refuses two pictures that don't suit one another, or that the calibration doesn't suit."""
     if (left.width, left.height) != (right.width, right.height):
         raise Ended(REFUSED, f"sgm: sizes differ: {left.width}x{left.height} and {right.width}x{right.height}")
     cells = left.width * left.height * calibration.count
@@ -119,36 +121,57 @@ def judged(left_data, right_data, calibration_data):
         fault = warp_fault(warp, left.width, left.height)
         if fault:
             raise Ended(REFUSED, f"sgm: {side} warp: {fault}")
+
+
+def judged(left_data, right_data, calibration_data):
+    """The two pictures and the calibration, or the first refusal."""
+    left, right = read_pgm(left_data, "left"), read_pgm(right_data, "right")
+    calibration = Calibration() if calibration_data is None else read_calibration(calibration_data)
+    fitting(left, right, calibration)
     return left, right, calibration
 
 
-def fetch_pair(left_name, right_name, calibration_name):
+def fetch_inputs(left_name, right_name, calibration_name):
+    """The bytes of the three inputs, with None for a calibration of `-`."""
     left = fetch(left_name, LONGEST_IMAGE, "left")
     right = fetch(right_name, LONGEST_IMAGE, "right")
-    calibration = None
-    if calibration_name != "-":
-        calibration = fetch(calibration_name, LONGEST_CALIBRATION, "calibration")
-    return judged(left, right, calibration)
+    if calibration_name == "-":
+        return left, right, None
+    return left, right, fetch(calibration_name, LONGEST_CALIBRATION, "calibration")
+
+
+def match_texts(left, right, calibration, **refine):
+    """The outputs, each as the ending of its name, its text and its word in fault lines, and the summary."""
+    found, cells, tallies = survey(left, right, calibration, **refine)
+    outputs = [(".pgm", disparity_text(found), "disparity")]
+    if cells is not None:
+        outputs.append((".asc", grid_text(calibration.grid, cells), "heights"))
+    if tallies is not None:
+        outputs.append((".csv", table_text(calibration.regions, tallies), "report"))
+    return outputs, summary_text(found)
+
+
+def deliver(out, outputs, summary):
+    for ending, data, what in outputs:
+        write(out + ending, data, what)
+    say(summary)
 
 
 def match(left_name, right_name, calibration_name, out, **refine):
-    left, right, calibration = fetch_pair(left_name, right_name, calibration_name)
-    found, cells, tallies = survey(left, right, calibration, **refine)
-    write(out + ".pgm", disparity_text(found), "disparity")
-    if cells is not None:
-        write(out + ".asc", grid_text(calibration.grid, cells), "heights")
-    if tallies is not None:
-        write(out + ".csv", table_text(calibration.regions, tallies), "report")
-    say(summary_text(found))
+    judged_inputs = judged(*fetch_inputs(left_name, right_name, calibration_name))
+    deliver(out, *match_texts(*judged_inputs, **refine))
 
 
-def trace(left_name, right_name, calibration_name, direction, *numbers):
-    left, right, calibration = fetch_pair(left_name, right_name, calibration_name)
-    x, y, d = map(int, numbers)
+def certificate(left, right, calibration, direction, x, y, d):
     if x >= left.width or y >= left.height or d >= calibration.count:
         raise Ended(REFUSED, f"sgm: no pixel {x} {y} with index {d}")
     offset = matching.DIRECTIONS[DIRECTIONS.index(direction)]
-    say(trace_text(*matching.trace(left, right, calibration, offset, x, y, d)))
+    return trace_text(*matching.trace(left, right, calibration, offset, x, y, d))
+
+
+def trace(left_name, right_name, calibration_name, direction, *numbers):
+    judged_inputs = judged(*fetch_inputs(left_name, right_name, calibration_name))
+    say(certificate(*judged_inputs, direction, *map(int, numbers)))
 
 
 def judged_grids(earlier_data, later_data):
@@ -161,14 +184,18 @@ def judged_grids(earlier_data, later_data):
     return grid, earlier, later
 
 
+def change_texts(grid, earlier, later):
+    """The texts of the difference and of the volumes, and the summary."""
+    changed = matching.changed(earlier, later, grid["cell"])
+    difference = grid_text(grid, matching.differences(earlier, later), NO_DIFFERENCE)
+    return difference, volumes_text(changed), f"compared {changed[0]} of {grid['cols'] * grid['rows']}\n"
+
+
 def change(earlier_name, later_name, out):
     earlier = fetch(earlier_name, LONGEST_GRID, "earlier")
     later = fetch(later_name, LONGEST_GRID, "later")
-    grid, earlier, later = judged_grids(earlier, later)
-    changed = matching.changed(earlier, later, grid["cell"])
-    write(out + ".asc", grid_text(grid, matching.differences(earlier, later), empty=-9999999999), "difference")
-    write(out + ".csv", volumes_text(changed), "volumes")
-    say(f"compared {changed[0]} of {grid['cols'] * grid['rows']}\n")
+    difference, volumes, summary = change_texts(*judged_grids(earlier, later))
+    deliver(out, [(".asc", difference, "difference"), (".csv", volumes, "volumes")], summary)
 
 
 def demo(number, **refine):
@@ -176,9 +203,13 @@ def demo(number, **refine):
     say(summary_text(found) + f"sum {sum(disparity_samples(found))}\n")
 
 
+def is_text(words):
+    """Whether all words are UTF-8. One that isn't comes with bytes in disguise, and then there are no words."""
+    return not any("\udc80" <= letter <= "\udcff" for word in words for letter in word)
+
+
 def main(words):
-    # A word that isn't UTF-8 comes with bytes in disguise: then there are no words.
-    if any("\udc80" <= letter <= "\udcff" for word in words for letter in word):
+    if not is_text(words):
         return 1
     try:
         operands, options = read_words(words)

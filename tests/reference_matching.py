@@ -90,20 +90,17 @@ def census_codes(plane, window):
     return [[code(x, y) for x in range(width)] for y in range(height)]
 
 
-def cost_at(left, right, first, greatest, x, y, d):
-    """The differing bits of a pixel's code and its partner's, or the greatest cost where a code is missing."""
-    q = x - first - d
-    if left[y][x] is None or not 0 <= q < len(left[y]) or right[y][q] is None:
-        return greatest
-    return bin(left[y][x] ^ right[y][q]).count("1")
-
-
 def costs_of(left, right, first, count, greatest):
-    """For each pixel the list of its costs."""
-    return [
-        [[cost_at(left, right, first, greatest, x, y, d) for d in range(count)] for x in range(len(left[y]))]
-        for y in range(len(left))
-    ]
+    """For each pixel the list of its costs: differing bits, or the greatest cost where a code is missing."""
+    width = len(left[0])
+
+    def cost(x, y, d):
+        q = x - first - d
+        if left[y][x] is None or not 0 <= q < width or right[y][q] is None:
+            return greatest
+        return bin(left[y][x] ^ right[y][q]).count("1")
+
+    return [[[cost(x, y, d) for d in range(count)] for x in range(width)] for y in range(len(left))]
 
 
 # Paths
@@ -361,22 +358,26 @@ def best_sequence(costs, larger, p1, last):
     return least[-1][last], sequence
 
 
+def certified(costs, guide, p1, p2, ray, d):
+    """The least energy along a ray of a sequence that ends in d, and for each pixel of the ray its place, its index, its
+    cost, and what the change from the index before costs. P2 is the same everywhere where no guide is given."""
+    along = [costs[y][x] for x, y in ray]
+    greys = [guide[y][x] if guide else None for x, y in ray]
+    larger = [p2] + [far(p1, p2, here, before) for before, here in zip(greys, greys[1:])]
+    energy, sequence = best_sequence(along, larger, p1, d)
+    jumps = [0] + [jump(a, b, p1, more) for a, b, more in zip(sequence, sequence[1:], larger[1:])]
+    return energy, [(*pixel, b, cost[b], more) for pixel, b, cost, more in zip(ray, sequence, along, jumps)]
+
+
 def trace(left_image, right_image, calibration, direction, x, y, d):
-    """The least energy along the ray to (x, y) of a sequence that ends in d, and for each pixel of the ray its place,
-    its index, its cost, and what the change from the index before costs."""
+    """The certificate of the index d at the pixel (x, y), in that direction."""
     left, right = rectify(left_image, calibration.left), rectify(right_image, calibration.right)
     codes = [census_codes(plane, calibration.window) for plane in (left, right)]
     greatest = calibration.window[0] * calibration.window[1] - 1
-    guide = guide_of(left, left_image.maxval)
-    p1, p2 = calibration.p1, calibration.p2
+    costs = costs_of(*codes, calibration.first, calibration.count, greatest)
+    guide = guide_of(left, left_image.maxval) if calibration.is_adaptive else None
     ray = ray_to(x, y, direction, left_image.width, left_image.height)
-    costs = [[cost_at(*codes, calibration.first, greatest, i, j, b) for b in range(calibration.count)] for i, j in ray]
-    greys = [guide[j][i] if calibration.is_adaptive else None for i, j in ray]
-    larger = [p2] + [far(p1, p2, here, before) for before, here in zip(greys, greys[1:])]
-    energy, sequence = best_sequence(costs, larger, p1, d)
-    jumps = [0] + [jump(a, b, p1, more) for a, b, more in zip(sequence, sequence[1:], larger[1:])]
-    steps = [(*pixel, b, cost[b], more) for pixel, b, cost, more in zip(ray, sequence, costs, jumps)]
-    return energy, steps
+    return certified(costs, guide, calibration.p1, calibration.p2, ray, d)
 
 
 # Change

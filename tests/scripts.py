@@ -18,8 +18,8 @@ import unittest
 
 TOP = os.path.realpath(os.path.join(os.path.dirname(os.path.abspath(__file__)), ".."))
 FOLDERS = ["tests", "tools", "bench", "packaging", "examples/pair", "examples/photographs", "examples/stockpile"]
-# It takes the words of the program and no others; the program has no --help either.
-REFERENCE = "tests/reference.py"
+# They take the words of the programs and no others; the programs have no --help either.
+REFERENCES = ["tests/reference.py", "tests/reference_series.py"]
 # What reads a file, with the words around the file's name, and what writes into a folder.
 READERS = {
     "tools/cubic_metres.py": "FILE",
@@ -104,7 +104,7 @@ class Manners(unittest.TestCase):
 
     def test_help(self):
         for path in scripts():
-            if path == REFERENCE:
+            if path in REFERENCES:
                 continue
             for word in ("--help", "-h"):
                 status, out, err = run(path, word)
@@ -116,7 +116,7 @@ class Manners(unittest.TestCase):
 
     def test_wrong_words(self):
         for path in scripts():
-            if path == REFERENCE:
+            if path in REFERENCES:
                 continue
             with tempfile.TemporaryDirectory() as folder:
                 for word in ("--no-such-word", "--no-such-word=1"):
