@@ -1,10 +1,6 @@
 -- Parcels and fronts of which a board can be made.
-use Rattle.std.proofs.Common.{◌≡◌, ◌∙◌, ℕ, ◌≤◌, true, List, length, get_or, leb, unwrap_or, Option, Some, None, sym, subst, arith}
-use Rattle.std.specs.List.{list_all}
-use Rattle.std.specs.Prelude.{All, IfSome, slice_get}
-use Rattle.std.proofs.lemmas.Bool.Decides.{nat_tests}
-use Rattle.std.proofs.lemmas.List.Sums.{AllPass-from_list_all}
-use Rattle.sgm_base.specs.Values.{AtMost}
+use Rattle.std.proofs.Common.{◌≡◌, ◌∙◌, ℕ, List, length, Some, sym, subst}
+use Rattle.std.specs.Prelude.{All, slice_get}
 use Rattle.sgm_energy.specs.declared.dir.Dir.{Dir}
 use Rattle.sgm_energy.specs.Dirs.{dir_of_front}
 use Rattle.sgm_strip.specs.Cuts.{CutParts}
@@ -27,11 +23,3 @@ ready scene cut parcels fronts strips level six new = record {
       let same : found.0 ≡ dir = cc in
       subst (λ (d : Dir). IsNewFront scene cut d front) same found.2;
 }
-
--- ---- values of a plane
-byte : (entry : Option ℕ) → leb (unwrap_or entry 0) 255 ≡ true → IfSome entry (λ v. v ≤ 255)
-byte None e = tt
-byte (Some v) e = grind (arith, nat_tests)
-
-pub bytes : (entries : List (Option ℕ)) → list_all (λ entry. leb (unwrap_or entry 0) 255) entries ≡ true → AtMost 255 entries
-bytes entries e k d l = byte (get_or entries k d) (AllPass-from_list_all (λ entry. leb (unwrap_or entry 0) 255) entries e k d l)

@@ -1,7 +1,6 @@
 //! What no clause says of strips, boards and workers, by the worked example: three rows of five pixels.
 mod boards;
 mod gates;
-mod guides;
 mod making;
 mod strips;
 mod sums;

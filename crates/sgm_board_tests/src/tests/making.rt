@@ -1,6 +1,5 @@
 //! Scenes, parcels, fronts and boards of the worked example.
-ghost use Rattle.std.specs.Prelude.{◌≡◌, ℕ, ◌≤◌, false, [], length, slice_get, nat_le, unwrap_or, Some, All, IfOk, IfSome, vec_len};
-ghost use Rattle.std.specs.List.{list_all};
+ghost use Rattle.std.specs.Prelude.{◌≡◌, ℕ, ◌≤◌, false, [], length, slice_get, Some, All, IfOk, IfSome, vec_len};
 ghost use Rattle.sgm_base.specs.declared.limits.TheConstants.{MAX_STRIPS, MAX_WORKERS};
 ghost use Rattle.sgm_energy.specs.declared.dir.Dir.{Dir};
 ghost use Rattle.sgm_energy.specs.Dirs.{is_level, front_of, dir_of_front};
@@ -20,56 +19,39 @@ use sgm_strip::{Cut, Front, Guide, Parcel, Row, Scene};
 use std::alloc::Global;
 use std::test::Fail;
 
-/// A plane of three rows of five pixels.
-fn plane_of(alloc: Global, rows: &[[Option<u16>; 5]; 3]) -> Result<Plane, Fail> {
+/// The plane of three rows, each of these values.
+fn plane_of(alloc: Global, row: &[u16; 5]) -> Result<Plane, Fail> {
     let size = Size::make(5, 3).ok_or("size")?;
-    Ok(Plane::make(size, rows.concat(alloc)?).ok_or("entries")?)
+    let entries = [row.map(Some), row.map(Some), row.map(Some)].concat(alloc)?;
+    Ok(Plane::make(size, entries).ok_or("entries")?)
 }
 
-/// The codes of a plane of three rows, each of these values, with a window of 3 x 3.
+/// Its codes, with a window of 3 x 3.
 fn codes_of(alloc: Global, row: &[u16; 5]) -> Result<CodePlane, Fail> {
-    let plane = plane_of(alloc, &[row.map(Some), row.map(Some), row.map(Some)])?;
     let window = Window::make(3, 3).ok_or("window")?;
-    Ok(codes(alloc, &plane, window)?)
+    Ok(codes(alloc, &plane_of(alloc, row)?, window)?)
 }
 
-fn are_bytes(entries: &[Option<u16>]) -> bool
-    ensures { result ≡ list_all (λ entry. nat_le (unwrap_or entry 0) 255) entries.now }
+/// A guide of that size, which no pen here follows.
+fn guide_of(alloc: Global, size: Size) -> Result<Guide, Fail>
+    ensures width { IfOk result (λ guide. guide.width ≡ size.width) }
+    ensures height { IfOk result (λ guide. guide.height ≡ size.height) }
 {
-    entries.iter().all(|entry| entry.unwrap_or(0) <= 255)
+    let blank = Plane::blank(alloc, size)?;
+    Ok(Guide::make(alloc, &blank, 1)?)
 }
 
-/// The guide of a plane whose values go up to 255.
-fn guide_of(alloc: Global, plane: &Plane) -> Result<Guide, Fail> {
-    if !are_bytes(plane.entries()) {
-        return Err("bytes")?;
-    }
-    Ok(Guide::make(alloc, plane, 255)?)
-}
-
-/// The worked example's codes with this guide, these disparities and this pen.
-pub(super) fn guided_scene(
-    alloc: Global,
-    guide: &[[Option<u16>; 5]; 3],
-    span: Span,
-    pen: Pen,
-) -> Result<Scene, Fail> {
+/// The scene of the worked example.
+pub(super) fn scene_of(alloc: Global) -> Result<Scene, Fail> {
     let left = codes_of(alloc, &[90, 10, 50, 20, 40])?;
     let right = codes_of(alloc, &[10, 50, 20, 40, 30])?;
-    let guide = guide_of(alloc, &plane_of(alloc, guide)?)?;
+    let span = Span::make(0, 2).ok_or("span")?;
+    let pen = Pen::make(1, 3).ok_or("pen")?;
     if left.size() != right.size() || left.window() != right.window() {
         return Err("sides")?;
     }
-    if guide.size() != left.size() {
-        return Err("guide")?;
-    }
+    let guide = guide_of(alloc, left.size())?;
     Ok(Scene::make(left, right, span, pen, guide))
-}
-
-pub(super) fn scene_of(alloc: Global) -> Result<Scene, Fail> {
-    let span = Span::make(0, 2).ok_or("span")?;
-    let pen = Pen::make(1, 3).ok_or("pen")?;
-    guided_scene(alloc, &[[None; 5]; 3], span, pen)
 }
 
 pub(super) fn parcels_of(alloc: Global, scene: &Scene, cut: Cut) -> Result<Vec<Parcel>, Fail>

@@ -61,7 +61,7 @@ fn hand_through(parcels: &mut Vec<Parcel>, front: &mut Front, spare: &mut Row)
 }
 
 /// The parcels of a scene, through which all six fronts were handed.
-pub(super) fn handed_through(alloc: Global, scene: &Scene, strips: u32) -> Result<Vec<Parcel>, Fail>
+fn handed_through(alloc: Global, scene: &Scene, strips: u32) -> Result<Vec<Parcel>, Fail>
     requires { (1 ≤ strips) × (strips ≤ 64) }
 {
     let size = scene.size();

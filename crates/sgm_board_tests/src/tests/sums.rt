@@ -16,19 +16,3 @@ pub(super) fn has_sums(parcel: &Parcel) -> bool {
     }
     parcel.is_complete()
 }
-
-/// Whether all directions are done and each row has the sums that the whole image has there.
-pub(super) fn has_rows(parcel: &Parcel, wanted: &[[u16; 15]; 3]) -> bool {
-    let cut = parcel.cut();
-    let strip = parcel.strip();
-    let top = cut.first(strip);
-    for y in top..top + cut.rows(strip) {
-        let Some(row) = wanted.get(y as usize) else {
-            return false;
-        };
-        if parcel.sums_row(y) != row.as_slice() {
-            return false;
-        }
-    }
-    parcel.is_complete()
-}

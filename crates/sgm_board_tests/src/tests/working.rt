@@ -1,15 +1,16 @@
-//! What a worker does, by the calls on a board alone.
+//! What workers do on a board.
 ghost use Rattle.std.specs.Prelude.{◌≡◌, ◌<◌, ◌||◌, ℕ, true, false, None, IfOk};
 ghost use Rattle.sgm_energy.specs.Dirs.{is_level};
 ghost use Rattle.sgm_strip.specs.Parcels.{ParcelParts};
 ghost use Rattle.sgm_strip.specs.Scenes.{row_length};
 ghost use Rattle.sgm_board.specs.Settled.{AreSettled};
-ghost use Rattle.sgm_board.specs.Boards.{parts_of, scene_of, cut_of, strips_of, passes_of, IsPassOf, IsIdle, IsHeld};
+ghost use Rattle.sgm_board.specs.Boards.{parts_of, scene_of, cut_of, passes_of, IsPassOf, IsIdle, IsHeld};
 
 use super::making::dir_of;
 use sgm_board::{Board, Pass};
 use sgm_energy::Dir;
 use sgm_strip::{Front, Parcel, Row, pass as pass_on};
+use sgm_work::{OpenGate, scan};
 use std::thread::{Threads, join, yield_now};
 
 /// Tries a front once, and passes it on if it comes.
@@ -40,42 +41,6 @@ pub(super) fn hand_on(
     true
 }
 
-/// Tries each front at a strip that is held, and gives the strip back.
-fn serve(board: &Board, pass: &mut Pass, mut parcel: Parcel, spare: &mut Row)
-    requires own { IsPassOf board.now pass.old }
-    requires bare { (parts_of pass.old).front ≡ None }
-    requires held { IsHeld board.now (parts_of pass.old) parcel }
-    requires spare { spare.old ≡ row_length (scene_of board.now) }
-    ensures own { IsPassOf board.now pass.new }
-    ensures idle { IsIdle (parts_of pass.new) }
-    ensures spare { spare.new ≡ spare.old }
-    ensures gathered { (parts_of pass.new).gathered ≡ (parts_of pass.old).gathered }
-{
-    for number in 0..6 {
-        if let Some(dir) = dir_of(number) {
-            hand_on(board, pass, &mut parcel, spare, dir);
-        }
-    }
-    board.give_back(pass, parcel);
-}
-
-/// Tries a strip once, and each front if it is claimed.
-fn visit(board: &Board, pass: &mut Pass, strip: u32, spare: &mut Row)
-    requires own { IsPassOf board.now pass.old }
-    requires idle { IsIdle (parts_of pass.old) }
-    requires strip { strip < strips_of board.now }
-    requires spare { spare.old ≡ row_length (scene_of board.now) }
-    ensures own { IsPassOf board.now pass.new }
-    ensures idle { IsIdle (parts_of pass.new) }
-    ensures spare { spare.new ≡ spare.old }
-    ensures gathered { (parts_of pass.new).gathered ≡ (parts_of pass.old).gathered }
-{
-    match board.try_claim(pass, strip) {
-        Some(parcel) => serve(board, pass, parcel, spare),
-        None => {}
-    }
-}
-
 /// Whether the pass sees that each front has passed all strips.
 fn is_over(board: &Board, pass: &mut Pass) -> bool
     requires own { IsPassOf board.now pass.old }
@@ -94,8 +59,8 @@ fn is_over(board: &Board, pass: &mut Pass) -> bool
     true
 }
 
-/// Tries strip after strip, of three at most a million times, until all fronts have passed all strips.
-pub(super) fn work(board: &Board, mut pass: Pass, mut spare: Row) -> Pass
+/// Scans until all fronts have passed all strips; of three strips it tries to claim one at most a million times.
+fn work(board: &Board, mut pass: Pass, mut spare: Row) -> Pass
     requires own { IsPassOf board.now pass }
     requires idle { IsIdle (parts_of pass) }
     requires spare { spare ≡ row_length (scene_of board.now) }
@@ -103,11 +68,8 @@ pub(super) fn work(board: &Board, mut pass: Pass, mut spare: Row) -> Pass
     ensures idle { IsIdle (parts_of result) }
     ensures gathered { (parts_of result).gathered ≡ (parts_of pass).gathered }
 {
-    let strips = board.strips();
     for _ in 0..333_333 {
-        for strip in 0..strips {
-            visit(board, &mut pass, strip, &mut spare);
-        }
+        scan(board, &mut pass, &mut spare, &OpenGate);
         if is_over(board, &mut pass) {
             return pass;
         }

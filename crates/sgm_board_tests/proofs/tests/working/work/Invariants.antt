@@ -10,11 +10,3 @@ invariant-loop l = record {
   spare : l.spare ≡ row_length (scene_of l.board);
   gathered : (parts_of l.pass).gathered ≡ (parts_of l.fn.pass).gathered;
 }
-
-abbrev pub invariant-loop-strip : goal.invariant-loop-strip
-invariant-loop-strip l = record {
-  own : IsPassOf l.board l.pass;
-  idle : IsIdle (parts_of l.pass);
-  spare : l.spare ≡ row_length (scene_of l.board);
-  gathered : (parts_of l.pass).gathered ≡ (parts_of l.fn.pass).gathered;
-}
