@@ -1,5 +1,6 @@
 //! The lines of a text, and the words of a line.
-ghost use Rattle.std.specs.Prelude.{◌≡◌, ◌+◌, ◌<◌, ◌≤◌, [], ◌∷◌, drop, take, length, false, IfSome, MatchOption, slice_index};
+ghost use Rattle.std.specs.Prelude.{◌≡◌, ◌+◌, ◌<◌, ◌≤◌, [], ◌∷◌, drop, take, length, false};
+ghost use Rattle.std.specs.Prelude.{IfSome, MatchOption, slice_index};
 ghost use Rattle.std.specs.Str.{IsUtf8, IsCharBoundary};
 ghost use Rattle.sgm_list.specs.Words.{is_space, lines_of, words_of};
 ghost use Rattle.sgm_list.specs.Reading.{lines_left};
