@@ -101,5 +101,10 @@ next_value g qs q p before low d near far cost reached is hd en ef ec order each
     let value : reached ≡ carried (slice_index row) g.count g.p1 (g.far q p) low d =
     er ∙ ap (λ (b : List ℕ). carried (slice_index b) (length before) near far low d) is ∙ ap (λ (n : ℕ). carried (slice_index row) n near far low d) long
     ∙ ap (λ (n : ℕ). carried (slice_index row) g.count n far low d) en ∙ ap (λ (n : ℕ). carried (slice_index row) g.count g.p1 n low d) ef in
-    omega (arith, value, ec, next_is g qs q p low d hd order
-    (λ a h. omega (arith, each a (omega arith), ap (λ (b : List ℕ). slice_index b a) is)) m (omega arith) (sym (ap (λ (b : List ℕ). slice_index b m) is) ∙ em))
+    omega (
+      arith,
+      value,
+      ec,
+      next_is g qs q p low d hd order
+          (λ a h. omega (arith, each a (omega arith), ap (λ (b : List ℕ). slice_index b a) is)) m (omega arith) (sym (ap (λ (b : List ℕ). slice_index b m) is) ∙ em),
+    )

@@ -51,10 +51,10 @@ loop-before-preserved c =
       some = omega (arith, ap length items, long);
       short = omega (arith, ap length items, long, c.loop-before.invariant.short, room_falls g dir p q parts);
       inside = subst (All (λ (r : Place). IsInside g (pixel_of r))) (sym items)
-        (All-push (λ (r : Place). IsInside g (pixel_of r)) places new c.loop-before.invariant.inside (before_inside g dir p q parts));
+          (All-push (λ (r : Place). IsInside g (pixel_of r)) places new c.loop-before.invariant.inside (before_inside g dir p q parts));
       ray = ap (λ (ps : List Place). before g dir q ++ reverse (map pixel_of ps)) items ∙ ap (λ (ps : List Pixel). before g dir q ++ ps) back
-        ∙ sym (append_assoc (before g dir q) (q ∷ []) rest) ∙ ap (λ (ps : List Pixel). ps ++ rest) (before_last g dir q ∙ sym (before_next g dir p q found))
-        ∙ c.loop-before.invariant.ray;
+          ∙ sym (append_assoc (before g dir q) (q ∷ []) rest) ∙ ap (λ (ps : List Pixel). ps ++ rest) (before_last g dir q ∙ sym (before_next g dir p q found))
+          ∙ c.loop-before.invariant.ray;
     }
 
 pub returns-clause-ray : goal.returns-clause-ray
