@@ -1,9 +1,9 @@
-use Rattle.std.proofs.Common.{◌≡◌, ◌+◌, ◌≤◌, List, [], ◌∷◌, ◌++◌, All, length, map, reverse, Option, Some, None, option_map, refl, sym, ap, ◌∙◌, subst, arith, append_assoc}
+use Rattle.std.proofs.Common.{◌≡◌, List, [], ◌∷◌, ◌++◌, All, length, map, reverse, Some, None, sym, ap, ◌∙◌, subst, arith, append_assoc}
 use Rattle.std.proofs.lemmas.List.{length-reverse, length_push, map-append, reverse-append}
 use Rattle.std.proofs.lemmas.List.Elements.{All-push}
 use Rattle.sgm_base.specs.declared.limits.TheConstants.{MAX_SIDE}
-use Rattle.sgm_energy.specs.Rays.{IsInside, Pixel, before, predecessor, ray}
-use Rattle.sgm_energy.proofs.RayLemmas.{Parts, parts_from, before_inside, before_first, before_last, before_next, room, room_falls}
+use Rattle.sgm_energy.specs.Rays.{IsInside, Pixel, before, predecessor}
+use Rattle.sgm_energy.proofs.RayLemmas.{parts_from, before_inside, before_first, before_last, before_next, room_falls}
 use Rattle.sgm_strip.specs.Scenes.{problem_of}
 use Rattle.sgm_trace.specs.declared.place.Place.{Place}
 use Rattle.sgm_trace.specs.Rows.{pixel_of}
