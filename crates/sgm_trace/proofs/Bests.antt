@@ -1,5 +1,5 @@
 -- The first of the sequences of least energy, with one more index at the end.
-use Rattle.std.proofs.Common.{◌≡◌, ℕ, ◌+◌, ◌<◌, ◌≤◌, suc, Bool, true, false, ◌&&◌, cond, eqb, List, [], ◌∷◌, ◌++◌, length, Option, Some, None, refl, sym, ap, ◌∙◌, subst, inl, inr, arith}
+use Rattle.std.proofs.Common.{◌≡◌, ℕ, ◌+◌, ◌<◌, ◌≤◌, suc, Bool, true, false, ◌&&◌, cond, eqb, List, [], ◌∷◌, ◌++◌, length, Some, refl, sym, ap, ◌∙◌, subst, inl, inr, arith}
 use Rattle.std.specs.Prelude.{reverse, unwrap_or}
 use Rattle.std.specs.List.{Contains, filter, find, list_all}
 use Rattle.std.specs.declared.cmp.Ordering.{Ordering}
@@ -15,7 +15,7 @@ use Rattle.sgm_energy.specs.Rays.{Pixel, Problem}
 use Rattle.sgm_energy.specs.Energies.{sequences, ends_in, energy, jump, least_ending}
 use Rattle.sgm_energy.proofs.Members.{in_head, in_tail, in_cases, not_in_nil, in_filter, from_filter}
 use Rattle.sgm_energy.proofs.Sequences.{sequences_push, sequences_pop, sequences_none, sequences_length, ends_in_push, energy_push}
-use Rattle.sgm_energy.proofs.LeastEnergies.{ending_le, ending_in, ending_first, ending_next_le, ending_next_in}
+use Rattle.sgm_energy.proofs.LeastEnergies.{ending_le, ending_in, ending_next_le, ending_next_in}
 use Rattle.sgm_trace.specs.Best.{attaining, not_after, best, step_between, first_step, steps_after, steps_of}
 
 -- ---- the first of a list

@@ -3,10 +3,9 @@ use Rattle.std.proofs.Common.{◌≡◌, ℕ, ◌+◌, ◌*◌, ◌<◌, ◌≤�
 use Rattle.std.specs.List.{All}
 use Rattle.std.proofs.lemmas.List.{take_more, length-map, get_or-map}
 use Rattle.std.proofs.lemmas.List.FromFn.{length-map-range_with_len, get_or-map-range_with_len}
-use Rattle.sgm_base.specs.declared.limits.TheConstants.{MAX_COST, MAX_SIDE}
 use Rattle.sgm_terms.specs.Step.{carried}
 use Rattle.sgm_energy.specs.Rays.{Pixel, pixel_at, Problem, IsInside}
-use Rattle.sgm_energy.specs.Energies.{jump, least_ending}
+use Rattle.sgm_energy.specs.Energies.{least_ending}
 use Rattle.sgm_energy.proofs.Steps.{change_same, step_is}
 use Rattle.sgm_energy.proofs.LeastEnergies.{ending_first, ending_next_le, ending_next_in}
 use Rattle.sgm_trace.specs.declared.place.Place.{Place}
@@ -101,5 +100,10 @@ next_value g qs q p before low d near far cost reached is hd en ef ec order each
     let value : reached ≡ carried (slice_index row) g.count g.p1 (g.far q p) low d =
     er ∙ ap (λ (b : List ℕ). carried (slice_index b) (length before) near far low d) is ∙ ap (λ (n : ℕ). carried (slice_index row) n near far low d) long
     ∙ ap (λ (n : ℕ). carried (slice_index row) g.count n far low d) en ∙ ap (λ (n : ℕ). carried (slice_index row) g.count g.p1 n low d) ef in
-    omega (arith, value, ec, next_is g qs q p low d hd order
-    (λ a h. omega (arith, each a (omega arith), ap (λ (b : List ℕ). slice_index b a) is)) m (omega arith) (sym (ap (λ (b : List ℕ). slice_index b m) is) ∙ em))
+    omega (
+      arith,
+      value,
+      ec,
+      next_is g qs q p low d hd order
+          (λ a h. omega (arith, each a (omega arith), ap (λ (b : List ℕ). slice_index b a) is)) m (omega arith) (sym (ap (λ (b : List ℕ). slice_index b m) is) ∙ em),
+    )

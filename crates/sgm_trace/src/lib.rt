@@ -7,7 +7,6 @@ mod energies;
 pub mod laws;
 mod place;
 mod steps;
-
 mod traced;
 mod write;
 

@@ -24,11 +24,7 @@ fn column_before(dir: Dir, width: u32, x: u32) -> Option<u32>
     match dir {
         Dir::Right | Dir::DownRight | Dir::UpRight => x.checked_sub(1),
         Dir::Left | Dir::DownLeft | Dir::UpLeft => {
-            if x + 1 < width {
-                Some(x + 1)
-            } else {
-                None
-            }
+            if x + 1 < width { Some(x + 1) } else { None }
         }
         Dir::Down | Dir::Up => Some(x),
     }
@@ -41,13 +37,7 @@ fn row_before(dir: Dir, height: u32, y: u32) -> Option<u32>
 {
     match dir {
         Dir::Down | Dir::DownRight | Dir::DownLeft => y.checked_sub(1),
-        Dir::Up | Dir::UpRight | Dir::UpLeft => {
-            if y + 1 < height {
-                Some(y + 1)
-            } else {
-                None
-            }
-        }
+        Dir::Up | Dir::UpRight | Dir::UpLeft => { if y + 1 < height { Some(y + 1) } else { None } }
         Dir::Right | Dir::Left => Some(y),
     }
 }

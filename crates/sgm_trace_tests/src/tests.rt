@@ -70,14 +70,7 @@ fn example(alloc: Global) -> Result<Scene, Fail> {
 }
 
 /// The certificate of an index of the scene, where the pixel and the index are inside.
-fn traced(
-    alloc: Global,
-    scene: &Scene,
-    dir: Dir,
-    x: u32,
-    y: u32,
-    d: u32,
-) -> Result<Traced, Fail> {
+fn traced(alloc: Global, scene: &Scene, dir: Dir, x: u32, y: u32, d: u32) -> Result<Traced, Fail> {
     let size = scene.size();
     let span = scene.span();
     if size.width <= x || size.height <= y || span.count <= d {
@@ -193,10 +186,15 @@ fn a_penalty_that_follows_the_image(rt: HostRuntime) -> Result<(), Fail> {
 #[test]
 fn a_text(rt: HostRuntime) -> Result<(), Fail> {
     let steps = vec![in rt.alloc(); step(10, 4095, 255, 62, 0), step(11, 4094, 0, 0, 4000)]?;
-    let traced = Traced { energy: 4062, steps };
+    let traced = Traced {
+        energy: 4062,
+        steps,
+    };
     let mut text = Vec::new(rt.alloc());
     text.extend_from_slice(b"before\n")?;
     write_trace(&traced, &mut text)?;
-    assert!(rt; text.as_slice() == b"before\nleast 4062\n10 4095 255 62 0\n11 4094 0 0 4000\n".as_slice());
+    assert!(rt;
+        text.as_slice() == b"before\nleast 4062\n10 4095 255 62 0\n11 4094 0 0 4000\n".as_slice()
+    );
     Ok(())
 }

@@ -19,7 +19,7 @@ loop-d-preserved c ps is =
     let near : c.p1-near.result ≡ g.p1 = c.p1-near.ensures ∙ ap (λ (s : Penalties). s.p1) c.pen.ensures in
     let least = c.least_of-least.ensures.reached in
     let v = next_value g ps q p c.args.before.now c.least_of-least.result d c.p1-near.result c.far-far.result c.cost.result c.carried-reached.result is h near c.far-far.ensures c.cost.ensures (c.requires.within.ordered q p)
-      c.least_of-least.ensures.low least.0 least.1 least.2 c.carried-reached.ensures.value in
+    c.least_of-least.ensures.low least.0 least.1 least.2 c.carried-reached.ensures.value in
     let m = map-range_with_len_more (least_ending g ((ps ++ q ∷ []) ++ p ∷ [])) 0 d d (omega arith) in
     let ray = (ps ++ q ∷ []) ++ p ∷ [] in
     let value : c.carried-reached.result + c.from.result ≡ least_ending g ray d = omega (arith, v, c.from.ensures) in

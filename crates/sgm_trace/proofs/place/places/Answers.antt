@@ -1,9 +1,9 @@
-use Rattle.std.proofs.Common.{◌≡◌, ◌+◌, ◌≤◌, List, [], ◌∷◌, ◌++◌, All, length, map, reverse, Option, Some, None, option_map, refl, sym, ap, ◌∙◌, subst, arith, append_assoc}
+use Rattle.std.proofs.Common.{◌≡◌, List, [], ◌∷◌, ◌++◌, All, length, map, reverse, Some, None, sym, ap, ◌∙◌, subst, arith, append_assoc}
 use Rattle.std.proofs.lemmas.List.{length-reverse, length_push, map-append, reverse-append}
 use Rattle.std.proofs.lemmas.List.Elements.{All-push}
 use Rattle.sgm_base.specs.declared.limits.TheConstants.{MAX_SIDE}
-use Rattle.sgm_energy.specs.Rays.{IsInside, Pixel, before, predecessor, ray}
-use Rattle.sgm_energy.proofs.RayLemmas.{Parts, parts_from, before_inside, before_first, before_last, before_next, room, room_falls}
+use Rattle.sgm_energy.specs.Rays.{IsInside, Pixel, before, predecessor}
+use Rattle.sgm_energy.proofs.RayLemmas.{parts_from, before_inside, before_first, before_last, before_next, room_falls}
 use Rattle.sgm_strip.specs.Scenes.{problem_of}
 use Rattle.sgm_trace.specs.declared.place.Place.{Place}
 use Rattle.sgm_trace.specs.Rows.{pixel_of}
@@ -51,10 +51,10 @@ loop-before-preserved c =
       some = omega (arith, ap length items, long);
       short = omega (arith, ap length items, long, c.loop-before.invariant.short, room_falls g dir p q parts);
       inside = subst (All (λ (r : Place). IsInside g (pixel_of r))) (sym items)
-        (All-push (λ (r : Place). IsInside g (pixel_of r)) places new c.loop-before.invariant.inside (before_inside g dir p q parts));
+          (All-push (λ (r : Place). IsInside g (pixel_of r)) places new c.loop-before.invariant.inside (before_inside g dir p q parts));
       ray = ap (λ (ps : List Place). before g dir q ++ reverse (map pixel_of ps)) items ∙ ap (λ (ps : List Pixel). before g dir q ++ ps) back
-        ∙ sym (append_assoc (before g dir q) (q ∷ []) rest) ∙ ap (λ (ps : List Pixel). ps ++ rest) (before_last g dir q ∙ sym (before_next g dir p q found))
-        ∙ c.loop-before.invariant.ray;
+          ∙ sym (append_assoc (before g dir q) (q ∷ []) rest) ∙ ap (λ (ps : List Pixel). ps ++ rest) (before_last g dir q ∙ sym (before_next g dir p q found))
+          ∙ c.loop-before.invariant.ray;
     }
 
 pub returns-clause-ray : goal.returns-clause-ray

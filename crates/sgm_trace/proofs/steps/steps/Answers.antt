@@ -1,13 +1,13 @@
-use Rattle.std.proofs.Common.{◌≡◌, ℕ, ◌+◌, ◌-◌, ◌<◌, List, [], ◌∷◌, ◌++◌, take, length, get_or, map, reverse, sym, ap, ◌∙◌, subst, arith}
+use Rattle.std.proofs.Common.{◌≡◌, ℕ, ◌+◌, ◌-◌, ◌<◌, [], ◌∷◌, ◌++◌, take, length, get_or, map, reverse, sym, ap, ◌∙◌, subst, arith}
 use Rattle.std.proofs.lemmas.List.{length-map, get_or-map}
 use Rattle.sgm_base.specs.declared.limits.TheConstants.{MAX_COST}
-use Rattle.sgm_energy.specs.Rays.{Pixel, pixel_at}
+use Rattle.sgm_energy.specs.Rays.{pixel_at}
 use Rattle.sgm_strip.specs.Scenes.{problem_of}
 use Rattle.sgm_trace.specs.declared.place.Place.{Place}
 use Rattle.sgm_trace.specs.declared.traced.Step.{Step}
 use Rattle.sgm_trace.specs.Best.{first_step, step_between}
 use Rattle.sgm_trace.specs.Rows.{energies_of, pixel_of}
-use Rattle.sgm_trace.proofs.Growing.{rows_length, row_at, row_small, energies_length, energy_at}
+use Rattle.sgm_trace.proofs.Growing.{rows_length, row_at, row_small, energies_length}
 use Rattle.sgm_trace.proofs.Tracing.{Follows, follows_start, follows_more, follows_end, before_from}
 use Rattle.sgm_trace.proofs.steps.steps.Goals as goal
 
