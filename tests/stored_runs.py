@@ -22,6 +22,8 @@ from test_reference import WORKED
 
 STORED = os.path.join(os.path.dirname(os.path.abspath(__file__)), "..", "crates", "sgm_cases", "stdin")
 OUTPUTS = ("o.pgm", "o.asc", "o.csv")
+# How many of a command's words name inputs.
+INPUTS = {"match": 3, "trace": 3, "change": 2}
 # The most bytes of a file that an answer shows.
 ROOM = 4096
 ESCAPE = re.compile(rb"\\(?:x(..)|\*(\d+):((?:[^\\]|\\[^*.])*)\\\.|(.))", re.S)
@@ -63,7 +65,12 @@ def given(case):
             absent = quoted(b"")
         else:
             return None
-    return words.split(" ") if words else [], files, absent
+    words = words.split(" ") if words else []
+    if absent != "absent" and words:
+        for name in words[1 : 1 + INPUTS.get(words[0], 0)]:
+            if name and name != "-" and "/" not in name:
+                files.setdefault(name, b"")
+    return words, files, absent
 
 
 def without_splits(words):
