@@ -1,3 +1,4 @@
+pub mod Answering
 pub mod CertificateSteps
 pub mod Completing
 pub mod Counting

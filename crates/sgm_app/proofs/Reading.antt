@@ -1,6 +1,5 @@
 -- The inputs at hand read as what is held reads.
-use Rattle.std.proofs.Common.{◌≡◌, ℕ, List, Bool, true, false, Option, None, Some, Result, Ok, Vec, refl, sym, ap, ◌∙◌, subst, if◌then◌else◌, option_map}
-use Rattle.std.specs.declared.alloc.Global.{Global}
+use Rattle.std.proofs.Common.{◌≡◌, ℕ, List, Bool, true, false, Option, None, Some, Result, Ok, refl, sym, ap, ◌∙◌, subst, if◌then◌else◌}
 use Rattle.sgm_base.specs.Picture.{Picture}
 use Rattle.sgm_io.specs.Held.{Held}
 use Rattle.sgm_pgm.specs.Read.{Reads}
@@ -17,7 +16,7 @@ use Rattle.sgm_app.specs.Readings.{Readings, IsReading, AreReadings, grid_readin
 use Rattle.sgm_app.specs.Gather.{HasCalib, AtHand}
 use Rattle.sgm_app.specs.Judge.{CalibReads}
 use Rattle.sgm_app.specs.Verdict.{calib_of}
-use Rattle.sgm_app.specs.declared.gather.Inputs.{Inputs}
+use Rattle.sgm_app.specs.Inputs.{InputBytes}
 
 pub image_reads : (held : Option (List ℕ)) (items bytes : List ℕ) (reading : Result Picture PgmFault) → held ≡ Some items → bytes ≡ items → IsReading Reads held reading → Reads bytes reading
 image_reads held items bytes reading same are is =
@@ -25,14 +24,17 @@ image_reads held items bytes reading same are is =
     let Q : List ℕ → Type 0 = λ b. Reads b reading in
     subst Q (sym are) (subst P same is)
 
-calib_reads_by : (is : Bool) (held : Option (List ℕ)) (bytes : Option (Vec ℕ Global)) (reading : Result Calibration CalibFault) → HasCalib is held bytes → IsReading ReadsCalib held reading
-    → CalibReads (option_map (λ b. b.items) bytes) (if is then Ok plain else reading)
+calib_reads_by : (is : Bool) (held : Option (List ℕ)) (bytes : Option (List ℕ)) (reading : Result Calibration CalibFault) →
+    HasCalib is held bytes → IsReading ReadsCalib held reading
+    → CalibReads bytes (if is then Ok plain else reading)
 calib_reads_by true held None reading has reads = refl
 calib_reads_by true held (Some bytes) reading has reads = absurd has
 calib_reads_by false held None reading has reads = absurd has
-calib_reads_by false held (Some bytes) reading has reads = let P : Option (List ℕ) → Type 0 = λ h. IsReading ReadsCalib h reading in subst P has reads
+calib_reads_by false held (Some bytes) reading has reads = let P : Option (List ℕ) → Type 0 = λ h. IsReading ReadsCalib h reading in
+    subst P has reads
 
-pub calib_reads : (asked : Operands) (held : Held) (r : Readings) (inputs : Inputs) (bytes : Option (List ℕ)) → AtHand asked held inputs → AreReadings asked held r → bytes ≡ option_map (λ b. b.items) inputs.calib
+pub calib_reads : (asked : Operands) (held : Held) (r : Readings) (inputs : InputBytes) (bytes : Option (List ℕ)) →
+    AtHand asked held inputs → AreReadings asked held r → bytes ≡ inputs.calib
     → CalibReads bytes (calib_of asked r)
 calib_reads asked held r inputs bytes at are same =
     let P : Option (List ℕ) → Type 0 = λ b. CalibReads b (calib_of asked r) in

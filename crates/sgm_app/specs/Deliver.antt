@@ -64,7 +64,8 @@ FilesPut Done verdict old new = new ≡ after_files (outputs_of verdict) old
 FilesPut (Usage fault) verdict old new = new ≡ old
 FilesPut (Refused refusal) verdict old new = new ≡ old
 FilesPut (ReadFault input) verdict old new = new ≡ old
-FilesPut (WriteFault output) verdict old new = EndsIn output (outputs_of verdict) old new ⊎ ((output ≡ Summary) × (new ≡ after_files (outputs_of verdict) old))
+FilesPut (WriteFault output) verdict old new =
+    EndsIn output (outputs_of verdict) old new ⊎ ((output ≡ Summary) × (new ≡ after_files (outputs_of verdict) old))
 FilesPut NoMemory verdict old new = (new ≡ old) ⊎ ((output : Output) × EndsIn output (outputs_of verdict) old new)
 
 -- ---- which names are being written, and which are unfinished
@@ -111,3 +112,12 @@ FileCounts file stop before now = (names : FileNames) → IsNamed names file →
 -- where the files have the names of their outputs, the counts show the stop
 abbrev pub FilesCounts : List OutputFile → WriteStop → Faults → Faults → Type 0
 FilesCounts wanted stop before now = (names : FileNames) → All (IsNamed names) wanted → CountsShow names (write_outcome stop) before now
+
+-- the outcomes of a delivery
+abbrev pub IsDeliveryEnd : Outcome → Type 0
+IsDeliveryEnd Done = ⊤
+IsDeliveryEnd (Usage fault) = ⊥
+IsDeliveryEnd (Refused refusal) = ⊥
+IsDeliveryEnd (ReadFault input) = ⊥
+IsDeliveryEnd (WriteFault output) = ⊤
+IsDeliveryEnd NoMemory = ⊤

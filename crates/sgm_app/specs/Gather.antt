@@ -1,5 +1,5 @@
 -- Fetching the inputs.
-use Rattle.std.specs.Prelude.{◌≡◌, ⊤, ℕ, List, Bool, true, false, Option, None, Some, Result, Ok, Err, Vec}
+use Rattle.std.specs.Prelude.{◌≡◌, ⊤, ℕ, List, Bool, true, false, Option, None, Some, Result, Ok, Err, Vec, option_map}
 use Rattle.std.specs.declared.alloc.Global.{Global}
 use Rattle.sgm_io.specs.Held.{Held}
 use Rattle.sgm_words.specs.Operands.{Operands, ChangeOperands, FileNames, is_plain, IsInputName, IsPairInput, IsChangeInput}
@@ -8,8 +8,8 @@ use Rattle.sgm_words.specs.declared.files.Input.TheVariants as input
 use Rattle.sgm_app.specs.Verdict.{Verdict, fetched, calib_fetched}
 use Rattle.sgm_app.specs.Ends.{ShownBy, NoneBefore, order_of, CountsShow, Faults}
 use Rattle.sgm_app.specs.Stops.{fetch_outcome}
-use Rattle.sgm_app.specs.declared.gather.Grids.{Grids}
-use Rattle.sgm_app.specs.declared.gather.Inputs.{Inputs}
+use Rattle.sgm_app.specs.declared.gathering.Grids.{Grids}
+use Rattle.sgm_app.specs.Inputs.{InputBytes}
 use Rattle.sgm_app.specs.declared.stops.FetchStop.{FetchStop}
 
 -- a stop at this step of a verdict is shown by the verdict, however it would go on
@@ -22,21 +22,22 @@ FetchesInput input held (Ok bytes) = (held ≡ Some bytes.items) × ((next : Ver
 FetchesInput input held (Err stop) = StopsAt (fetched input held) input stop
 
 -- nothing for the plain calibration, else the bytes that are held
-abbrev pub HasCalib : Bool → Option (List ℕ) → Option (Vec ℕ Global) → Type 0
+abbrev pub HasCalib : Bool → Option (List ℕ) → Option (List ℕ) → Type 0
 HasCalib true held None = ⊤
 HasCalib true held (Some bytes) = ⊥
 HasCalib false held None = ⊥
-HasCalib false held (Some bytes) = held ≡ Some bytes.items
+HasCalib false held (Some bytes) = held ≡ Some bytes
 
 -- the calibration's bytes, where it isn't the plain one, and the verdict goes on; or a stop
 abbrev pub FetchesCalib : Bool → Option (List ℕ) → Result (Option (Vec ℕ Global)) FetchStop → Type 0
-FetchesCalib plain held (Ok bytes) = HasCalib plain held bytes × ((next : Verdict) → calib_fetched plain held next ≡ next)
+FetchesCalib plain held (Ok bytes) =
+    HasCalib plain held (option_map (λ b. b.items) bytes) × ((next : Verdict) → calib_fetched plain held next ≡ next)
 FetchesCalib plain held (Err stop) = StopsAt (calib_fetched plain held) input.Calibration stop
 
 -- what is at hand is what is held
-pub record AtHand (asked : Operands) (held : Held) (inputs : Inputs) : Type 0 where
-  pub left : held asked.left ≡ Some inputs.left.items
-  pub right : held asked.right ≡ Some inputs.right.items
+pub record AtHand (asked : Operands) (held : Held) (inputs : InputBytes) : Type 0 where
+  pub left : held asked.left ≡ Some inputs.left
+  pub right : held asked.right ≡ Some inputs.right
   pub calib : HasCalib (is_plain asked) (held asked.calib) inputs.calib
 
 -- the grids at hand are what is held

@@ -5,6 +5,7 @@ pub mod Complete
 pub mod Deliver
 pub mod Ends
 pub mod Gather
+pub mod Inputs
 pub mod Judge
 pub mod Made
 pub mod Outputs

@@ -10,9 +10,9 @@ ghost use Rattle.sgm_app.specs.Verdict.{Verdict, outputs_of};
 
 use crate::Outcome;
 use crate::changing::change_texts;
-use crate::deliver::deliver;
+use crate::delivery::deliver;
 use crate::files::name_change;
-use crate::gather::gather_grids;
+use crate::gathering::gather_grids;
 use sgm_io::{Shelf, Sink};
 use sgm_words::ChangeWords;
 use std::alloc::Global;

@@ -44,18 +44,21 @@ impl OutputText {
         Ok(OutputText { output, name, text })
     }
 
+    /// Which output it is.
     pub fn output(&self) -> Output
         ensures { result ≡ self.now.output }
     {
         self.output
     }
 
+    /// The name of the file.
     pub fn name(&self) -> &str
         ensures { result.now ≡ self.now.name }
     {
         self.name.as_str()
     }
 
+    /// What it is to hold.
     pub fn text(&self) -> &[u8]
         ensures { result.now ≡ self.now.text }
     {
@@ -66,7 +69,9 @@ impl OutputText {
 /// All that a match or a change is to write: at least one file, and the summary.
 #[derive(Drop)]
 pub struct Delivery {
+    /// The files, in the order in which they are written.
     pub files: Vec<OutputText>,
+    /// The bytes of the summary, which is written after the files.
     pub summary: Vec<u8>,
     ghost some: { 0 < length files.items },
 }

@@ -4,10 +4,10 @@
 mod certificate;
 mod change;
 mod changing;
-mod deliver;
+mod delivery;
 mod demo;
 mod files;
-mod gather;
+mod gathering;
 mod judge;
 pub mod laws;
 mod made;
@@ -16,11 +16,14 @@ mod stops;
 mod top;
 mod trace;
 
+pub use delivery::deliver;
+pub use files::{Delivery, OutputText, name_texts};
+pub use gathering::{Inputs, gather};
 pub use made::MadeTexts;
 pub use pipeline::texts;
 pub use sgm_outcome::{Outcome, Refusal, write_fault};
 pub use sgm_pair::pair;
 pub use sgm_refine::Refine;
 pub use sgm_words::{Input, Options, Output, UsageFault, read_words};
-pub use stops::TextsError;
+pub use stops::{FetchStop, TextsError, WriteStop};
 pub use top::run;

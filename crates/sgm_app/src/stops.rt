@@ -10,26 +10,34 @@ use std::alloc::AllocError;
 /// What ends the fetching of the inputs.
 #[derive(Clone, Copy, Debug, PartialEq, Eq)]
 pub enum FetchStop {
+    /// The input can't be read, or isn't there.
     Unread(Input),
+    /// The input has more bytes than are allowed.
     TooLong(Input),
+    /// There was no memory to fetch an input.
     NoMemory,
 }
 
-/// Why there are no texts: the inputs are refused, or there was no memory.
+/// Why there are no texts.
 #[derive(Clone, Copy, Debug, PartialEq, Eq)]
 pub enum TextsError {
+    /// No texts are called for: this is the first fault of the inputs.
     Refused(Refusal),
+    /// There was no memory to judge the inputs, to survey them or to make the texts.
     NoMemory,
 }
 
 /// What ends the writing of the outputs.
 #[derive(Clone, Copy, Debug, PartialEq, Eq)]
 pub enum WriteStop {
+    /// The file of this output can't be begun, written or finished.
     Unwritten(Output),
+    /// There was no memory to write a file.
     NoMemory,
 }
 
 impl FetchStop {
+    /// The outcome of a run that ends with it.
     pub fn outcome(self) -> Outcome
         ensures { result ≡ fetch_outcome self }
     {
@@ -42,6 +50,7 @@ impl FetchStop {
 }
 
 impl TextsError {
+    /// The outcome of a run that ends with it.
     pub fn outcome(self) -> Outcome
         ensures { result ≡ texts_outcome self }
     {
@@ -53,6 +62,7 @@ impl TextsError {
 }
 
 impl WriteStop {
+    /// The outcome of a run that ends with it.
     pub fn outcome(self) -> Outcome
         ensures { result ≡ write_outcome self }
     {

@@ -14,10 +14,10 @@ ghost use Rattle.sgm_app.specs.Complete.{RunComplete, IsNoFileFault, NoneRose};
 ghost use Rattle.sgm_app.specs.Deliver.{FilesPut};
 
 use crate::change::run_change;
-use crate::deliver::deliver;
+use crate::delivery::deliver;
 use crate::demo::run_demo;
 use crate::files::name_texts;
-use crate::gather::gather;
+use crate::gathering::gather;
 use crate::pipeline::texts;
 use crate::trace::run_trace;
 use crate::{Options, Outcome, read_words, write_fault};
@@ -63,8 +63,8 @@ fn run_match<R: Threads + Sync, S: Shelf, O: Sink, G: Gate + Sync>(
     let texts = match texts(
         rt,
         alloc,
-        &inputs.left,
-        &inputs.right,
+        inputs.left(),
+        inputs.right(),
         inputs.calib(),
         strips,
         workers,

@@ -7,8 +7,8 @@ ghost use Rattle.sgm_app.specs.Verdict.{Verdict};
 
 use crate::Outcome;
 use crate::certificate::certificate;
-use crate::deliver::deliver_summary;
-use crate::gather::gather;
+use crate::delivery::deliver_summary;
+use crate::gathering::gather;
 use sgm_energy::Dir;
 use sgm_io::{Shelf, Sink};
 use sgm_words::OperandWords;
@@ -42,8 +42,8 @@ pub fn run_trace<S: Shelf, O: Sink>(
     };
     match certificate(
         alloc,
-        &inputs.left,
-        &inputs.right,
+        inputs.left(),
+        inputs.right(),
         inputs.calib(),
         dir,
         x,

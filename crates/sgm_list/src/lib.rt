@@ -13,7 +13,7 @@ mod words;
 pub use entry::Entry;
 pub use fault::{ListError, ListFault};
 pub use limits::{MAX_ENTRIES, MAX_LIST_BYTES};
-pub use line::{Line, fault_line};
+pub use line::{Line, MAX_DIGITS, MAX_LINE, fault_line};
 pub use read::read_list;
 
 #[cfg(test)]

@@ -13,7 +13,7 @@ pub const MAX_LINE: usize = 128;
 /// The greatest number of digits of a number in a line.
 pub const MAX_DIGITS: usize = 20;
 
-/// A line that is put together, part by part.
+/// A line that is put together, part by part. It takes no memory.
 #[derive(Drop)]
 pub struct Line {
     text: ArrayString<MAX_LINE>,
@@ -29,7 +29,7 @@ impl Model for Line {
 
 impl Line {
     /// An empty line.
-    fn new() -> Line
+    pub fn new() -> Line
         ensures { result ≡ [] }
     {
         Line {
@@ -38,7 +38,7 @@ impl Line {
     }
 
     /// The line with a text more.
-    fn text(self, part: &str) -> Line
+    pub fn text(self, part: &str) -> Line
         requires { length self + length part.now ≤ MAX_LINE }
         ensures bytes { result ≡ self ++ part.now }
         ensures len { length result ≡ length self + length part.now }
@@ -48,8 +48,8 @@ impl Line {
         Line { text }
     }
 
-    /// The line with a number more.
-    fn number(self, number: u64) -> Line
+    /// The line with a number more, in decimal.
+    pub fn number(self, number: u64) -> Line
         requires { length self + MAX_DIGITS ≤ MAX_LINE }
         ensures bytes { result ≡ self ++ decimal number }
         ensures len { length result ≤ length self + MAX_DIGITS }
@@ -58,6 +58,7 @@ impl Line {
         self.text(digits.format(number))
     }
 
+    /// Its bytes.
     pub fn as_bytes(&self) -> &[u8]
         ensures { result.now ≡ self.now }
     {

@@ -7,7 +7,7 @@ mod refusals;
 mod write;
 
 pub use outcome::{Outcome, Refusal};
-pub use write::write_fault;
+pub use write::{write_fault, write_line};
 
 #[cfg(test)]
 mod tests;

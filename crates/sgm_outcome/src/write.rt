@@ -1,11 +1,12 @@
 //! The line of an outcome, and writing it.
 ghost use Rattle.std.specs.Prelude.{◌≡◌, ◌≤◌, IsTrue, length};
+ghost use Rattle.sgm_io.specs.Sink.{SinkFaults, WritesWhole};
 ghost use Rattle.sgm_outcome.specs.Lines.{word_line, usage_line, line_of, TakesLine};
 
 use crate::Outcome;
 use crate::line::Line;
 use crate::refusals::refusal_line;
-use sgm_io::{Sink, write_whole};
+use sgm_io::{Sink, SinkError, write_whole};
 use sgm_words::UsageFault;
 
 // What is wrong with the word at a position.
@@ -60,14 +61,23 @@ fn outcome_line(outcome: Outcome) -> Line
     }
 }
 
-/// Adds the outcome's line in one piece, or, where the sink has failed, its beginning; nothing for Done.
-/// Takes no memory.
+/// Writes the line of an outcome to the end of `err`; nothing for Done. On an error the sink has failed, and has
+/// taken the beginning of the line at most. It takes no memory.
+pub fn write_line<E: Sink>(outcome: &Outcome, err: &mut E) -> Result<(), SinkError>
+    ensures written { IsTrue E.tells → WritesWhole (line_of outcome.now) result (E.written err.old) (E.written err.new) }
+    ensures faults { SinkFaults result (E.faults err.old) (E.faults err.new) }
+{
+    write_whole(err, outcome_line(*outcome).as_bytes())
+}
+
+/// Writes the line of an outcome to the end of `err`; nothing for Done. Where the sink fails, it has taken the
+/// beginning of the line at most, and the caller goes on: the sink's count of faults alone shows it. It takes no memory.
 pub fn write_fault<E: Sink>(outcome: &Outcome, err: &mut E)
     ensures line { IsTrue E.tells → TakesLine (line_of outcome.now)
         (E.faults err.old) (E.faults err.new) (E.written err.old) (E.written err.new) }
     ensures faults { E.faults err.old ≤ E.faults err.new }
 {
-    match write_whole(err, outcome_line(*outcome).as_bytes()) {
+    match write_line(outcome, err) {
         Ok(()) => {}
         Err(_) => {}
     }

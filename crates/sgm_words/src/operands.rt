@@ -34,6 +34,18 @@ impl<'a> OperandWords<'a> {
         }
     }
 
+    /// The operands with these names.
+    pub fn named(left: &'a str, right: &'a str, calib: &'a str, out: &'a str) -> OperandWords<'a>
+        ensures { result ≡ record { left = left.entry.now; right = right.entry.now; calib = calib.entry.now; out = out.entry.now } }
+    {
+        OperandWords {
+            left,
+            right,
+            calib,
+            out,
+        }
+    }
+
     pub fn left(&self) -> &'a str
         ensures { result.now ≡ self.now.left }
     {

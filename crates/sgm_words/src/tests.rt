@@ -138,3 +138,14 @@ fn operands_and_outputs_have_names(rt: HostRuntime) -> Result<(), Fail> {
     );
     Ok(())
 }
+
+#[test]
+fn operands_by_name_have_each_name_in_its_place(rt: HostRuntime) -> Result<(), Fail> {
+    let operands = OperandWords::named("west", "east", "survey", "mine");
+    assert_eq!(rt; operands.left(), "west");
+    assert_eq!(rt; operands.right(), "east");
+    assert_eq!(rt; operands.calib(), "survey");
+    assert_eq!(rt; operands.out(), "mine");
+    assert!(rt; !operands.is_plain());
+    Ok(())
+}

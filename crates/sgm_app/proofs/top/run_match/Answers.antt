@@ -1,80 +1,62 @@
-use Rattle.std.proofs.Common.{◌∙◌, sym, refl}
+use Rattle.std.proofs.Common.{Ok, Err, sym, refl}
 use Rattle.sgm_words.specs.Operands.{of_match}
-use Rattle.sgm_app.specs.Made.{texts_in}
-use Rattle.sgm_app.specs.Outputs.{files_of}
-use Rattle.sgm_app.specs.Verdict.{files, texts_for, calib_of}
+use Rattle.sgm_app.specs.Verdict.{files}
+use Rattle.sgm_app.proofs.Answering.{made_of, made_is, fetch_shown, refusal_shown}
 use Rattle.sgm_app.proofs.Counting.{counts_since, texts_counts}
-use Rattle.sgm_app.proofs.Delivering.{settled, delivered, put_along, finished_along, out_along}
-use Rattle.sgm_app.proofs.Reading.{image_reads, calib_reads}
-use Rattle.sgm_app.proofs.Steps.{shown_along, stop_shown}
-use Rattle.sgm_app.proofs.VerdictLaws.{none_matched}
+use Rattle.sgm_app.proofs.Delivering.{delivered, put_along, finished_along, out_along}
+use Rattle.sgm_app.proofs.Steps.{shown_along}
 use Rattle.sgm_app.proofs.top.run_match.Goals as goal
 
 pub returns-in-Err-clause-cause : goal.returns-in-Err-clause-cause
 returns-in-Err-clause-cause g c = λ told v calls.
-    let asked = c.args.operands.now in let r = calls.readings in
-    rw c.outcome.ensures (shown_along v _ _ (sym calls.is) (c.in-Err.ensures.verdict told _ (none_matched 3 asked.out c.args.refine r.left r.right (calib_of asked r))))
+    rw c.outcome.ensures (fetch_shown c.args.operands.now c.args.refine _ v _ calls (c.in-Err.ensures.verdict told))
 
 pub returns-in-Err-texts-clause-cause : goal.returns-in-Err-texts-clause-cause
 returns-in-Err-texts-clause-cause g c = λ told v calls.
-    let asked = c.args.operands.now in let r = calls.readings in let are = calls.are_readings in
-    let at = c.in-Ok.ensures.at_hand told in
-    rw c.outcome-in-Err-texts.ensures (shown_along v _ _ (sym calls.is ∙ c.in-Ok.ensures.verdict told _ (none_matched 3 asked.out c.args.refine r.left r.right (calib_of asked r)))
-    (stop_shown (texts_for r.left r.right (calib_of asked r) c.args.refine) (λ t. files (files_of asked.out t) t.summary) c.in-Err-texts.error
-    (c.in-Err-texts.ensures r.left r.right (calib_of asked r)
-    (image_reads _ _ _ r.left at.left c.deref.ensures.value are.left) (image_reads _ _ _ r.right at.right c.deref-2.ensures.value are.right)
-    (calib_reads asked _ r c.in-Ok.inputs _ at are c.calib.ensures))))
+    let stopped = made_of c.args.refine c.in-Ok.inputs _ _ _ (Err c.in-Err-texts.error)
+    c.left.ensures c.right.ensures c.calib.ensures c.in-Err-texts.ensures in
+    rw c.outcome-in-Err-texts.ensures (refusal_shown c.args.operands.now v c.in-Err-texts.error
+    (made_is c.args.operands.now c.args.refine _ v c.in-Ok.inputs (Err c.in-Err-texts.error) calls
+    (c.in-Ok.ensures.verdict told) (c.in-Ok.ensures.at_hand told) stopped))
 
 pub returns-in-Ok-name_texts-clause-files : goal.returns-in-Ok-name_texts-clause-files
 returns-in-Ok-name_texts-clause-files g c = λ told v calls.
-    let asked = c.args.operands.now in let r = calls.readings in let are = calls.are_readings in
-    let at = c.in-Ok.ensures.at_hand told in
+    let made = made_of c.args.refine c.in-Ok.inputs _ _ _ (Ok c.in-Ok-texts.texts)
+    c.left.ensures c.right.ensures c.calib.ensures c.in-Ok-texts.ensures in
+    let is = made_is c.args.operands.now c.args.refine _ v c.in-Ok.inputs (Ok c.in-Ok-texts.texts) calls
+    (c.in-Ok.ensures.verdict told) (c.in-Ok.ensures.at_hand told) made in
     put_along c.deliver.result v _ _ _ _
-    (delivered _ _ _ _ v c.in-Ok-name_texts.ensures.files c.in-Ok-name_texts.ensures.summary
-    (settled _ v (texts_for r.left r.right (calib_of asked r) c.args.refine) (λ t. files (files_of asked.out t) t.summary) (texts_in c.in-Ok-texts.texts) calls.is
-    (c.in-Ok.ensures.verdict told _ (none_matched 3 asked.out c.args.refine r.left r.right (calib_of asked r)))
-    (c.in-Ok-texts.ensures r.left r.right (calib_of asked r)
-    (image_reads _ _ _ r.left at.left c.deref.ensures.value are.left) (image_reads _ _ _ r.right at.right c.deref-2.ensures.value are.right)
-    (calib_reads asked _ r c.in-Ok.inputs _ at are c.calib.ensures))))
+    (delivered _ _ _ _ v c.in-Ok-name_texts.ensures.files c.in-Ok-name_texts.ensures.summary (sym is))
     (c.in-Ok.ensures.held told) (c.deliver.ensures.files told)
 
 pub returns-in-Ok-name_texts-clause-finished : goal.returns-in-Ok-name_texts-clause-finished
 returns-in-Ok-name_texts-clause-finished g c = λ told v calls done.
-    let asked = c.args.operands.now in let r = calls.readings in let are = calls.are_readings in
-    let at = c.in-Ok.ensures.at_hand told in
+    let made = made_of c.args.refine c.in-Ok.inputs _ _ _ (Ok c.in-Ok-texts.texts)
+    c.left.ensures c.right.ensures c.calib.ensures c.in-Ok-texts.ensures in
+    let is = made_is c.args.operands.now c.args.refine _ v c.in-Ok.inputs (Ok c.in-Ok-texts.texts) calls
+    (c.in-Ok.ensures.verdict told) (c.in-Ok.ensures.at_hand told) made in
     finished_along v (files c.in-Ok-name_texts.delivery.files.items c.in-Ok-name_texts.delivery.summary.items) _
-    (delivered _ _ _ _ v c.in-Ok-name_texts.ensures.files c.in-Ok-name_texts.ensures.summary
-    (settled _ v (texts_for r.left r.right (calib_of asked r) c.args.refine) (λ t. files (files_of asked.out t) t.summary) (texts_in c.in-Ok-texts.texts) calls.is
-    (c.in-Ok.ensures.verdict told _ (none_matched 3 asked.out c.args.refine r.left r.right (calib_of asked r)))
-    (c.in-Ok-texts.ensures r.left r.right (calib_of asked r)
-    (image_reads _ _ _ r.left at.left c.deref.ensures.value are.left) (image_reads _ _ _ r.right at.right c.deref-2.ensures.value are.right)
-    (calib_reads asked _ r c.in-Ok.inputs _ at are c.calib.ensures))))
+    (delivered _ _ _ _ v c.in-Ok-name_texts.ensures.files c.in-Ok-name_texts.ensures.summary (sym is))
     (c.deliver.ensures.finished done)
 
 pub returns-in-Ok-name_texts-clause-cause : goal.returns-in-Ok-name_texts-clause-cause
 returns-in-Ok-name_texts-clause-cause g c = λ told v calls.
-    let asked = c.args.operands.now in let r = calls.readings in let are = calls.are_readings in
-    let at = c.in-Ok.ensures.at_hand told in
+    let made = made_of c.args.refine c.in-Ok.inputs _ _ _ (Ok c.in-Ok-texts.texts)
+    c.left.ensures c.right.ensures c.calib.ensures c.in-Ok-texts.ensures in
+    let is = made_is c.args.operands.now c.args.refine _ v c.in-Ok.inputs (Ok c.in-Ok-texts.texts) calls
+    (c.in-Ok.ensures.verdict told) (c.in-Ok.ensures.at_hand told) made in
     shown_along v (files c.in-Ok-name_texts.delivery.files.items c.in-Ok-name_texts.delivery.summary.items) c.deliver.result
-    (sym (delivered _ _ _ _ v c.in-Ok-name_texts.ensures.files c.in-Ok-name_texts.ensures.summary
-    (settled _ v (texts_for r.left r.right (calib_of asked r) c.args.refine) (λ t. files (files_of asked.out t) t.summary) (texts_in c.in-Ok-texts.texts) calls.is
-    (c.in-Ok.ensures.verdict told _ (none_matched 3 asked.out c.args.refine r.left r.right (calib_of asked r)))
-    (c.in-Ok-texts.ensures r.left r.right (calib_of asked r)
-    (image_reads _ _ _ r.left at.left c.deref.ensures.value are.left) (image_reads _ _ _ r.right at.right c.deref-2.ensures.value are.right)
-    (calib_reads asked _ r c.in-Ok.inputs _ at are c.calib.ensures)))))
+    (sym (delivered _ _ _ _ v c.in-Ok-name_texts.ensures.files c.in-Ok-name_texts.ensures.summary (sym is)))
     c.deliver.ensures.shown
 
 pub returns-in-Ok-name_texts-clause-out : goal.returns-in-Ok-name_texts-clause-out
 returns-in-Ok-name_texts-clause-out g c = λ told told_out v calls.
-    let asked = c.args.operands.now in let r = calls.readings in let are = calls.are_readings in
-    let at = c.in-Ok.ensures.at_hand told in
+    let made = made_of c.args.refine c.in-Ok.inputs _ _ _ (Ok c.in-Ok-texts.texts)
+    c.left.ensures c.right.ensures c.calib.ensures c.in-Ok-texts.ensures in
+    let is = made_is c.args.operands.now c.args.refine _ v c.in-Ok.inputs (Ok c.in-Ok-texts.texts) calls
+    (c.in-Ok.ensures.verdict told) (c.in-Ok.ensures.at_hand told) made in
     out_along c.deliver.result v (files c.in-Ok-name_texts.delivery.files.items c.in-Ok-name_texts.delivery.summary.items) _ _
-    (delivered _ _ _ _ v c.in-Ok-name_texts.ensures.files c.in-Ok-name_texts.ensures.summary
-    (settled _ v (texts_for r.left r.right (calib_of asked r) c.args.refine) (λ t. files (files_of asked.out t) t.summary) (texts_in c.in-Ok-texts.texts) calls.is
-    (c.in-Ok.ensures.verdict told _ (none_matched 3 asked.out c.args.refine r.left r.right (calib_of asked r)))
-    (c.in-Ok-texts.ensures r.left r.right (calib_of asked r)
-    (image_reads _ _ _ r.left at.left c.deref.ensures.value are.left) (image_reads _ _ _ r.right at.right c.deref-2.ensures.value are.right)
-    (calib_reads asked _ r c.in-Ok.inputs _ at are c.calib.ensures))))
+    (delivered _ _ _ _ v c.in-Ok-name_texts.ensures.files c.in-Ok-name_texts.ensures.summary (sym is))
     (c.deliver.ensures.out told_out)
 
 pub returns-in-Err-texts-clause-counts : goal.returns-in-Err-texts-clause-counts

@@ -19,12 +19,12 @@ pub returns-in-Ok-certificate-clause-cause : goal.returns-in-Ok-certificate-clau
 returns-in-Ok-certificate-clause-cause g c = λ told v calls.
     let asked = c.args.operands.now in let r = calls.readings in let are = calls.are_readings in
     let at = c.in-Ok.ensures.at_hand told in
-    shown_along v (files [] c.deref-in-Ok-certificate.result.now) c.deliver_summary.result
-    (sym (ap (λ (s : List ℕ). files [] s) c.deref-in-Ok-certificate.ensures.value
+    shown_along v (files [] c.deref.result.now) c.deliver_summary.result
+    (sym (ap (λ (s : List ℕ). files [] s) c.deref.ensures.value
     ∙ settled _ v (certificate_for r.left r.right (calib_of asked r) c.args.dir c.args.x c.args.y c.args.d) (λ t. files [] t) c.in-Ok-certificate.text.items calls.is
     (c.in-Ok.ensures.verdict told _ (none_traced 3 c.args.dir c.args.x c.args.y c.args.d r.left r.right (calib_of asked r)))
     (c.in-Ok-certificate.ensures r.left r.right (calib_of asked r)
-    (image_reads _ _ _ r.left at.left c.deref.ensures.value are.left) (image_reads _ _ _ r.right at.right c.deref-2.ensures.value are.right)
+    (image_reads _ _ _ r.left at.left c.left.ensures are.left) (image_reads _ _ _ r.right at.right c.right.ensures are.right)
     (calib_reads asked _ r c.in-Ok.inputs _ at are c.calib.ensures))))
     c.deliver_summary.ensures.shown
 
@@ -32,12 +32,12 @@ pub returns-in-Ok-certificate-clause-out : goal.returns-in-Ok-certificate-clause
 returns-in-Ok-certificate-clause-out g c = λ told told_out v calls.
     let asked = c.args.operands.now in let r = calls.readings in let are = calls.are_readings in
     let at = c.in-Ok.ensures.at_hand told in
-    out_along c.deliver_summary.result v (files [] c.deref-in-Ok-certificate.result.now) _ _
-    (ap (λ (s : List ℕ). files [] s) c.deref-in-Ok-certificate.ensures.value
+    out_along c.deliver_summary.result v (files [] c.deref.result.now) _ _
+    (ap (λ (s : List ℕ). files [] s) c.deref.ensures.value
     ∙ settled _ v (certificate_for r.left r.right (calib_of asked r) c.args.dir c.args.x c.args.y c.args.d) (λ t. files [] t) c.in-Ok-certificate.text.items calls.is
     (c.in-Ok.ensures.verdict told _ (none_traced 3 c.args.dir c.args.x c.args.y c.args.d r.left r.right (calib_of asked r)))
     (c.in-Ok-certificate.ensures r.left r.right (calib_of asked r)
-    (image_reads _ _ _ r.left at.left c.deref.ensures.value are.left) (image_reads _ _ _ r.right at.right c.deref-2.ensures.value are.right)
+    (image_reads _ _ _ r.left at.left c.left.ensures are.left) (image_reads _ _ _ r.right at.right c.right.ensures are.right)
     (calib_reads asked _ r c.in-Ok.inputs _ at are c.calib.ensures)))
     (c.deliver_summary.ensures.out told_out)
 
@@ -53,7 +53,7 @@ returns-clause-cause g c = λ told v calls.
     rw c.outcome-in-Err-certificate.ensures (shown_along v _ _ (sym calls.is ∙ c.in-Ok.ensures.verdict told _ (none_traced 3 c.args.dir c.args.x c.args.y c.args.d r.left r.right (calib_of asked r)))
     (stop_shown (certificate_for r.left r.right (calib_of asked r) c.args.dir c.args.x c.args.y c.args.d) (λ t. files [] t) c.in-Err-certificate.error
     (c.in-Err-certificate.ensures r.left r.right (calib_of asked r)
-    (image_reads _ _ _ r.left at.left c.deref.ensures.value are.left) (image_reads _ _ _ r.right at.right c.deref-2.ensures.value are.right)
+    (image_reads _ _ _ r.left at.left c.left.ensures are.left) (image_reads _ _ _ r.right at.right c.right.ensures are.right)
     (calib_reads asked _ r c.in-Ok.inputs _ at are c.calib.ensures))))
 
 pub returns-clause-counts : goal.returns-clause-counts

@@ -1,7 +1,7 @@
 use Rattle.std.proofs.Common.{◌∙◌}
 use Rattle.sgm_app.proofs.Filing.{files_more, stops}
 use Rattle.sgm_app.proofs.Finishing.{finishing_more, leaves_one}
-use Rattle.sgm_app.proofs.deliver.write_files.Goals as goal
+use Rattle.sgm_app.proofs.delivery.write_files.Goals as goal
 
 pub loop-file-preserved : goal.loop-file-preserved
 loop-file-preserved g c = record {

@@ -12,6 +12,7 @@ use sgm_base::{MAX_CALIB_BYTES, MAX_IMAGE_BYTES};
 use sgm_io::{FetchError, Shelf};
 use sgm_words::{ChangeWords, MAX_GRID_BYTES, OperandWords};
 use std::alloc::Global;
+use std::marker::Model;
 
 /// The bytes of the inputs of a match or a trace; those of the calibration where it isn't the plain one.
 #[derive(Drop)]
@@ -19,6 +20,15 @@ pub struct Inputs {
     pub left: Vec<u8>,
     pub right: Vec<u8>,
     pub calib: Option<Vec<u8>>,
+}
+
+impl Model for Inputs {
+    ghost use Rattle.std.specs.Prelude.{option_map};
+    ghost use Rattle.sgm_app.specs.Inputs.{InputBytes};
+
+    ghost Value = { InputBytes };
+
+    ghost view = { λ i. record { left = i.left.items; right = i.right.items; calib = option_map (λ b. b.items) i.calib } };
 }
 
 /// The bytes of the grids of a change.
@@ -29,8 +39,23 @@ pub struct Grids {
 }
 
 impl Inputs {
+    /// The bytes of the left image.
+    pub fn left(&self) -> &[u8]
+        ensures { result.now ≡ self.now.left }
+    {
+        self.left.as_slice()
+    }
+
+    /// The bytes of the right image.
+    pub fn right(&self) -> &[u8]
+        ensures { result.now ≡ self.now.right }
+    {
+        self.right.as_slice()
+    }
+
+    /// The bytes of the calibration; None for the plain one.
     pub fn calib(&self) -> Option<&[u8]>
-        ensures { option_map (λ bytes. bytes.now) result ≡ option_map (λ bytes. bytes.items) self.now.calib }
+        ensures { option_map (λ bytes. bytes.now) result ≡ self.now.calib }
     {
         match &self.calib {
             Some(bytes) => Some(bytes.as_slice()),
@@ -93,7 +118,8 @@ fn fetch_calib<S: Shelf>(
     }
 }
 
-/// Fetches the inputs of a match or a trace, in their order.
+/// Fetches the inputs of a match or a trace, in their order, until one can't be read, or is longer than it
+/// may be.
 pub fn gather<S: Shelf>(
     alloc: Global,
     shelf: &mut S,

@@ -6,7 +6,7 @@ use Rattle.sgm_app.specs.Verdict.{grids_fetched, fetched}
 use Rattle.sgm_app.proofs.Counting.{counts_since, goes_by, shown_by}
 use Rattle.sgm_app.proofs.Steps.{shown_along}
 use Rattle.sgm_app.proofs.VerdictLaws.{none_less, none_fetched}
-use Rattle.sgm_app.proofs.gather.gather_grids.Goals as goal
+use Rattle.sgm_app.proofs.gathering.gather_grids.Goals as goal
 
 pub returns-in-Err-clause-verdict : goal.returns-in-Err-clause-verdict
 unfolding grids_fetched

@@ -7,7 +7,7 @@ use Rattle.sgm_app.specs.Verdict.{pair_fetched, fetched, calib_fetched}
 use Rattle.sgm_app.proofs.Counting.{counts_since, goes_by, shown_by}
 use Rattle.sgm_app.proofs.Steps.{shown_along}
 use Rattle.sgm_app.proofs.VerdictLaws.{none_zero, none_less, none_calib_fetched}
-use Rattle.sgm_app.proofs.gather.gather.Goals as goal
+use Rattle.sgm_app.proofs.gathering.gather.Goals as goal
 
 pub returns-in-Err-clause-verdict : goal.returns-in-Err-clause-verdict
 unfolding pair_fetched

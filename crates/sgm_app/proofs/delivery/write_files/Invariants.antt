@@ -1,6 +1,6 @@
 use Rattle.std.proofs.Common.{◌≡◌, IsTrue, take, None, ◌<◌}
 use Rattle.sgm_app.specs.Deliver.{after_files, after_finishing}
-use Rattle.sgm_app.proofs.deliver.write_files.Given as goal
+use Rattle.sgm_app.proofs.delivery.write_files.Given as goal
 
 abbrev pub invariant-loop-file : goal.invariant-loop-file
 invariant-loop-file g l = record {

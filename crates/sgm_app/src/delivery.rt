@@ -8,7 +8,7 @@ ghost use Rattle.sgm_app.specs.Verdict.{files};
 ghost use Rattle.sgm_app.specs.Ends.{StageCounts, ShownBy, OutStands, OutUntouched, WritingStands, CountsShow, OutCountsShow, faults};
 ghost use Rattle.sgm_app.specs.Unfinished.{AreFinished, UnfinishedStands};
 ghost use Rattle.sgm_app.specs.Deliver.{WritesFile, StopsAtFile, EndsWriting, FinishesFile, FileCounts};
-ghost use Rattle.sgm_app.specs.Deliver.{WritesFiles, FinishesFiles, FilesCounts, FilesPut};
+ghost use Rattle.sgm_app.specs.Deliver.{IsDeliveryEnd, WritesFiles, FinishesFiles, FilesCounts, FilesPut};
 
 use crate::files::{Delivery, OutputText};
 use crate::stops::WriteStop;
@@ -56,11 +56,15 @@ fn write_files<S: Shelf>(shelf: &mut S, files: &[OutputText]) -> Result<(), Writ
     Ok(())
 }
 
-/// Writes the files, and then the summary. It takes no memory of its own.
+/// Writes the files, and then the summary. It takes no memory of its own. The outcome is Done, or the fault
+/// of writing that it stopped at, or the shelf's want of memory.
 pub fn deliver<S: Shelf, O: Sink>(shelf: &mut S, out: &mut O, delivery: &Delivery) -> Outcome
+    ensures ends { IsDeliveryEnd result }
     ensures shown { ShownBy (files delivery.now.files.items delivery.now.summary.items) result }
-    ensures files { IsTrue S.tells → FilesPut result (files delivery.now.files.items delivery.now.summary.items) (S.held shelf.old) (S.held shelf.new) }
-    ensures out { IsTrue O.tells → OutStands result (files delivery.now.files.items delivery.now.summary.items) (O.written out.old) (O.written out.new) }
+    ensures files { IsTrue S.tells
+        → FilesPut result (files delivery.now.files.items delivery.now.summary.items) (S.held shelf.old) (S.held shelf.new) }
+    ensures out { IsTrue O.tells
+        → OutStands result (files delivery.now.files.items delivery.now.summary.items) (O.written out.old) (O.written out.new) }
     ensures untouched { IsTrue O.tells → OutUntouched result (O.written out.old) (O.written out.new) }
     ensures writing { WritingStands result (S.writing shelf.old) (S.writing shelf.new) }
     ensures unfinished { (names : FileNames) → All (IsNamed names) delivery.now.files.items
@@ -84,7 +88,8 @@ pub fn deliver_summary<O: Sink>(out: &mut O, summary: &[u8]) -> Outcome
     ensures shown { ShownBy (files [] summary.now) result }
     ensures out { IsTrue O.tells → OutStands result (files [] summary.now) (O.written out.old) (O.written out.new) }
     ensures untouched { IsTrue O.tells → OutUntouched result (O.written out.old) (O.written out.new) }
-    ensures counts { (reads writes : Counts) → OutCountsShow result (faults reads writes (O.faults out.old)) (faults reads writes (O.faults out.new)) }
+    ensures counts { (reads writes : Counts)
+        → OutCountsShow result (faults reads writes (O.faults out.old)) (faults reads writes (O.faults out.new)) }
 {
     match write_whole(out, summary) {
         Ok(()) => Outcome::Done,

@@ -2,7 +2,7 @@ use Rattle.std.proofs.Common.{List, ap, ◌∙◌}
 use Rattle.sgm_app.specs.Outputs.{OutputFile}
 use Rattle.sgm_app.specs.Deliver.{after_finishing}
 use Rattle.sgm_app.proofs.Finishing.{all_finished, finished_stands, leaves_along, stop_stands}
-use Rattle.sgm_app.proofs.deliver.deliver.Goals as goal
+use Rattle.sgm_app.proofs.delivery.deliver.Goals as goal
 
 pub returns-in-Ok-write_whole-clause-unfinished : goal.returns-in-Ok-write_whole-clause-unfinished
 returns-in-Ok-write_whole-clause-unfinished g c = λ asked named.
