@@ -1,0 +1,75 @@
+//! What a worker does.
+ghost use Rattle.std.specs.Prelude.{◌≡◌, ◌<◌, length};
+ghost use Rattle.sgm_line.specs.Lines.{log_of};
+ghost use Rattle.sgm_batch.specs.Batches.{CanWork, Covers, HasPiece, IsAtWork, IsDone, IsJob, IsSameWorker};
+
+use crate::piece::Piece;
+use sgm_app::Inputs;
+use sgm_draws::{Draws, Ticket};
+use sgm_line::{Line, LinePass};
+use sgm_work::Gate;
+use std::alloc::Global;
+use std::sync::Wait;
+use std::thread::Threads;
+
+/// A worker's own place: its number, what it draws with and pushes with, and by entry the pieces that the
+/// line didn't take.
+#[derive(Drop)]
+pub struct Worker {
+    pub number: u32,
+    pub ticket: Ticket,
+    pub pass: LinePass<Piece>,
+    pub kept: Vec<Option<Piece>>,
+}
+
+/// What all workers share: the inputs, the numbers of the entries, and the line for the pieces.
+#[derive(Clone, Copy)]
+pub struct Job<'a> {
+    pub inputs: &'a [Inputs],
+    pub draws: &'a Draws,
+    pub line: &'a Line<Piece>,
+}
+
+/// Makes a piece, and pushes or keeps it.
+fn hand_on<R: Threads + Wait + Sync>(
+    rt: &R,
+    alloc: Global,
+    job: &Job<'_>,
+    worker: &mut Worker,
+    entry: u32,
+)
+    requires inside { entry < length job.now.inputs.now }
+    requires at_work { IsAtWork job.now worker.old }
+    ensures at_work { IsAtWork job.now worker.new }
+    ensures same_ticket { worker.new.ticket ≡ worker.old.ticket }
+    ensures same_shares { (log_of worker.new.pass).shares ≡ (log_of worker.old.pass).shares }
+    ensures piece { HasPiece worker.new entry }
+    ensures pieces { Covers worker.old worker.new }
+{
+    let piece = Piece::make(rt, alloc, &job.inputs[entry as usize], entry, worker.number);
+    if let Err(piece) = job.line.push(rt, &mut worker.pass, piece) {
+        worker.kept[entry as usize] = Some(piece);
+    }
+}
+
+/// Draws entries until there is none left, and makes their pieces.
+pub fn work<R: Threads + Wait + Sync, G: Gate>(
+    rt: &R,
+    alloc: Global,
+    job: &Job<'_>,
+    worker: &mut Worker,
+    gate: &G,
+)
+    requires job { IsJob job.now }
+    requires can_work { CanWork job.now worker.old }
+    ensures done { IsDone job.now worker.new }
+    ensures same { IsSameWorker worker.old worker.new }
+{
+    for _ in rt.forever() {
+        let Some(entry) = job.draws.draw(&mut worker.ticket) else {
+            return;
+        };
+        gate.at(worker.number, entry);
+        hand_on(rt, alloc, job, worker, entry);
+    }
+}
