@@ -1,0 +1,14 @@
+pub mod Words
+pub mod EntryWords
+pub mod Status
+pub mod Lines
+pub mod Plans
+pub mod Turns
+pub mod Ends
+pub mod Counted
+pub mod Complete
+pub mod Answers
+pub mod Received
+pub mod Turned
+pub mod Stands
+pub mod Batches

@@ -1,0 +1,2 @@
+/// How many entries are fetched and made at a time.
+pub const BATCH: usize = 8;

@@ -1,0 +1,5 @@
+mod ended;
+mod faults;
+mod fixtures;
+mod workers;
+mod written;
