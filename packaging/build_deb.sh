@@ -77,37 +77,44 @@ put() {
     install -m "$mode" "$@" "$folder/"
 }
 
-# The programs. A crate that isn't in crates.txt yet is left out.
+# The programs.
+
+# The file with the words of the program: help.txt, or help_NAME.txt.
+help_of() { if [ "$1" = sgm ]; then echo packaging/help.txt; else echo "packaging/help_$1.txt"; fi; }
+
+# Ends the script where something of the program of that name is missing.
+need_program() {
+    local name=$1 crate=${1}_cli file
+    grep -q "^${crate}[ :]" crates.txt || fail "$name: crates.txt has no crate $crate, which the package needs"
+    for file in "crates/$crate/src/main.rt" "$(help_of "$name")" "packaging/man/$name.1"; do
+        [ -e "$file" ] || fail "$name: there is no $file, which the package needs"
+    done
+}
 
 # build_program NAME WORD..: both builds of the program of that name, which is started with these words, and the
 # launcher that picks one.
 build_program() {
-    local name=$1 crate processor
+    local name=$1 crate=${1}_cli processor
     shift
-    for crate in "${name}_cli" "$name"; do
-        grep -q "^${crate}[ :]" crates.txt && [ -e "crates/$crate/src/main.rt" ] && break
-        crate=
-    done
-    [ -n "$crate" ] || return 0
     for processor in x86-64-v2 x86-64-v3; do
         echo "build_deb: $name for $processor" >&2
         (cd "crates/$crate" && rt run --cpu $processor -- "$@") </dev/null >/dev/null ||
-            fail "$crate: not built for $processor, or it doesn't run: see the messages above"
+            fail "$name: $crate isn't built for $processor, or doesn't run: see the messages above"
         strip -o "$usr/lib/sgm/$name-$processor" "crates/$crate/out/$crate"
     done
     # The launcher of the checkout builds what is older than the sources; these builds were proved just now.
     touch "crates/$crate/out/$crate"
-    ! cmp -s "$usr/lib/sgm/$name"-x86-64-v[23] || fail "$crate: both builds are the same"
+    ! cmp -s "$usr/lib/sgm/$name"-x86-64-v[23] || fail "$name: both builds of $crate are the same"
     cc -O2 -fPIE -pie -fstack-protector-strong -fcf-protection -D_FORTIFY_SOURCE=2 -Wall -Wextra -Werror -s \
         -Wl,-z,relro,-z,now,--build-id=none "-DPROGRAM=\"$name\"" "-DVERSION_LINE=\"$name${version_line#sgm}\"" \
         "-DHELP=\"$(help_of "$name")\"" packaging/launcher.c -o "$usr/bin/$name"
     put 644 "$usr/share/man/man1" "packaging/man/$name.1"
 }
 
-# The file with the words of the program: help.txt, or help_NAME.txt.
-help_of() { if [ "$1" = sgm ]; then echo packaging/help.txt; else echo "packaging/help_$1.txt"; fi; }
-
+need_program sgm
+need_program sgm_series
 build_program sgm demo 0
+# A list without entries.
 build_program sgm_series /dev/null
 
 # What the C library has to be for all of them. They may use no other library.
@@ -125,8 +132,9 @@ git ls-files examples | grep -vE '/(accuracy|settings)\.py$' | while read -r fil
 done
 git ls-files docs README.md CHANGELOG.md | while read -r file; do put 644 "$doc/$(dirname "$file")" "$file"; done
 ln -s ../../sgm/examples "$doc/examples"
-edits=(-e 's#\./sgm #sgm #g')
+edits=(-e 's#\./sgm #sgm #g' -e 's#\./sgm_series #sgm_series #g')
 install -m 644 packaging/completion.bash "$usr/share/bash-completion/completions/sgm"
+ln -s sgm "$usr/share/bash-completion/completions/sgm_series"
 names=packaging/names.txt
 # shellcheck disable=SC2094
 while read -r tool name; do
@@ -136,10 +144,11 @@ while read -r tool name; do
         ln -s sgm "$usr/share/bash-completion/completions/$name"
         python3 packaging/tool_page.py "tools/$tool.py" --names $names >"$usr/share/man/man1/$name.1"
     else
-        sed -i "/^\.BR ${name//-/\\\\-} /d" "$usr/share/man/man1/sgm.1"
+        sed -i "/^\.BR ${name//-/\\\\-} /d" "$usr"/share/man/man1/sgm{,_series}.1
     fi
 done <$names
 find "$usr/share/sgm" "$doc" -type f \( -name '*.py' -o -name '*.html' -o -name '*.md' \) -exec sed -i "${edits[@]}" {} +
+find "$usr/share/sgm" -type f -name '*.sh' -exec chmod 755 {} +
 # -B: nothing is written beside what is installed. A tool's module has no first line that says what runs it.
 grep -rl '^#!/usr/bin/env python3$' "$usr/share/sgm" | while read -r file; do
     sed -i '1s/.*/#!\/usr\/bin\/python3 -B/' "$file"

@@ -1,4 +1,4 @@
-# Completion of the words of sgm and of its tools for bash. Needs nothing but bash.
+# Completion of the words of sgm, of sgm_series and of the tools for bash. Needs nothing but bash.
 # shellcheck shell=bash
 
 # Sets COMPREPLY to the files that go on with what was typed, those of the endings given and folders.
@@ -43,6 +43,22 @@ _sgm() {
     esac
 }
 
+_sgm_series() {
+    local typed=${COMP_WORDS[COMP_CWORD]}
+    COMPREPLY=()
+    case $COMP_CWORD,$typed in
+    1,-*) _sgm_words "--help --version" ;;
+    1,*) _sgm_files ;;
+    2,*) _sgm_words "workers=1 workers=2" ;;
+    [34],*)
+        # Bash cuts words at `=`, so the number is a word of its own.
+        [[ ${COMP_WORDS[2]} = workers && ${COMP_WORDS[3]} = "=" ]] || return
+        typed=${typed#=}
+        _sgm_words "1 2"
+        ;;
+    esac
+}
+
 # The tools say in their --help which options they have.
 _sgm_tool() {
     local typed=${COMP_WORDS[COMP_CWORD]}
@@ -55,5 +71,6 @@ _sgm_tool() {
 }
 
 complete -F _sgm sgm
+complete -F _sgm_series sgm_series
 complete -F _sgm_tool sgm-calibrate sgm-calibration sgm-photo sgm-page sgm-heights sgm-stretch sgm-cubic-metres \
-    sgm-change-volumes sgm-cell-pixels sgm-check-trace sgm-explain-pixel
+    sgm-change-volumes sgm-cell-pixels sgm-check-trace sgm-explain-pixel sgm-series-left

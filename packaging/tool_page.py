@@ -29,7 +29,7 @@ def installed_names(file):
 
 def renamed(text, names):
     """The text with the program and each tool under the name that it has where it is installed."""
-    text = text.replace("./sgm ", "sgm ")
+    text = text.replace("./sgm ", "sgm ").replace("./sgm_series ", "sgm_series ")
     for tool, name in names.items():
         text = re.sub(rf"(?:\btools/)?\b{tool}\.py\b", name, text)
     return text

@@ -3,7 +3,8 @@
 #   name   the script's name, without its ending;
 #   here   this folder; top, the folder above it;
 #   work   a new folder, which goes away when the script ends;
-#   SGM    the program that is tried, as an absolute path: the variable's, else ./sgm of this repository.
+#   SGM    the program that is tried, as an absolute path: the variable's, else ./sgm of this repository;
+#   SGM_SERIES   the same of the program for series: the variable's, else ./sgm_series.
 #
 # A script takes no words but --help, which prints the comment at its head.
 # shellcheck shell=bash disable=SC2034
@@ -12,6 +13,7 @@ name=$(basename "$0" .sh)
 here=$(cd "$(dirname "$0")" && pwd)
 top=$(cd "$here/.." && pwd)
 SGM=$(realpath -m -- "${SGM:-$top/sgm}")
+SGM_SERIES=$(realpath -m -- "${SGM_SERIES:-$top/sgm_series}")
 
 case $# in
 0) ;;
@@ -47,9 +49,17 @@ skip() {
 
 # Ends the script where the program doesn't run: without words it ends with 2 and a line. What has to be
 # built is built here, so that its messages come into no case.
-need_program() {
-    "$SGM" 2> >(grep -vx 'sgm: no command' >&2)
+need_program() { runs "$SGM" 'sgm: no command'; }
+need_series() { runs "$SGM_SERIES" 'sgm_series: no list'; }
+runs() {
+    "$1" 2> >(grep -vx "$2" >&2)
     [ $? = 2 ] && return
-    echo "$name: $SGM doesn't run" >&2
+    echo "$name: $1 doesn't run" >&2
     exit 1
+}
+
+# Opens a pipe that nobody reads any more, at the number in pipe.
+unread_pipe() {
+    exec {pipe}> >(:)
+    wait "$!"
 }

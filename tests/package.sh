@@ -57,18 +57,22 @@ is "what lintian says" "$(grep '^[EW]:' "$work/said")" ""
 
 # What is in it.
 
+help_of() { if [ "$1" = sgm ]; then echo "$top/packaging/help.txt"; else echo "$top/packaging/help_$1.txt"; fi; }
 unpacked=$work/unpacked
 dpkg-deb -x "$package" "$unpacked"
+is "the programs" "$(cd "$unpacked/usr/lib/sgm" && echo *)" "sgm-x86-64-v2 sgm-x86-64-v3 sgm_series-x86-64-v2 sgm_series-x86-64-v3"
 # Registers of 256 and 512 bits came after x86-64-v2.
-wide() { objdump -d "$unpacked/usr/lib/sgm/sgm-$1" | grep -c '%[yz]mm'; }
-is "instructions of the program for x86-64-v2 with wide registers" "$(wide x86-64-v2)" 0
-[ "$(wide x86-64-v3)" -gt 100 ]
-is "whether the program for x86-64-v3 has many of them (0: yes)" $? 0
-is "the help" "$("$unpacked/usr/bin/sgm" --help)" "$(cat "$top/packaging/help.txt")"
-is "what -h prints" "$("$unpacked/usr/bin/sgm" -h)" "$("$top/sgm" --help)"
-is "the version" "$("$unpacked/usr/bin/sgm" --version)" "$("$top/sgm" --version)"
-"$unpacked/usr/bin/sgm" --version >/dev/full 2>"$work/said"
-is "status of a version that can't be written" "$? $(cat "$work/said")" "1 sgm: standard output: No space left on device"
+wide() { objdump -d "$unpacked/usr/lib/sgm/$1" | grep -c '%[yz]mm'; }
+for program in sgm sgm_series; do
+    is "instructions of $program for x86-64-v2 with wide registers" "$(wide $program-x86-64-v2)" 0
+    [ "$(wide $program-x86-64-v3)" -gt 100 ]
+    is "whether $program for x86-64-v3 has many of them (0: yes)" $? 0
+    is "the help of $program" "$("$unpacked/usr/bin/$program" --help)" "$(cat "$(help_of $program)")"
+    is "what -h prints" "$("$unpacked/usr/bin/$program" -h)" "$("$top/$program" --help)"
+    is "the version of $program" "$("$unpacked/usr/bin/$program" --version)" "$("$top/$program" --version)"
+    "$unpacked/usr/bin/$program" --version >/dev/full 2>"$work/said"
+    is "status of a version that can't be written" "$? $(cat "$work/said")" "1 $program: standard output: No space left on device"
+done
 is "the kit that it names" "$(sed -n 's/^toolchain: //p' "$unpacked/usr/share/doc/sgm/PROVENANCE")" "$(rt version)"
 is "the commit that it names" "$(sed -n '1s/.*commit //p' "$unpacked/usr/share/doc/sgm/PROVENANCE")" \
     "$(git -C "$top" rev-parse HEAD)"
@@ -76,15 +80,17 @@ is "the commit that it names" "$(sed -n '1s/.*commit //p' "$unpacked/usr/share/d
 grep -E '^[0-9a-f]{64}  ' "$unpacked/usr/share/doc/sgm/PROVENANCE" >"$work/sums"
 works "checking the sums" bash -c "cd '$unpacked/usr' && sha256sum --quiet -c '$work/sums'"
 is "the files with a sum" "$(cut -c 67- "$work/sums")" "$(cd "$unpacked/usr" && ls -d lib/sgm/*)"
-# The man page has each command and each word of the help.
-gzip -dc "$unpacked/usr/share/man/man1/sgm.1.gz" >"$work/sgm.1"
-man -P cat "$work/sgm.1" >"$work/page" 2>"$work/said"
-is "what man says of its page" "$(cat "$work/said")" ""
-sed -n '/^sgm/ { s/=N\]/=/g; s/ \[*/\n/g; p }' "$top/packaging/help.txt" | sort -u >"$work/words"
-while read -r word; do
-    grep -q -- "$word" "$work/page"
-    is "whether the man page has $word (0: yes)" $? 0
-done <"$work/words"
+# The man page of a program has each command and each word of its help.
+for program in sgm sgm_series; do
+    gzip -dc "$unpacked/usr/share/man/man1/$program.1.gz" >"$work/$program.1"
+    man -P cat "$work/$program.1" >"$work/page" 2>"$work/said"
+    is "what man says of the page of $program" "$(cat "$work/said")" ""
+    sed -n '/^sgm/ { s/=N\]/=/g; s/ \[*/\n/g; p }' "$(help_of $program)" | sort -u >"$work/words"
+    while read -r word; do
+        grep -q -- "$word" "$work/page"
+        is "whether the man page of $program has $word (0: yes)" $? 0
+    done <"$work/words"
+done
 for page in "$unpacked"/usr/share/man/man1/*; do
     works "man --warnings on $(basename "$page")" bash -c "man --warnings -E UTF-8 -Z -Tutf8 -l '$page' >/dev/null"
     [ -e "$unpacked/usr/bin/$(basename "$page" .1.gz)" ]
@@ -93,9 +99,9 @@ done
 
 # Words that go on with what was typed.
 
-# completed WORD..: what bash would offer for the last word.
+# completed PROGRAM WORD..: what bash would offer for the last word.
 completed() {
-    bash -c '. "$1"; cd "$2"; shift 2; COMP_WORDS=("$@") COMP_CWORD=$(($# - 1)); _sgm; echo "${COMPREPLY[*]}"' \
+    bash -c '. "$1"; cd "$2"; shift 2; COMP_WORDS=("$@") COMP_CWORD=$(($# - 1)); "_$1"; echo "${COMPREPLY[*]}"' \
         completed "$unpacked/usr/share/bash-completion/completions/sgm" "$top/examples/stockpile" "$@"
 }
 is "commands" "$(completed sgm '')" "$(sed -n 's/^sgm \([a-z]*\).*/\1/p' "$top/packaging/help.txt" | tr '\n' ' ')--help --version"
@@ -104,12 +110,20 @@ is "a calibration" "$(completed sgm match a b cal)" calibration.json
 is "a direction" "$(completed sgm trace a b c downr)" downright
 is "options that are left" "$(completed sgm match a b c d strips = 3 '')" "workers= peak= fill="
 is "an option's number" "$(completed sgm match a b c d strips = '')" ""
+is "a list" "$(completed sgm_series RE)" README.md
+is "the words beside a list" "$(completed sgm_series --)" "--help --version"
+is "the numbers of workers" "$(completed sgm_series README.md '')" "workers=1 workers=2"
+is "the numbers behind the word" "$(completed sgm_series README.md workers =)" "1 2"
+is "a number behind the word" "$(completed sgm_series README.md workers = 2)" 2
+is "nothing behind it" "$(completed sgm_series README.md workers = 2 '')" ""
+[ -e "$unpacked/usr/share/bash-completion/completions/sgm_series" ]
+is "whether bash finds them (0: yes)" $? 0
 
 # The launcher, before programs that are made up, which print their words, where they run and their GLIBC_TUNABLES.
 
 made=$work/a\ folder
 mkdir -p "$made"/{bin,lib/sgm} "$work/links"
-cp "$unpacked/usr/bin/sgm" "$made/bin/"
+cp "$unpacked"/usr/bin/{sgm,sgm_series} "$made/bin/"
 cat >"$made/lib/sgm/sgm-x86-64-v3" <<'PROGRAM'
 #!/usr/bin/env bash
 printf '[%s]' "$@"
@@ -118,11 +132,12 @@ sed -n 's/^flags:.*\(.\)$/\1/p' /proc/$$/fdinfo/[12] >"$(dirname "$0")/streams"
 exit 7
 PROGRAM
 chmod +x "$made/lib/sgm/sgm-x86-64-v3"
-ln -s "$made/bin/sgm" "$work/links/sgm"
+cp "$made"/lib/sgm/{sgm,sgm_series}-x86-64-v3
+ln -s "$made"/bin/{sgm,sgm_series} "$work/links/"
 cd "$work/links" || exit 1
 tunables=glibc.malloc.hugetlb=1:glibc.malloc.mmap_threshold=1073741824
 tunables=$tunables:glibc.malloc.arena_max=1:glibc.malloc.top_pad=67108864
-for launcher in "$made/bin/sgm" ./sgm; do
+for launcher in {"$made/bin",.}/{sgm,sgm_series}; do
     is "the program's words" "$("$launcher" match 'a b' '' '*')" "[match][a b][][*] in $PWD with $tunables"
     "$launcher" >/dev/null
     is "status" $? 7
@@ -145,6 +160,8 @@ rm "$made/lib/sgm/sgm-x86-64-v3"
 ./sgm demo 0 >"$work/out" 2>"$work/said"
 is "status where the program is missing" "$? $(cat "$work/out" "$work/said")" \
     "1 sgm: $made/lib/sgm/sgm-x86-64-v3: No such file or directory"
+./sgm_series list >/dev/null
+is "status of the other program" $? 7
 cd "$top" || exit 1
 
 # tried WHERE PREFIX COMMAND..: the example, a tool and the man pages of what is installed below PREFIX, each
@@ -159,12 +176,28 @@ tried() {
     for word in pgm asc csv; do
         works "comparing OUT.$word" cmp "$where/tmp/sgm-heap-$$.$word" "$top/examples/stockpile/expected/out.$word"
     done
+    # The same pair twice and one that is refused, as a series. No name in a list has a space.
+    local series=/tmp/sgm-series-$$
+    mkdir "$where$series"
+    cp "$where$example"/{left.pgm,right.pgm,calibration.json} "$where$series/"
+    for word in 1 2; do echo "$series/left.pgm $series/right.pgm $series/calibration.json $series/$word"; done >"$where$series/list"
+    echo "$series/left.pgm $series/calibration.json - $series/3" >>"$where$series/list"
+    "$@" "$prefix/bin/sgm_series" $series/list workers=2 >"$work/out" 2>"$work/said"
+    is "what the series ends with" "$? $(cat "$work/said")" "3 sgm: right: not a binary PGM
+sgm_series: 1 entries refused"
+    is "what the series prints" "$(cat "$work/out")" "valid 68976 of 76800
+valid 68976 of 76800"
+    for word in 1.pgm 1.asc 1.csv 2.pgm 2.asc 2.csv; do
+        works "comparing $word of the series" cmp "$where$series/$word" "$top/examples/stockpile/expected/out${word#?}"
+    done
     is "the table in cubic metres" "$("$@" "$prefix/bin/sgm-cubic-metres" /tmp/sgm-heap-$$.csv --ground ground --digits 3 \
         --calibration "$example/calibration.json" | sed -n 2p)" "pile,6005,1,77.910,0.003,77.907,-0.016,3.454,0.036,74.574"
     "$@" "$example/compare_truth.py" /tmp/sgm-heap-$$ >"$work/out" 2>&1
     is "status of the comparison with the truth" $? 0
     is "lines of the man page that name its statuses" \
         "$("$@" man -M "$prefix/share/man" -P cat sgm 2>/dev/null | grep -c 'EXIT STATUS')" 1
+    is "the same of the series" \
+        "$("$@" man -M "$prefix/share/man" -P cat sgm_series 2>/dev/null | grep -c 'EXIT STATUS')" 1
     is "the tool's man page" \
         "$("$@" man -M "$prefix/share/man" -P cat sgm-cubic-metres 2>/dev/null | grep -c '^ *--digits N')" 1
     # It needs a file beside it, and packages that may be missing, which it then names.
@@ -176,7 +209,7 @@ tried() {
         is "status of the page without packages" "$word $(cat "$work/out")" \
             "1 sgm-page: numpy and PIL of Python needed: apt-get install python3-numpy python3-pil on Debian"
     fi
-    rm -f "$where/tmp/sgm-heap-$$".*
+    rm -rf "$where/tmp/sgm-heap-$$".* "$where$series"
 }
 
 # The archive, below any folder. Its files belong to whoever unpacks it.
@@ -187,7 +220,9 @@ plain() { env -i PATH=/usr/bin:/bin HOME=/nonexistent "$@"; }
 tried "" "$made/sgm-$version" plain
 mkdir "$work/local"
 ln -s "$made/sgm-$version/bin"/* "$work/local/"
-is "the version by a link" "$(plain "$work/local/sgm" --version)" "$("$top/sgm" --version)"
+for program in sgm sgm_series; do
+    is "the version of $program by a link" "$(plain "$work/local/$program" --version)" "$("$top/$program" --version)"
+done
 is "a tool by a link" "$(plain "$work/local/sgm-cubic-metres" --help | grep -o '^usage: sgm-cubic-metres')" \
     "usage: sgm-cubic-metres"
 
