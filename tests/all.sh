@@ -6,9 +6,9 @@
 #     tests/all.sh --list
 #
 # With NAMEs only these run; --list prints them all. A test whose tools aren't installed is skipped, and the line
-# says which; --install installs them first, by apt-get, as root. The program is the one that the variable SGM
-# names (./sgm of this repository without it). All together take about half an hour, most of it definitions, which
-# asks the toolchain for proofs, and compare.
+# says which; --install installs them first, by apt-get, as root. The programs are those that the variables SGM and
+# SGM_SERIES name (./sgm and ./sgm_series of this repository without them). All together take about half an hour,
+# most of it definitions, which asks the toolchain for proofs, and compare.
 #
 # Status: 0 where none failed, 1 where one did, 2 for wrong words. What a test that failed has printed is kept, and
 # the path of the file stands below its line.
@@ -16,14 +16,17 @@ set -u
 here=$(cd "$(dirname "$0")" && pwd)
 top=$(cd "$here/.." && pwd)
 SGM=$(realpath -m -- "${SGM:-$top/sgm}")
-export SGM
+SGM_SERIES=$(realpath -m -- "${SGM_SERIES:-$top/sgm_series}")
+export SGM SGM_SERIES
+# The ssh server and Slurm's daemons stand where only root's PATH leads.
+PATH=$PATH:/usr/sbin
 
 # The tests: name, what it needs (words of need, below), and the command.
 table() {
     cat <<TABLE
 launcher            -           tests/launcher.sh
 scripts             opencv      tests/scripts.py
-shellcheck          shellcheck  shellcheck -x sgm .ci/run $(cd "$top" && echo tests/*.sh packaging/*.sh packaging/*.bash)
+shellcheck          shellcheck  shellcheck -x sgm sgm_series .ci/run $(cd "$top" && echo tests/*.sh tools/*.sh packaging/*.sh packaging/*.bash)
 reference           -           tests/test_reference.py
 reference_lists     -           tests/test_reference_lists.py
 reference_series    -           tests/test_reference_series.py
@@ -42,10 +45,13 @@ survey_page_files   pictures    tools/test_survey_page.py
 change_volumes      pictures    tools/test_change_volumes.py
 check_trace         pictures    tools/test_check_trace.py
 explain_pixel       pictures    tools/test_explain_pixel.py
+series_left         -           tools/test_series_left.py
 survey_page         browser     tests/survey_page.py
 ends                program     tests/ends.sh
+series_ends         series      tests/series_ends.sh
 workers             program     tests/workers.sh
 random_cases        program     tests/random_cases.py --cases 400
+random_series       series      tests/random_cases.py --series --cases 400
 refused_allocations program,gcc tests/refused_allocations.sh
 interrupted         program     tests/interrupted.py
 asc_gdal            program,gdal    tests/asc_gdal.sh
@@ -54,6 +60,9 @@ unrectified_heap    program,opencv  tests/unrectified_heap.py
 certificates        program,pictures tests/certificates.py
 later_heap          program,pictures tests/later_heap.py
 guide               program,opencv,gdal tests/guide.py
+many                program,series,parallel tests/many.sh
+many_ssh            program,parallel,ssh tests/many_ssh.sh
+many_slurm          program,series,slurm tests/many_slurm.sh
 compare             program     tests/compare.sh
 package             rt,package  tests/package.sh
 definitions         rt          tests/definitions.sh
@@ -83,6 +92,10 @@ need() {
         [ -z "$no_program" ] || printf '%s\t\n' "$no_program"
         return
         ;;
+    series)
+        [ -z "$no_series" ] || printf '%s\t\n' "$no_series"
+        return
+        ;;
     rt)
         command -v rt >/dev/null || printf "the toolchain's command rt isn't on the PATH\t\n"
         return
@@ -106,6 +119,20 @@ need() {
     gdal) commands="gdalinfo gdallocationinfo gdal_calc.py" packages="gdal-bin python3-gdal" ;;
     netpbm) commands="pgmmake pamdepth pnmtopng pngtopnm" ;;
     gcc) commands=gcc packages="gcc libc6-dev" ;;
+    parallel) commands=parallel ;;
+    # Their packages start servers, so --install leaves them to whoever wants that.
+    ssh)
+        for command in rsync ssh sshd; do
+            command -v "$command" >/dev/null || { printf "%s isn't installed (Debian: rsync openssh-server, by hand)\t\n" "$command" && return; }
+        done
+        return
+        ;;
+    slurm)
+        for command in sbatch slurmctld slurmd munged; do
+            command -v "$command" >/dev/null || { printf "%s isn't installed (Debian: slurm-wlm, by hand)\t\n" "$command" && return; }
+        done
+        return
+        ;;
     package)
         commands="dpkg-deb lintian objdump cc xz man"
         packages="dpkg-dev lintian binutils gcc libc6-dev xz-utils man-db mmdebstrap"
@@ -117,28 +144,39 @@ need() {
     done
 }
 
-# Starts the program, and says in no_program why the tests that need it can't run. It is built here, once, so that
-# its time is no test's. Where it should run and doesn't, that is a failure.
+# begin_program PATH NAME CRATE LINE: starts a program, and says in `missing` why the tests that need it can't run. It
+# is built here, once, so that its time is no test's. Where it should run and doesn't, that is a failure. NAME is the
+# launcher of this repository that starts CRATE.
 begin_program() {
-    if [ "$SGM" = "$top/sgm" ] && [ ! -x "$top/crates/sgm_cli/out/sgm_cli" ] && ! command -v rt >/dev/null; then
-        no_program="there is no program: rt isn't on the PATH, and SGM names none"
+    missing=
+    if [ "$1" = "$top/$2" ] && [ ! -x "$top/crates/$3/out/$3" ] && ! command -v rt >/dev/null; then
+        missing="there is no program $2: rt isn't on the PATH, and ${2^^} names none"
         return
     fi
     # Without words it ends with a line and the status 2.
-    "$SGM" </dev/null >"$work/begin" 2> >(grep -vx 'sgm: no command' >&2)
+    "$1" </dev/null >"$work/begin" 2> >(grep -vx "$4" >&2)
     if [ $? != 2 ]; then
-        no_program="the program doesn't run"
+        missing="the program doesn't run"
         failed=$((failed + 1))
-        line FAILED program "$SGM doesn't run"
+        line FAILED "$2" "$1 doesn't run"
     fi
     rm "$work/begin"
+}
+
+# wanted NEED: whether a chosen test needs it.
+wanted() {
+    local name needs
+    while read -r name needs _; do
+        chosen "$name" && [[ ,$needs, = *,$1,* ]] && return
+    done < <(table)
+    return 1
 }
 
 install() {
     local packages
     packages=$(table | while read -r name needs _; do
         chosen "$name" || continue
-        for it in ${needs//,/ }; do [ "$it" = program ] || need "$it"; done
+        for it in ${needs//,/ }; do need "$it"; done
     done | cut -s -f 2 | tr ' ' '\n' | sort -u | tr '\n' ' ')
     [ -n "${packages// /}" ] || return
     if [ "$(id -u)" != 0 ] || ! command -v apt-get >/dev/null; then
@@ -221,18 +259,20 @@ for word; do
 done
 
 cd "$top" || exit 1
-no_program=
+no_program='' no_series=''
 [ $do_install = no ] || install
 work=$(mktemp -d "${TMPDIR:-/tmp}/sgm-all.XXXXXX") || exit 1
 # What failed stays.
 trap 'rmdir "$work" 2>/dev/null' EXIT
 passed=0 failed=0 skipped=0 to_install=
-while read -r name needs _ <&3; do
-    if chosen "$name" && [[ $needs = program* ]]; then
-        begin_program
-        break
-    fi
-done 3< <(table)
+if wanted program; then
+    begin_program "$SGM" sgm sgm_cli 'sgm: no command'
+    no_program=$missing
+fi
+if wanted series; then
+    begin_program "$SGM_SERIES" sgm_series sgm_series_cli 'sgm_series: no list'
+    no_series=$missing
+fi
 while read -r name needs command <&3; do
     chosen "$name" && run "$name" "$needs" "$command"
 done 3< <(table)

@@ -113,12 +113,6 @@ ends() {
     cd "$work" || exit 1
 }
 
-# Opens a pipe that nobody reads any more, at the number in pipe.
-unread_pipe() {
-    exec {pipe}> >(:)
-    wait "$!"
-}
-
 # stands: whether the outputs are those of a run that stopped at one of them: the ones before it whole, that one
 # absent or the beginning of its text, and no other.
 stands() {

@@ -4,11 +4,12 @@
     tests/guide.py [--keep FOLDER]
 
 The commands are those that stand between ```sh and ```; they are run as they stand from the top of the
-repository, with `./sgm` being the program that the variable SGM names (./sgm itself without it), and /tmp/survey
-and /tmp/heap being in a new folder. Each has to end with 0 and to write the files that it names, and the grids in
-metres have to be the survey's and the change's. Other blocks that begin with ``` show files and what is printed; in
-the chapters on certificates and on change, whose numbers no package has a part in, each line of such a block has to
-be printed by one of the commands. Needs what the tools need, and GDAL. Takes a minute.
+repository, with `./sgm` and `./sgm_series` being the programs that the variables SGM and SGM_SERIES name (they
+themselves without them), and /tmp/survey and /tmp/heap being in a new folder. Each has to end with 0 and to write
+the files that it names, and the grids in metres have to be the survey's and the change's. Other blocks that begin
+with ``` show files and what is printed; in the chapters on certificates, on change and on many pairs, whose numbers
+no package has a part in, each line of such a block has to be printed by one of the commands. Needs what the tools
+need, and GDAL. Takes a minute.
 """
 
 import argparse
@@ -24,7 +25,7 @@ TOP = os.path.realpath(os.path.join(os.path.dirname(os.path.abspath(__file__)), 
 GUIDE = os.path.join(TOP, "docs", "GUIDE.md")
 BLOCK = re.compile(r"^```sh\n(.*?)^```$", re.M | re.S)
 # The chapters in which all that is shown is printed.
-PRINTED = ("## 11. ", "## 12. ")
+PRINTED = ("## 11. ", "## 12. ", "## 13. ")
 # The folders of the guide.
 FOLDERS = ("/tmp/survey", "/tmp/heap")
 
@@ -53,7 +54,8 @@ def put_into(folder, command):
     """The command on this folder's files."""
     for name in FOLDERS:
         command = re.sub(re.escape(name) + r"(?![\w-])", os.path.join(folder, os.path.basename(name)), command)
-    return re.sub(r"^\./sgm(?= )", '"$SGM"', command)
+    command = re.sub(r"^\./sgm(?= )", '"$SGM"', command)
+    return re.sub(r"^\./sgm_series(?= )", '"$SGM_SERIES"', command)
 
 
 def written(command, folder):
@@ -101,12 +103,13 @@ def main():
     parser = argparse.ArgumentParser(description=__doc__.split("\n\n")[0], epilog="Example: tests/guide.py")
     parser.add_argument("--keep", metavar="FOLDER", help="a folder for the files, which is kept")
     words = parser.parse_args()
-    program = os.path.realpath(os.environ.get("SGM", os.path.join(TOP, "sgm")))
+    names = {"SGM": "sgm", "SGM_SERIES": "sgm_series"}
+    programs = {name: os.path.realpath(os.environ.get(name, os.path.join(TOP, file))) for name, file in names.items()}
     if words.keep:
         os.makedirs(words.keep, exist_ok=True)
     folder = os.path.realpath(words.keep) if words.keep else tempfile.mkdtemp(prefix="sgm-guide.")
     try:
-        count, fault = run(folder, {**os.environ, "SGM": program})
+        count, fault = run(folder, {**os.environ, **programs})
         fault = fault or metres_fault(folder, "heap") or metres_fault(folder, "change")
     finally:
         if not words.keep:

@@ -39,7 +39,7 @@ READERS = {
     "examples/stockpile/compare_truth.py": "FILE",
     "examples/stockpile/compare_change.py": "FILE",
 }
-WRITERS = ["tests/make_cases.py", "tests/calibration_cases.py", "tests/definitions.py"]
+WRITERS = ["tests/make_cases.py", "tests/make_survey.py", "tests/calibration_cases.py", "tests/definitions.py"]
 WRITERS += ["examples/photographs/make_photographs.py", "examples/stockpile/make_later.py"]
 
 
@@ -95,8 +95,9 @@ class Manners(unittest.TestCase):
         for path in files():
             can_run = os.access(os.path.join(TOP, path), os.X_OK)
             self.assertEqual(can_run, path in scripts(), path)
-        self.assertEqual(first_line("sgm"), b"#!/bin/sh\n")
-        self.assertTrue(os.access(os.path.join(TOP, "sgm"), os.X_OK), "sgm")
+        for launcher in ("sgm", "sgm_series"):
+            self.assertEqual(first_line(launcher), b"#!/bin/sh\n", launcher)
+            self.assertTrue(os.access(os.path.join(TOP, launcher), os.X_OK), launcher)
         for path in (".ci/run", *scripts()):
             self.assertTrue(os.access(os.path.join(TOP, path), os.X_OK), path)
             program = b"python3" if path.endswith(".py") else b"bash"
