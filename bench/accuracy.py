@@ -403,7 +403,8 @@ def words_of():
     option("--count", type=within(1, 256), default=64, metavar="N", help="of the scenes' disparities (64)")
     option("--mask", metavar="MASK", help="white where both cameras see the surface")
     option("--unit", type=int, choices=(16, 256), default=16, help="what a pixel of disparity is in TRUTH, for PGM (16)")
-    option("--p2", type=within(1, 4000), nargs="+", default=[400], metavar="P2", help="where it follows the image (400)")
+    follows = "of the calibrations whose P2 follows the image (400)"
+    option("--p2", type=within(1, 4000), nargs="+", default=[400], metavar="P2", help=follows)
     option("--peak", type=within(1, 16777216), default=100, metavar="N", help="the least segment that stays (100)")
     words = parser.parse_args()
     if words.scenes == bool(words.files) or (words.files and len(words.files) != 4):

@@ -16,6 +16,10 @@ REFERENCE = os.path.join(HERE, "..", "tests", "reference.py")
 NAN, INF = float("nan"), float("inf")
 
 
+def setUpModule():
+    accuracy.sgm_files.need_for_tests(numpy=numpy, PIL=accuracy.sgm_files.Image)
+
+
 def in_file(data, name, call, *more):
     with tempfile.TemporaryDirectory() as folder:
         path = os.path.join(folder, name)

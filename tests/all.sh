@@ -6,9 +6,10 @@
 #     tests/all.sh --list
 #
 # With NAMEs only these run; --list prints them all. A test whose tools aren't installed is skipped, and the line
-# says which; --install installs them first, by apt-get, as root. The programs are those that the variables SGM and
-# SGM_SERIES name (./sgm and ./sgm_series of this repository without them). All together take about half an hour,
-# most of it definitions, which asks the toolchain for proofs, and compare.
+# says which; --install installs them first, by apt-get, as root, but for those of ssh and Slurm, whose packages start
+# servers. The programs are those that the variables SGM and SGM_SERIES name (./sgm and ./sgm_series of this repository
+# without them), which are built first where they aren't. Once they are, all tests together take about half an hour, most
+# of it definitions, which asks the toolchain for proofs, and compare.
 #
 # Status: 0 where none failed, 1 where one did, 2 for wrong words. What a test that failed has printed is kept, and
 # the path of the file stands below its line.

@@ -2,8 +2,8 @@
 # Checks that GDAL reads a height grid as it is meant: size, origin, cell size, the value of empty cells
 # and every height, each against the calibration or the text that the program wrote, and the least and
 # greatest height against the report. A difference of two grids it reads exactly where it is told to keep 64
-# bits (AAIGRID_DATATYPE=Float64), and not without, as the guide says. Skipped where gdalinfo isn't installed (Debian: gdal-bin). The
-# program is the one that the variable SGM names (./sgm of this repository without it).
+# bits (AAIGRID_DATATYPE=Float64), and not without, as the guide says. Skipped where gdalinfo isn't installed
+# (Debian: gdal-bin). The program is the one that the variable SGM names (./sgm of this repository without it).
 #
 #     tests/asc_gdal.sh
 set -u

@@ -1,12 +1,12 @@
 #!/usr/bin/env bash
-# Runs what docs/MANY.md says of one machine, word for word, over a small survey of twelve pairs, two of which are refused:
-# its list, sgm_series, going on, and GNU parallel. What comes of it is compared with single matches, byte for byte; runs
-# are broken off in between and go on.
+# Runs the commands of docs/MANY.md for one machine, as they stand there, over a small survey of twelve pairs, two of which
+# are refused: its list, sgm_series, going on, and GNU parallel. What comes of it is compared with single matches, byte for
+# byte; runs are broken off in between and go on.
 #
 #     tests/many.sh
 #
 # The programs are those that the variables SGM and SGM_SERIES name (./sgm and ./sgm_series of this repository without
-# them); where there is no sgm_series, what takes it is skipped. Skipped as a whole without GNU parallel (Debian: parallel).
+# them); where there is no sgm_series, what needs it is skipped. All is skipped without GNU parallel (Debian: parallel).
 set -u
 # shellcheck source-path=SCRIPTDIR source=many_common.sh
 . "$(dirname "$0")/many_common.sh"

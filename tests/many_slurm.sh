@@ -1,7 +1,7 @@
 #!/usr/bin/env bash
-# Runs what docs/MANY.md says of Slurm, word for word, over the survey of many.sh: an array of tasks, one of which is taken
-# back and begun again while it waits for an input, as when its node dies, and the same command again after outputs were
-# lost. The cluster is one node, this machine, with daemons, keys and folders of this test.
+# Runs the command of docs/MANY.md for Slurm, as it stands there, over the survey of many.sh: an array of tasks, one of
+# which is taken back and begun again while it waits for an input, as when its node dies, and the same command again after
+# outputs were lost. The cluster is one node, this machine, with daemons, keys and folders of this test.
 #
 #     tests/many_slurm.sh
 #

@@ -1,8 +1,8 @@
 #!/usr/bin/env bash
-# Runs what docs/MANY.md says of several machines, word for word, over the survey of many.sh: GNU parallel over ssh, and
-# rsync. The machines `one` and `two` are ssh servers of this test on this machine, each in a process namespace of its own,
-# with keys of their own and, but for the last case, with a folder of their own in the place of the survey's. One of them
-# dies in between: its namespace is ended.
+# Runs the commands of docs/MANY.md for several machines, as they stand there, over the survey of many.sh: GNU parallel
+# over ssh, and rsync. The machines `one` and `two` are ssh servers of this test on this machine, each in a process
+# namespace of its own, with keys of their own and, but for the last case, with a folder of their own in the place of the
+# survey's. One of them dies in between: its namespace is ended.
 #
 #     tests/many_ssh.sh
 #

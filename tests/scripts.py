@@ -6,7 +6,7 @@
 Each has its run bit and a first line that says what runs it, and what is only read by others has neither.
 --help answers with an example, on standard output and with the status 0; a word that it doesn't know ends
 it with 2; and a file that is missing, a folder or no file of its kind with 1 and one line. No traceback is
-ever shown, and nothing is written beside the words' files.
+ever shown, and nothing is written beside the words' files. Needs what the tools need: numpy, Pillow and OpenCV.
 """
 
 import os
@@ -17,6 +17,10 @@ import tempfile
 import unittest
 
 TOP = os.path.realpath(os.path.join(os.path.dirname(os.path.abspath(__file__)), ".."))
+sys.path.insert(0, os.path.join(TOP, "tools"))
+
+import sgm_files
+
 FOLDERS = ["tests", "tools", "bench", "packaging", "examples/pair", "examples/photographs", "examples/stockpile"]
 # They take the words of the programs and no others; the programs have no --help either.
 REFERENCES = ["tests/reference.py", "tests/reference_series.py"]
@@ -88,6 +92,10 @@ def write_inputs(folder):
     for name, text in (("cameras.json", CAMERAS), ("calib.txt", CALIB)):
         with open(os.path.join(folder, name), "w") as file:
             file.write(text)
+
+
+def setUpModule():
+    sgm_files.need_for_tests(numpy=sgm_files.numpy, PIL=sgm_files.Image, cv2=sgm_files.package("cv2"))
 
 
 class Manners(unittest.TestCase):

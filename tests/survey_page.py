@@ -7,8 +7,8 @@ python3-selenium).
 The page is that of examples/stockpile/expected. Rectangles are drawn with the mouse, moved by keys and picked by
 their names; bases are typed and taken from the mean of the ground. What the page counts is compared with OUT.csv
 and with what this script counts in OUT.asc, digit by digit. Pages of other surveys have to warn of what is wrong
-with them, and a page of a difference is drawn on as well. Nothing may be fetched, and the browser may not complain. Without --screenshot the picture goes into a
-new file, whose name is printed. Takes half a minute.
+with them, and a page of a difference is drawn on as well. Nothing may be fetched, and the browser may not complain.
+Without --screenshot the picture goes into a new file, whose name is printed. Takes half a minute.
 """
 
 import argparse

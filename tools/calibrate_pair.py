@@ -186,8 +186,9 @@ def words_of():
     option("--left", required=True, nargs="+", metavar="PATH", help="folders or pictures of the left camera")
     option("--right", required=True, nargs="+", metavar="PATH", help="those of the right camera, in the same order")
     option("--board", required=True, type=board_word, metavar="COLSxROWS", help="inner corners of the chessboard")
-    option("--square", required=True, type=positive_word, metavar="LENGTH", help="side of a square, in the unit of T")
-    option("--out", required=True, metavar="FILE.json", help="for tools/opencv_calibration.py")
+    side = "side of a square; the baseline comes out in its unit"
+    option("--square", required=True, type=positive_word, metavar="LENGTH", help=side)
+    option("--out", required=True, metavar="FILE.json", help="the cameras, for tools/opencv_calibration.py")
     option("--worst", type=positive_word, default=1.0, metavar="PIXELS", help="the greatest error that is taken (1)")
     option("--k3", action="store_true", help="fit the third number of radial distortion too, for very wide lenses")
     return parser.parse_args()

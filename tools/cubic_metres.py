@@ -155,13 +155,13 @@ def main():
     parser = argparse.ArgumentParser(description=__doc__.split("\n\n")[0], epilog=epilog)
     parser.add_argument("file", metavar="OUT.csv", help="the report, or the volumes, that sgm has written")
     parser.add_argument("--ground", metavar="NAME", help="the region of flat ground above which others are measured")
-    parser.add_argument("--calibration", metavar="CALIB.json", help="that of the survey; --ground takes it")
+    parser.add_argument("--calibration", metavar="CALIB.json", help="the calibration of the survey; --ground needs it")
     parser.add_argument("--out", metavar="FILE.csv", help="the new table (standard output if not given)")
     digits = "decimals, 0 to 18 (all if not given)"
     parser.add_argument("--digits", type=int, choices=range(19), metavar="N", help=digits)
     words = parser.parse_args()
     if (words.ground is None) != (words.calibration is None):
-        parser.error("--ground and --calibration take each other")
+        parser.error("--ground and --calibration need each other")
     lines = made(words)
     sgm_files.progress("")
     if words.out is None:

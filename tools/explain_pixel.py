@@ -193,7 +193,8 @@ def main():
     check_trace.add_pair(parser)
     parser.add_argument("x", metavar="X", type=check_trace.digits, help="the pixel's column, from 0 at the left")
     parser.add_argument("y", metavar="Y", type=check_trace.digits, help="the pixel's row, from 0 at the top")
-    parser.add_argument("--sgm", metavar="PATH", default=given_program(), help="the program")
+    program = "the program (that of the variable SGM, of this repository, or of the PATH)"
+    parser.add_argument("--sgm", metavar="PATH", default=given_program(), help=program)
     words = parser.parse_args()
     calibration = check_trace.calibration_of(words.calib)
     pair = check_trace.Pair(words.left, words.right, calibration)

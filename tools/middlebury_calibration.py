@@ -109,7 +109,7 @@ def words_of():
     epilog = "Example: tools/middlebury_calibration.py calib.txt --adapt --out calibration.json"
     parser = argparse.ArgumentParser(description=__doc__.split("\n\n")[0], epilog=epilog)
     parser.add_argument("file", metavar="FILE", help="calib.txt of the pair")
-    parser.add_argument("--out", required=True, metavar="FILE.json")
+    parser.add_argument("--out", required=True, metavar="FILE.json", help="the calibration of sgm")
     parser.add_argument("--adapt", action="store_true", help="let P2 follow the image")
     parser.add_argument("--tight", action="store_true", help="disparities vmin to vmax in place of 0 to ndisp - 1")
     help_penalties = "1 to 4000 each (10 120; with --adapt 10 400)"

@@ -8,7 +8,8 @@ camera matrices, the distortions (4, 5, 8, 12 or 14 numbers, the tilt of the sen
 cv2.stereoCalibrate and tools/calibrate_pair.py give them, the first camera being the left one, under the
 names M1 D1 M2 D2 (or K1 K2, or cameraMatrix1 distCoeffs1 and so on), R, T, and the size of the pictures as
 imageSize (or image_width and image_height, or --size WxH). In JSON a matrix is a list of rows or of numbers.
-Where R1 R2 P1 P2 of cv2.stereoRectify are there too, they are used as they are; else they are computed.
+Where R1 R2 P1 P2 of cv2.stereoRectify are there too, they are used as they are, unless --centred or --alpha
+asks for others; else they are computed.
 --unit says in which unit T is.
 
 --mount is the left camera's height above the place where heights are 0, --near and --far bound the
@@ -427,7 +428,7 @@ def words_of():
     parser = argparse.ArgumentParser(description=__doc__.split("\n\n")[0], epilog=epilog, formatter_class=layout)
     option = parser.add_argument
     option("files", nargs="+", metavar="FILE", help="JSON, or YAML or XML of cv2.FileStorage")
-    option("--out", required=True, metavar="FILE.json")
+    option("--out", required=True, metavar="FILE.json", help="the calibration of sgm")
     option("--unit", required=True, choices=MICROMETRES, help="the unit of T")
     distance, least = whole_word(1, 2000000000), "the least distance that is measured"
     option("--near", required=True, type=distance, metavar="MICROMETRES", help=least)
@@ -451,7 +452,7 @@ def words_of():
     numbers = ("NAME", "COL", "ROW", "COLS", "ROWS", "BASE")
     option("--region", nargs=6, action="append", default=[], metavar=numbers, help=region)
     option("--step", type=whole_word(2, 1024), metavar="PIXELS", help="of the meshes; chosen if not given")
-    option("--centred", action="store_true", help="each picture about its own middle, so that doffs isn't 0")
+    option("--centred", action="store_true", help="each picture about its own middle; doffs says by how much these differ")
     option("--alpha", type=part_word, help="of cv2.stereoRectify: 0 fills the picture, 1 loses nothing")
     words = parser.parse_args()
     if words.near > words.far:

@@ -37,7 +37,8 @@ def main():
     parser = argparse.ArgumentParser(description=__doc__.split("\n\n")[0], epilog=epilog)
     parser.add_argument("file", metavar="PHOTO", help="the photograph")
     parser.add_argument("--out", required=True, metavar="FILE.pgm", help="the grey picture")
-    parser.add_argument("--shrink", type=int, default=1, choices=range(1, 17), metavar="N", help="1 to 16 (1)")
+    shrink = "each N x N pixels become one, N being 1 to 16 (1)"
+    parser.add_argument("--shrink", type=int, default=1, choices=range(1, 17), metavar="N", help=shrink)
     words = parser.parse_args()
     sgm_files.need(numpy=numpy, PIL=Image)
     grey = shrunk(sgm_files.read_grey(words.file), words.shrink)

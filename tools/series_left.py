@@ -13,9 +13,9 @@ An entry is done where its outputs are whole, and is left elsewhere:
 - OUT.asc, where CALIB has a grid, has the head of that grid and all of its rows;
 - OUT.csv, where CALIB has regions, has a line for each of them, in their order.
 
-So an output that is absent, was cut short, or is of another size is made again, and an entry that the program refuses is
-always left: it never has outputs. What stood before the series began can't be told from what it has made, and neither can
-outputs of other pictures of the same size: take older outputs away first.
+So an output that is absent, was cut short, or is of another size is made again. An entry that the program refuses gets no
+outputs, so it is left. What stood before the series began can't be told from what it has made, and neither can outputs of
+other pictures of the same size: take older outputs away first.
 
 The entries that are left go to standard output, their four words with a space between them, in the list's order. That is
 a list that the program accepts where it accepts LIST, since entries that are taken away take clashes with them and bring

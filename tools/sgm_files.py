@@ -60,6 +60,14 @@ def need(**modules):
         raise Wrong(f"{' and '.join(missing)} of Python needed: apt-get install {packages} on Debian")
 
 
+def need_for_tests(**modules):
+    """The same for tests by unittest, to be called by their setUpModule: one line, the status 1, and no traceback."""
+    try:
+        need(**modules)
+    except Wrong as error:
+        sys.exit(f"{tool_name()}: {error}")
+
+
 # How a tool runs and ends
 
 

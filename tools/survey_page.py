@@ -8,8 +8,8 @@ on the heights shows its lowest, mean and highest height, its empty cells, and f
 is typed or taken from the mean of another rectangle, counted exactly, and gives the line for the calibration's
 `regions`. The page warns of what the guide says to check: many empty cells, a highest cell far above its
 neighbours, disparities at the ends of the span, ground that slopes (in regions whose name begins with `ground`
-and in rectangles taken for the base). A grid of more than four million cells is shown reduced, and the page
-says so.
+and in the rectangle taken for the base). A grid of more than four million cells is shown reduced: the page
+says so, and what a rectangle counts is then too large, while the table of the regions stays exact.
 
 Where OUT.asc is a difference, as `sgm change` writes it, the page shows it: what rose red, what fell blue, the four
 counts and both volumes of OUT.csv, and the same for the calibration's regions and for a drawn rectangle, with the
@@ -211,7 +211,7 @@ def main():
     epilog = "Example: tools/survey_page.py /tmp/heap --calib calibration.json --left left.pgm"
     parser = argparse.ArgumentParser(description=__doc__.split("\n\n")[0], epilog=epilog)
     parser.add_argument("survey", metavar="OUT", help="the last word of the match, or of the change")
-    calib = "the calibration of that match, or of either"
+    calib = "the calibration of that match, or of either match of the change"
     parser.add_argument("--calib", required=True, metavar="FILE.json", help=calib)
     parser.add_argument("--left", metavar="FILE.pgm", help="the left picture, to be shown too")
     parser.add_argument("--out", metavar="FILE.html", help="the page (OUT.html)")

@@ -16,12 +16,14 @@ sys.path.insert(0, os.path.join(HERE, "..", "examples", "photographs"))
 
 import calibrate_pair as tool
 import make_photographs as made
-from calibrate_pair import Image, numpy
+import sgm_files
+from calibrate_pair import Image, cv2, numpy
 
 
 def setUpModule():
     """The pictures of the board, made once."""
     global folder
+    sgm_files.need_for_tests(numpy=numpy, PIL=Image, cv2=cv2)
     folder = tempfile.TemporaryDirectory()
     for side in ("left", "right"):
         os.makedirs(os.path.join(folder.name, side))

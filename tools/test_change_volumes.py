@@ -14,10 +14,15 @@ HERE = os.path.dirname(os.path.abspath(__file__))
 TOOL = os.path.join(HERE, "change_volumes.py")
 
 import change_volumes as tool
+import sgm_files
 from sgm_files import decimal
 
 NOTHING = -9999999999
 HEAD = "region,cells,empty,fill_m3,cut_m3,net_m3,mean_m,spread_m"
+
+
+def setUpModule():
+    sgm_files.need_for_tests(numpy=sgm_files.numpy)
 
 
 class Changes(unittest.TestCase):

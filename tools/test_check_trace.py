@@ -18,6 +18,7 @@ sys.path.insert(0, os.path.join(HERE, "..", "tests"))
 
 import check_trace as tool
 import reference_matching as matching
+import sgm_files
 from reference_inputs import Image
 
 # The worked example, whose certificates were added up by hand.
@@ -29,6 +30,10 @@ EXAMPLE["penalties"] = {"p1": 1, "p2": 3}
 # and a mesh that stretches both ways.
 SHIFT = {"kind": "projective", "matrix": [4, 0, -1, 0, 4, 0, 0, 0, 4]}
 DOWN = {"kind": "projective", "matrix": [8, 0, 0, 0, 8, 3, 0, 0, 8]}
+
+
+def setUpModule():
+    sgm_files.need_for_tests(numpy=sgm_files.numpy)
 
 
 def mesh(width, height, draw):

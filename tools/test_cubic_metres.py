@@ -239,7 +239,7 @@ class Ground(unittest.TestCase):
         for words in (self.WORDS[:2], self.WORDS[2:]):
             status, out, err, _ = run(self.REPORT, *words, calibration=calibration(1000, *self.AREAS))
             self.assertEqual((status, out), (2, ""))
-            self.assertTrue(err.endswith("cubic_metres.py: error: --ground and --calibration take each other\n"), err)
+            self.assertTrue(err.endswith("cubic_metres.py: error: --ground and --calibration need each other\n"), err)
 
 
 if __name__ == "__main__":

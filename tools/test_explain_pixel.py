@@ -28,6 +28,10 @@ if [ "$1" = {command} ]; then {reference} "$@" | sed '{change}'; else {reference
 """
 
 
+def setUpModule():
+    sgm_files.need_for_tests(numpy=sgm_files.numpy)
+
+
 class Tool(unittest.TestCase):
     def setUp(self):
         folder = tempfile.TemporaryDirectory()

@@ -17,6 +17,10 @@ RAMP = HEAD.format(3, 1) + "0 1000 2000\n"
 EMPTY = HEAD.format(2, 1) + "-2147483648 -2147483648\n"
 
 
+def setUpModule():
+    sgm_files.need_for_tests(numpy=numpy, PIL=sgm_files.Image)
+
+
 def picture(name):
     """The rows of colours of a PNG."""
     with sgm_files.Image.open(name) as image:

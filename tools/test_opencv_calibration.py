@@ -18,6 +18,7 @@ sys.path.insert(0, os.path.join(HERE, "..", "tests"))
 import opencv_calibration as tool
 import reference_inputs as inputs
 import reference_matching as matching
+import sgm_files
 from opencv_calibration import cv2, numpy
 
 LIMITS = "--unit m --near 2000000 --far 4000000 --mount 4000000"
@@ -32,7 +33,7 @@ PLAIN = {
     "T": [-0.5, 0, 0],
 }
 WIDTH, HEIGHT = 320, 240
-# Two unequal cameras with distortion, turned a little against each other; T in millimetres.
+# Two unequal cameras with distortion, turned a little against each other by R (below); T in millimetres.
 MADE = {
     "image_width": WIDTH,
     "image_height": HEIGHT,
@@ -40,10 +41,14 @@ MADE = {
     "distCoeffs1": [-0.21, 0.06, 0.0011, -0.0006, 0.012],
     "cameraMatrix2": [[408.0, 0, 155.0], [0, 407.0, 124.0], [0, 0, 1]],
     "distCoeffs2": [-0.18, 0.04, -0.0007, 0.0008, 0.0],
-    "R": cv2.Rodrigues(numpy.array([0.012, -0.035, 0.016]))[0].tolist(),
     "T": [-398.0, 6.0, 5.0],
 }
 MADE_LIMITS = "--unit mm --near 2000000 --far 5000000 --mount 5000000"
+
+
+def setUpModule():
+    sgm_files.need_for_tests(numpy=numpy, cv2=cv2)
+    MADE["R"] = cv2.Rodrigues(numpy.array([0.012, -0.035, 0.016]))[0].tolist()
 
 
 def run(given, options, name="given.json"):

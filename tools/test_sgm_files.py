@@ -14,6 +14,10 @@ HERE = os.path.dirname(os.path.abspath(__file__))
 HEAD = b"ncols %d\nnrows %d\nxllcorner -2000000000\nyllcorner 7\ncellsize 1000\nNODATA_value -2147483648\n"
 
 
+def setUpModule():
+    sgm_files.need_for_tests(numpy=numpy, PIL=Image)
+
+
 class Files(unittest.TestCase):
     def setUp(self):
         folder = tempfile.TemporaryDirectory()

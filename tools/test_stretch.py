@@ -15,6 +15,10 @@ HEAD = b"ncols %d\nnrows %d\nxllcorner 0\nyllcorner 0\ncellsize 1000\nNODATA_val
 NONE = (200, 0, 120)
 
 
+def setUpModule():
+    sgm_files.need_for_tests(numpy=numpy, PIL=sgm_files.Image)
+
+
 def picture(name):
     """The rows of colours of a PNG that has a palette."""
     with sgm_files.Image.open(name) as image:

@@ -22,6 +22,10 @@ HEAP = os.path.join(HERE, "..", "examples", "stockpile")
 EMPTY = -(2**31)
 
 
+def setUpModule():
+    sgm_files.need_for_tests(numpy=numpy, PIL=sgm_files.Image)
+
+
 class Heap(unittest.TestCase):
     def setUp(self):
         """The example's outputs and calibration, in a folder of their own."""

@@ -15,12 +15,12 @@ prints tables in Markdown, all of them where none is named:
 
 The pictures are those of make_stockpile.py, with the cameras at 8.00 m, where the ground has exactly the
 disparity 32, and at 8.13 m, where it lies between two whole ones, at 31.49; for the table of heights also at
-8.06 and 8.20 m (31.76 and 31.22); tilt and texture have ground of the same grains and nothing on it. Each pair is measured twice from the same sums: in sixteenths, as the
-program does, and in whole disparities, as it would be without them. What is true is computed for each pixel
-from the ray that goes through it. The disparities, points and cells are those of the definitions
-(tests/reference_matching.py); tests/compare.sh shows that the program's are the same. These numbers are for
-people, and use floating point. Takes half a minute to a minute of a processor for each pair and setting, of
-which there are thirteen.
+8.06 and 8.20 m (31.76 and 31.22); tilt and texture have ground of the same grains and nothing on it. Each pair
+is measured twice from the same sums: in sixteenths, as the program does, and in whole disparities, as it would
+be without them. What is true is computed for each pixel from the ray that goes through it. The disparities,
+points and cells are those of the definitions (tests/reference_matching.py); tests/compare.sh shows that the
+program's are the same. These numbers are for people, and use floating point. Takes half a minute to a minute of
+a processor for each pair and setting, of which there are thirteen.
 """
 
 import argparse
