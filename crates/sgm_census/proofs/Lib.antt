@@ -10,3 +10,4 @@ pub mod Limits
 pub mod RowBits
 pub mod PlainCodes
 pub mod CodeRows
+pub mod Threes

@@ -4,11 +4,8 @@ ghost use Rattle.sgm_census.specs.Costs.{cost_between, census_cost};
 ghost use Rattle.sgm_census.specs.Packed.{bits_of, unpacked, HoldsSmall};
 
 use crate::code_plane::{CodePlane, CodeRow};
-use sgm_base::{MAX_COST, MAX_COUNT, Overlap, Span};
-use sgm_lanes::{differing, hamming};
-
-/// The words that a code is written to, one for each index.
-const INDICES: usize = MAX_COUNT as usize;
+use sgm_base::{MAX_COST, Overlap, Span};
+use sgm_lanes::{differing, hamming_to};
 
 /// Replaces by `greatest` the costs where there is no code.
 fn mask(present: &[bool], greatest: u8, into: &mut [u8])
@@ -22,25 +19,16 @@ fn mask(present: &[bool], greatest: u8, into: &mut [u8])
     }
 }
 
-/// Writes the costs of a code against each of some others. What `repeated` holds does not matter.
-fn cost_each(
-    code: u64,
-    words: &[u64],
-    present: &[bool],
-    greatest: u8,
-    repeated: &mut [u64],
-    into: &mut [u8],
-)
+/// Writes the costs of a code against each of some others.
+fn cost_each(code: u64, words: &[u64], present: &[bool], greatest: u8, into: &mut [u8])
     requires words_length { length words.now ≡ length into.old }
     requires present_length { length present.now ≡ length into.old }
-    requires repeated_length { length repeated.old ≡ length into.old }
     requires code { code < 2 ^ greatest }
     requires words { HoldsSmall greatest words.now }
     ensures { EachIndex into.new (λ k. slice_index into.new k
         ≡ cost_between greatest (Some (bits_of greatest code)) (unpacked greatest words.now present.now k)) }
 {
-    repeated.fill(code);
-    hamming(repeated, words, into);
+    hamming_to(code, words, into);
     mask(present, greatest, into);
 }
 
@@ -51,7 +39,6 @@ fn cost_pixel(
     greatest: u8,
     span: Span,
     place: usize,
-    repeated: &mut [u64],
     into: &mut [u8],
 )
     requires place { place < length left.words.now }
@@ -60,7 +47,6 @@ fn cost_pixel(
     requires right_present { length right.present.now ≡ length left.words.now }
     requires left_small { HoldsSmall greatest left.words.now }
     requires right_small { HoldsSmall greatest right.words.now }
-    requires room { span.count ≤ length repeated.old }
     requires whole { length into.old ≡ span.count }
     ensures { (d : ℕ) → d < span.count → slice_index into.new d
         ≡ cost_between greatest (unpacked greatest left.entry.words.now left.entry.present.now place)
@@ -81,7 +67,6 @@ fn cost_pixel(
         &right.words[there.start..end],
         &right.present[there.start..end],
         greatest,
-        &mut repeated[..there.len],
         inside,
     );
     after.fill(greatest);
@@ -105,12 +90,11 @@ pub fn cost_row(left: &CodePlane, right: &CodePlane, span: Span, y: u32, into: &
     let greatest = left.window().greatest();
     let (left, right) = (left.row(y), right.row(y));
     let width = left.words.len();
-    let mut repeated = [0; INDICES];
     for x in 0..width {
         let (_, rest) = into.split_at_mut(x * count);
         let (cells, _) = rest.split_at_mut(count);
         let place = width - 1 - x;
-        cost_pixel(left, right, greatest, span, place, &mut repeated, cells);
+        cost_pixel(left, right, greatest, span, place, cells);
     }
 }
 

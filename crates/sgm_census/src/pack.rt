@@ -56,6 +56,74 @@ fn append(bits: &[u16], by: u32, words: &mut [u64])
     }
 }
 
+/// The bits with three more: whether the values from `at` on are less than the centre.
+#[inline]
+fn three_more(bits: u16, values: &[u16], at: usize, centre: u16) -> u16
+    requires room { bits < 2 ^ 13 }
+    requires inside { at + 2 < length values.now }
+    ensures { result ≡ pushed bits (lesser centre (take 3 (drop at values.now))) }
+{
+    let high = 4 * u16::from(values[at] < centre) + 2 * u16::from(values[at + 1] < centre);
+    8 * bits + (high + u16::from(values[at + 2] < centre))
+}
+
+/// The bits of nine values from `at` on.
+#[inline]
+fn nine_bits(values: &[u16], at: usize, centre: u16) -> u16
+    requires { at + 8 < length values.now }
+    ensures { result ≡ pushed 0 (lesser centre (take 9 (drop at values.now))) }
+{
+    let three = three_more(0, values, at, centre);
+    let six = three_more(three, values, at + 3, centre);
+    three_more(six, values, at + 6, centre)
+}
+
+/// Writes nine bits for each place: whether the value there and those after it are less than the centre.
+fn write_nine(values: &[u16], centres: &[u16], bits: &mut [u16])
+    requires values_length { length bits.old + 8 ≤ length values.now }
+    requires centres_length { length centres.now ≡ length bits.old }
+    ensures { EachIndex bits.new (λ k. slice_index bits.new k
+        ≡ pushed 0 (lesser (slice_index centres.now k) (take 9 (drop k values.now)))) }
+{
+    for k in 0..bits.len() {
+        bits[k] = nine_bits(values, k, centres[k]);
+    }
+}
+
+/// Pushes three bits for each place: whether the value there and the two after it are less than the
+/// centre. So the bits are read and written once for three values.
+fn push_three(values: &[u16], centres: &[u16], bits: &mut [u16])
+    requires values_length { length values.now ≡ length bits.old + 2 }
+    requires centres_length { length centres.now ≡ length bits.old }
+    requires room { (k : ℕ) → k < length bits.old → slice_index bits.old k < 2 ^ 13 }
+    ensures { EachIndex bits.new (λ k. slice_index bits.new k
+        ≡ pushed (slice_index bits.old k) (lesser (slice_index centres.now k) (take 3 (drop k values.now)))) }
+{
+    for k in 0..bits.len() {
+        bits[k] = three_more(bits[k], values, k, centres[k]);
+    }
+}
+
+/// Writes for each place the bits of the threes of places in a row of its window.
+fn write_threes(row: &[u16], centres: &[u16], threes: usize, bits: &mut [u16])
+    requires few { threes ≤ 3 }
+    requires row_length { length bits.old + 3 * threes ≤ length row.now + 1 }
+    requires centres_length { length centres.now ≡ length bits.old }
+    ensures { EachIndex bits.new (λ k. slice_index bits.new k
+        ≡ pushed 0 (lesser (slice_index centres.now k) (take (3 * threes) (drop k row.now)))) }
+{
+    // The widest window, which is the usual one.
+    if threes == 3 {
+        write_nine(row, centres, bits);
+        return;
+    }
+    bits.fill(0);
+    let len = bits.len();
+    for i in 0..threes {
+        push_three(&row[3 * i..3 * i + len + 2], centres, bits);
+    }
+}
+
 /// Pushes to each word the bits of a row of its window, which is so wide. What `bits` holds before does
 /// not matter.
 fn push_row(row: &[u16], centres: &[u16], wide: usize, bits: &mut [u16], words: &mut [u64])
@@ -67,12 +135,25 @@ fn push_row(row: &[u16], centres: &[u16], wide: usize, bits: &mut [u16], words: 
     ensures { EachIndex words.new (λ k. slice_index words.new k
         ≡ pushed (slice_index words.old k) (lesser (slice_index centres.now k) (take wide (drop k row.now)))) }
 {
-    bits.fill(0);
     let len = bits.len();
-    for i in 0..wide {
+    let threes = wide / 3;
+    write_threes(row, centres, threes, bits);
+    for i in 3 * threes..wide {
         push_bits(&row[i..i + len], centres, bits);
     }
     append(bits, wide as u32, words);
+}
+
+/// Whether all marks are set.
+fn all_set(marks: &[bool]) -> bool
+    ensures { result ≡ list_all (λ t. t) marks.now }
+{
+    let mut all = true;
+    // No way out within, so that many marks are read at once.
+    for mark in marks {
+        all = all & *mark;
+    }
+    all
 }
 
 /// Keeps the marks where there is another.
@@ -92,6 +173,10 @@ fn keep_row(row: &[bool], wide: usize, present: &mut [bool])
     ensures { EachIndex present.new (λ k. slice_index_or present.new k false
         ≡ (slice_index_or present.old k false && list_all (λ t. t) (take wide (drop k row.now)))) }
 {
+    // Most rows have no void pixel.
+    if all_set(row) {
+        return;
+    }
     let len = present.len();
     for i in 0..wide {
         keep(&row[i..i + len], present);

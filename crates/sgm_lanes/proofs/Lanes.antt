@@ -62,3 +62,16 @@ Contains-min xs a b ca cb =
     ⊎_elim (λ (x : a < b). let e : a ≡ min a b = omega arith in subst (Contains xs) e ca)
     (λ (x : b ≤ a). let e : b ≡ min a b = omega arith in subst (Contains xs) e cb)
     (cases_lt a b)
+
+-- ---- sums, to which a chunk of values is added
+pub chunk_added : (first old new values new_values lanes : List ℕ) (at next : ℕ) → next ≡ at + 16 → ((k : ℕ) → k < at → get_or old k 0 ≡ get_or first k 0 + get_or values k 0)
+    → ((k : ℕ) → at ≤ k → get_or old k 0 ≡ get_or first k 0)
+    → ((i : ℕ) → i < 16 → get_or new_values (at + i) 0 ≡ get_or lanes i 0) → ((k : ℕ) → (k < at) ⊎ (at + 16 ≤ k) → get_or new_values k 0 ≡ get_or values k 0)
+    → ((i : ℕ) → i < 16 → get_or new (at + i) 0 ≡ get_or old (at + i) 0 + get_or lanes i 0) → ((k : ℕ) → (k < at) ⊎ (at + 16 ≤ k) → get_or new k 0 ≡ get_or old k 0)
+    → (k : ℕ) → k < next → get_or new k 0 ≡ get_or first k 0 + get_or new_values k 0
+chunk_added first old new values new_values lanes at next is added left value_inside value_outside inside outside k lt =
+    ⊎_elim (λ (x : k < at). omega (arith, added k x, value_outside k (inl x), outside k (inl x)))
+    (λ (x : at ≤ k). let i = k - at in let same : at + i ≡ k = omega arith in let few : i < 16 = omega arith in
+    subst (λ n. get_or new n 0 ≡ get_or first n 0 + get_or new_values n 0) same
+    (omega (arith, inside i few, left (at + i) (omega arith), value_inside i few)))
+    (cases_lt k at)

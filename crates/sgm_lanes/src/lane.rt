@@ -77,6 +77,18 @@ pub(crate) fn store(lanes: u16x16, at: usize, into: &mut [u16])
     lanes.copy_to_slice(&mut into[at..]);
 }
 
+/// Adds the lanes to the values from `at` on.
+#[inline]
+pub(crate) fn increase(lanes: u16x16, at: usize, sums: &mut [u16])
+    requires inside { (at + LANES ≤ length sums.old) × (length lanes ≡ LANES) }
+    requires fits { (i : ℕ) → i < LANES → slice_index sums.old (at + i) + slice_index lanes i < 2 ^ 16 }
+    ensures inside { (i : ℕ) → i < LANES → slice_index sums.new (at + i) ≡ slice_index sums.old (at + i) + slice_index lanes i }
+    ensures outside { (k : ℕ) → (k < at) ⊎ (at + LANES ≤ k) → slice_index sums.new k ≡ slice_index sums.old k }
+{
+    let both = plus(load(sums, at), lanes);
+    store(both, at, sums);
+}
+
 /// Each lane's left neighbour: that of the first is the last of `behind`.
 #[inline]
 pub(crate) fn neighbours_left(behind: u16x16, lanes: u16x16) -> u16x16

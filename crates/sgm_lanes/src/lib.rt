@@ -8,9 +8,9 @@ mod minimum;
 mod recurrence;
 mod sums;
 
-pub use codes::{differing, hamming};
+pub use codes::{differing, hamming, hamming_to};
 pub use minimum::least;
-pub use recurrence::step;
+pub use recurrence::{add_step, step};
 pub use sums::add;
 
 #[cfg(test)]

@@ -1,12 +1,13 @@
 // One step of the recurrence of path values: whole chunks, then the rest index by index.
-ghost use Rattle.std.specs.Prelude.{◌≡◌, ℕ, ◌+◌, ◌-◌, ◌*◌, ◌/◌, ◌<◌, ◌≤◌, length, slice_index, EachIndex, All, Contains, nat_lt, if◌then◌else◌};
+ghost use Rattle.std.specs.Prelude.{◌≡◌, ℕ, ◌+◌, ◌-◌, ◌*◌, ◌/◌, ◌^◌, ◌<◌, ◌≤◌, length, slice_index, EachIndex, All, Contains, nat_lt, if◌then◌else◌};
 ghost use Rattle.sgm_terms.specs.Step.{IsStepped};
 ghost use Rattle.sgm_lanes.specs.Steps.{CanStep, StepsTo};
 
 use crate::lane::{
-    LANES, lesser, load, load_bytes, minus, neighbours_left, neighbours_right, plus, repeated,
-    store,
+    LANES, increase, lesser, load, load_bytes, minus, neighbours_left, neighbours_right, plus,
+    repeated, store,
 };
+use crate::sums::add_rest;
 use sgm_base::{MAX_COST, MAX_PATH_VALUE, MAX_PENALTY};
 use std::simd::prelude::*;
 
@@ -97,6 +98,47 @@ fn step_chunks(prev: &[u16], floor: u16, cost: &[u8], p1: u16, p2: u16, into: &m
     store(lanes, at, into);
 }
 
+/// The step at the indices of the whole chunks, each value added to the sum at its place.
+#[inline]
+fn add_step_chunks(
+    prev: &[u16],
+    floor: u16,
+    cost: &[u8],
+    p1: u16,
+    p2: u16,
+    into: &mut [u16],
+    sums: &mut [u16],
+)
+    requires can { CanStep prev.now floor cost.now p1 p2 }
+    requires prev_length { length prev.now ≡ length into.old }
+    requires sums_length { length sums.old ≡ length into.old }
+    requires room { EachIndex sums.old (λ k. slice_index sums.old k + MAX_PATH_VALUE < 2 ^ 16) }
+    ensures steps { (d : ℕ) → d < LANES * (length prev.now / LANES) → StepsTo prev.now floor cost.now p1 p2 d (slice_index into.new d) }
+    ensures added { (d : ℕ) → d < LANES * (length prev.now / LANES) → slice_index sums.new d ≡ slice_index sums.old d + slice_index into.new d }
+    ensures rest { (k : ℕ) → LANES * (length prev.now / LANES) ≤ k → slice_index sums.new k ≡ slice_index sums.old k }
+{
+    let chunks = prev.len() / LANES;
+    if chunks == 0 {
+        return;
+    }
+    let mut last = repeated(ABSENT);
+    // As in `step_chunks`.
+    for number in 0..chunks - 1 {
+        let at = LANES * number;
+        let left = lefts(prev, at, last);
+        let right = load(prev, at + 1);
+        let lanes = chunk(prev, floor, cost, p1, p2, at, left, right);
+        store(lanes, at, into);
+        increase(lanes, at, sums);
+        last = load(prev, at);
+    }
+    let at = LANES * (chunks - 1);
+    let left = lefts(prev, at, last);
+    let end = chunk(prev, floor, cost, p1, p2, at, left, rights(prev, at));
+    store(end, at, into);
+    increase(end, at, sums);
+}
+
 /// One step's value at the index `d`, which may be the first or the last.
 #[inline]
 #[tactic(auto, unfolding(sgm_terms::specs::Step::carried))]
@@ -181,4 +223,34 @@ pub fn step(prev: &[u16], floor: u16, cost: &[u8], p1: u16, p2: u16, into: &mut 
         LANES * (prev.len() / LANES),
         into,
     );
+}
+
+/// One step as [`step`] makes it, whose values are added to the sums at their places while they are at
+/// hand. All four slices have one length, and each sum has room for the greatest path value.
+pub fn add_step(
+    prev: &[u16],
+    floor: u16,
+    cost: &[u8],
+    p1: u16,
+    p2: u16,
+    into: &mut [u16],
+    sums: &mut [u16],
+)
+    requires some { 0 < length into.old }
+    requires prev_length { length prev.now ≡ length into.old }
+    requires cost_length { length cost.now ≡ length into.old }
+    requires sums_length { length sums.old ≡ length into.old }
+    requires floor_contained { Contains prev.now floor }
+    requires floor_least { All (λ x. floor ≤ x) prev.now }
+    requires penalties { (p1 ≤ p2) × (p2 ≤ MAX_PENALTY) }
+    requires values { All (λ x. x ≤ MAX_PATH_VALUE) prev.now }
+    requires costs { All (λ x. x ≤ MAX_COST) cost.now }
+    requires room { EachIndex sums.old (λ k. slice_index sums.old k + MAX_PATH_VALUE < 2 ^ 16) }
+    ensures steps { EachIndex into.new (λ d. IsStepped (slice_index prev.now) (length prev.now) p1 p2 floor (slice_index cost.now d) d (slice_index into.new d)) }
+    ensures added { EachIndex sums.new (λ k. slice_index sums.new k ≡ slice_index sums.old k + slice_index into.new k) }
+{
+    add_step_chunks(prev, floor, cost, p1, p2, into, sums);
+    let rest = LANES * (prev.len() / LANES);
+    step_rest(prev, floor, cost, p1, p2, rest, into);
+    add_rest(sums, into, rest);
 }

@@ -1,7 +1,7 @@
 // Each kernel against a plain loop, at every length up to eight chunks and a rest.
 ghost use Rattle.std.specs.Prelude.{◌≡◌, ◌<◌, ◌≤◌, length, All};
 
-use super::{add, hamming, least, step};
+use super::{add, add_step, hamming, hamming_to, least, step};
 
 const MOST: usize = 130;
 
@@ -70,6 +70,24 @@ fn hamming_of_every_length(rt: HostRuntime) {
 }
 
 #[test]
+fn hamming_to_one_word_of_every_length(rt: HostRuntime) {
+    let words = words(2);
+    let word = 0x9e37_79b9_7f4a_7c15;
+    for n in 0..MOST + 1 {
+        let mut into = [99u8; MOST];
+        hamming_to(word, &words[..n], &mut into[..n]);
+        for k in 0..MOST {
+            let want = if k < n {
+                (word ^ words[k]).count_ones()
+            } else {
+                99
+            };
+            assert_eq!(rt; u32::from(into[k]), want, "at {k} of {n}");
+        }
+    }
+}
+
+#[test]
 fn least_of_every_length(rt: HostRuntime) {
     let values = values(4063);
     for n in 1..MOST + 1 {
@@ -118,6 +136,38 @@ fn step_of_every_length(rt: HostRuntime) {
                 );
             }
         }
+    }
+}
+
+/// Whether a step that adds writes what a step writes, and adds just that.
+fn adds_its_step(prev: &[u16], cost: &[u8], before: &[u16; MOST]) -> bool
+    requires some { 0 < length prev.now }
+    requires few { length prev.now ≤ MOST }
+    requires cost_length { length cost.now ≡ length prev.now }
+    requires values { All (λ x. x < 4063) prev.now }
+    requires costs { All (λ c. c ≤ 62) cost.now }
+    requires before_length { length before.now ≡ MOST }
+    requires before { All (λ s. s < 40000) before.now }
+{
+    let (n, floor) = (prev.len(), least(prev));
+    let (mut into, mut again) = ([9999u16; MOST], [9999u16; MOST]);
+    let mut sums = *before;
+    step(prev, floor, cost, 7, 60, &mut into[..n]);
+    add_step(prev, floor, cost, 7, 60, &mut again[..n], &mut sums[..n]);
+    for d in 0..MOST {
+        let more = if d < n { into[d] } else { 0 };
+        if again[d] != into[d] || sums[d] != before[d].wrapping_add(more) {
+            return false;
+        }
+    }
+    true
+}
+
+#[test]
+fn add_step_of_every_length(rt: HostRuntime) {
+    let (before, values, costs) = (values(40000), values(4063), costs());
+    for n in 1..MOST + 1 {
+        assert!(rt; adds_its_step(&values[..n], &costs[..n], &before), "of {n}");
     }
 }
 

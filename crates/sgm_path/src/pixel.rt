@@ -5,7 +5,7 @@ ghost use Rattle.sgm_path.specs.Paths.{Follows};
 
 use sgm_base::{MAX_COST, MAX_PATH_VALUE, MAX_PENALTY};
 use sgm_energy::Pen;
-use sgm_lanes::{add, least, step};
+use sgm_lanes::{add, add_step, least, step};
 
 /// The penalty of a change by more than one between two pixels with these grey values. `ADAPTIVE` is
 /// whether the pen is: with a fixed one nothing is left of it but the pen's penalty.
@@ -36,6 +36,25 @@ fn follow(prev: &[u16], costs: &[u8], p1: u16, far: u16, into: &mut [u16])
     ensures bound { All (λ v. v ≤ MAX_PATH_VALUE) into.new }
 {
     step(prev, least(prev), costs, p1, far, into);
+}
+
+/// The same, and each value is added to the sum at its place.
+#[inline]
+fn add_follow(prev: &[u16], costs: &[u8], p1: u16, far: u16, into: &mut [u16], sums: &mut [u16])
+    requires some { 0 < length prev.now }
+    requires prev_length { length prev.now ≡ length into.old }
+    requires costs_length { length costs.now ≡ length into.old }
+    requires sums_length { length sums.old ≡ length into.old }
+    requires penalties { (p1 ≤ far) × (far ≤ MAX_PENALTY) }
+    requires values { All (λ v. v ≤ MAX_PATH_VALUE) prev.now }
+    requires costs { All (λ c. c ≤ MAX_COST) costs.now }
+    requires room { EachIndex sums.old (λ k. slice_index sums.old k + MAX_PATH_VALUE < 2 ^ 16) }
+    ensures each { EachIndex into.new
+        (λ d. Follows (slice_index prev.now) (length prev.now) p1 far (slice_index costs.now d) d (slice_index into.new d)) }
+    ensures bound { All (λ v. v ≤ MAX_PATH_VALUE) into.new }
+    ensures added { EachIndex sums.new (λ k. slice_index sums.new k ≡ slice_index sums.old k + slice_index into.new k) }
+{
+    add_step(prev, least(prev), costs, p1, far, into, sums);
 }
 
 /// The values of a pixel that begins a ray: its costs.
@@ -123,4 +142,78 @@ pub(crate) fn add_at(values: &[u16], count: usize, at: usize, sums: &mut [u16])
     let (_, rest) = sums.split_at_mut(at);
     let (here, _) = rest.split_at_mut(count);
     add(here, &values[at..at + count]);
+}
+
+/// As [`from_right`], and adds the values to the sums of the pixel, which begin at the same place.
+#[inline]
+pub(crate) fn add_from_right(
+    costs: &[u8],
+    count: usize,
+    p1: u16,
+    far: u16,
+    at: usize,
+    into: &mut [u16],
+    sums: &mut [u16],
+)
+    requires positive { 0 < count }
+    requires inside { (at + count) + count ≤ length into.old }
+    requires same_length { length costs.now ≡ length into.old }
+    requires sums_length { length sums.old ≡ length into.old }
+    requires penalties { (p1 ≤ far) × (far ≤ MAX_PENALTY) }
+    requires costs { All (λ c. c ≤ MAX_COST) costs.now }
+    requires values { (k : ℕ) → at + count ≤ k → k < length into.old → slice_index into.old k ≤ MAX_PATH_VALUE }
+    requires room { (d : ℕ) → d < count → slice_index sums.old (at + d) + MAX_PATH_VALUE < 2 ^ 16 }
+    ensures others { (k : ℕ) → (k < at) ⊎ (at + count ≤ k) → slice_index into.new k ≡ slice_index into.old k }
+    ensures each { (d : ℕ) → d < count
+        → Follows (λ a. slice_index into.old (at + count + a)) count p1 far (slice_index costs.now (at + d)) d (slice_index into.new (at + d)) }
+    ensures bound { (d : ℕ) → d < count → slice_index into.new (at + d) ≤ MAX_PATH_VALUE }
+    ensures other_sums { (k : ℕ) → (k < at) ⊎ (at + count ≤ k) → slice_index sums.new k ≡ slice_index sums.old k }
+    ensures added { (d : ℕ) → d < count → slice_index sums.new (at + d) ≡ slice_index sums.old (at + d) + slice_index into.new (at + d) }
+{
+    let (front, done) = into.split_at_mut(at + count);
+    let (_, here) = front.split_at_mut(at);
+    let (_, more) = sums.split_at_mut(at);
+    let (here_sums, _) = more.split_at_mut(count);
+    add_follow(
+        &done[..count],
+        &costs[at..at + count],
+        p1,
+        far,
+        here,
+        here_sums,
+    );
+}
+
+/// As [`from_other`], and adds the values to the sums of the pixel, which begin at the same place.
+#[inline]
+pub(crate) fn add_from_other(
+    prev: &[u16],
+    costs: &[u8],
+    p1: u16,
+    far: u16,
+    at: usize,
+    into: &mut [u16],
+    sums: &mut [u16],
+)
+    requires some { 0 < length prev.now }
+    requires inside { at + length prev.now ≤ length into.old }
+    requires same_length { length costs.now ≡ length into.old }
+    requires sums_length { length sums.old ≡ length into.old }
+    requires penalties { (p1 ≤ far) × (far ≤ MAX_PENALTY) }
+    requires costs { All (λ c. c ≤ MAX_COST) costs.now }
+    requires values { All (λ v. v ≤ MAX_PATH_VALUE) prev.now }
+    requires room { (d : ℕ) → d < length prev.now → slice_index sums.old (at + d) + MAX_PATH_VALUE < 2 ^ 16 }
+    ensures others { (k : ℕ) → (k < at) ⊎ (at + length prev.now ≤ k) → slice_index into.new k ≡ slice_index into.old k }
+    ensures each { (d : ℕ) → d < length prev.now
+        → Follows (slice_index prev.now) (length prev.now) p1 far (slice_index costs.now (at + d)) d (slice_index into.new (at + d)) }
+    ensures bound { (d : ℕ) → d < length prev.now → slice_index into.new (at + d) ≤ MAX_PATH_VALUE }
+    ensures other_sums { (k : ℕ) → (k < at) ⊎ (at + length prev.now ≤ k) → slice_index sums.new k ≡ slice_index sums.old k }
+    ensures added { (d : ℕ) → d < length prev.now → slice_index sums.new (at + d) ≡ slice_index sums.old (at + d) + slice_index into.new (at + d) }
+{
+    let count = prev.len();
+    let (_, rest) = into.split_at_mut(at);
+    let (here, _) = rest.split_at_mut(count);
+    let (_, more) = sums.split_at_mut(at);
+    let (here_sums, _) = more.split_at_mut(count);
+    add_follow(prev, &costs[at..at + count], p1, far, here, here_sums);
 }

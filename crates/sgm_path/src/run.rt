@@ -7,7 +7,7 @@ ghost use Rattle.sgm_energy.specs.Energies.{path_value};
 ghost use Rattle.sgm_energy.specs.Rows.{HoldsRow};
 ghost use Rattle.sgm_path.specs.Paths.{far_between, HasFar, RowFollows, StepsAt, Suits};
 
-use crate::pixel::{add_at, begin_at, far_at, from_left, from_right};
+use crate::pixel::{add_at, add_from_right, begin_at, far_at, from_left, from_right};
 use sgm_base::{MAX_COST, MAX_COUNT, MAX_PATH_VALUE};
 use sgm_energy::{Dir, Pen};
 
@@ -76,6 +76,46 @@ fn left_at<const ADAPTIVE: bool>(
     }
 }
 
+/// The same, and each value is added to the sum at its place.
+#[inline]
+fn add_left_at<const ADAPTIVE: bool>(
+    pen: Pen,
+    costs: &[u8],
+    guide: &[Option<u8>],
+    count: usize,
+    width: usize,
+    x: usize,
+    into: &mut [u16],
+    sums: &mut [u16],
+)
+    requires kind { (penalties_of pen).adaptive ≡ ADAPTIVE }
+    requires positive { 0 < count }
+    requires same_length { length costs.now ≡ length into.old }
+    requires guide_length { length guide.now ≡ length into.old / count }
+    requires sums_length { length sums.old ≡ length into.old }
+    requires width { width ≡ length into.old / count }
+    requires inside { x < width }
+    requires costs { All (λ c. c ≤ MAX_COST) costs.now }
+    requires values { (k : ℕ) → (x + 1) * count ≤ k → k < length into.old → slice_index into.old k ≤ MAX_PATH_VALUE }
+    requires room { (d : ℕ) → d < count → slice_index sums.old (x * count + d) + MAX_PATH_VALUE < 2 ^ 16 }
+    ensures others { (k : ℕ) → (k < x * count) ⊎ (x * count + count ≤ k) → slice_index into.new k ≡ slice_index into.old k }
+    ensures bound { (d : ℕ) → d < count → slice_index into.new (x * count + d) ≤ MAX_PATH_VALUE }
+    ensures each { let far = far_between (penalties_of pen) guide.now guide.now in (d : ℕ) → d < count
+        → StepsAt Left width count (penalties_of pen).p1 far into.new costs.now x d (slice_index into.new (x * count + d)) }
+    ensures other_sums { (k : ℕ) → (k < x * count) ⊎ (x * count + count ≤ k) → slice_index sums.new k ≡ slice_index sums.old k }
+    ensures added { (d : ℕ) → d < count
+        → slice_index sums.new (x * count + d) ≡ slice_index sums.old (x * count + d) + slice_index into.new (x * count + d) }
+{
+    let at = x * count;
+    if x + 1 == width {
+        begin_at(costs, count, at, into);
+        add_at(into, count, at, sums);
+    } else {
+        let far = far_at::<ADAPTIVE>(pen, guide[x], guide[x + 1]);
+        add_from_right(costs, count, pen.p1(), far, at, into, sums);
+    }
+}
+
 /// From the right end of the row to the left.
 fn run_left<const ADAPTIVE: bool>(
     pen: Pen,
@@ -122,10 +162,8 @@ fn add_run_left<const ADAPTIVE: bool>(
     ensures added { EachIndex sums.new (λ k. slice_index sums.new k ≡ slice_index sums.old k + slice_index into.new k) }
 {
     let width = into.len() / count;
-    // A pixel's values are added while they are in the first cache.
     for x in (0..width).rev() {
-        left_at::<ADAPTIVE>(pen, costs, guide, count, width, x, into);
-        add_at(into, count, x * count, sums);
+        add_left_at::<ADAPTIVE>(pen, costs, guide, count, width, x, into, sums);
     }
 }
 

@@ -6,7 +6,7 @@ ghost use Rattle.sgm_energy.specs.Energies.{path_value};
 ghost use Rattle.sgm_energy.specs.Rows.{HoldsRow};
 ghost use Rattle.sgm_path.specs.Paths.{far_between, HoldsRowBefore, RowFollows, StepsAt, Suits};
 
-use crate::pixel::{add_at, begin_at, far_at, from_other};
+use crate::pixel::{add_at, add_from_other, begin_at, far_at, from_other};
 use sgm_base::{MAX_COST, MAX_COUNT, MAX_PATH_VALUE};
 use sgm_energy::{Dir, Pen};
 use sgm_lanes::add;
@@ -63,6 +63,56 @@ fn step_at<const ADAPTIVE: bool>(
             from_other(&before[from..from + count], costs, pen.p1(), far, at, into);
         }
         None => begin_at(costs, count, at, into),
+    }
+}
+
+/// The same, and each value is added to the sum at its place.
+#[inline]
+fn add_step_at<const ADAPTIVE: bool>(
+    dir: Dir,
+    pen: Pen,
+    costs: &[u8],
+    before: &[u16],
+    guide: &[Option<u8>],
+    guide_before: &[Option<u8>],
+    count: usize,
+    width: usize,
+    x: usize,
+    into: &mut [u16],
+    sums: &mut [u16],
+)
+    requires kind { (penalties_of pen).adaptive ≡ ADAPTIVE }
+    requires positive { 0 < count }
+    requires same_length { length costs.now ≡ length into.old }
+    requires before_length { length before.now ≡ length into.old }
+    requires guide_length { length guide.now ≡ length into.old / count }
+    requires guide_before_length { length guide_before.now ≡ length into.old / count }
+    requires sums_length { length sums.old ≡ length into.old }
+    requires width { width ≡ length into.old / count }
+    requires inside { x < width }
+    requires costs { All (λ c. c ≤ MAX_COST) costs.now }
+    requires values { All (λ v. v ≤ MAX_PATH_VALUE) before.now }
+    requires room { (d : ℕ) → d < count → slice_index sums.old (x * count + d) + MAX_PATH_VALUE < 2 ^ 16 }
+    ensures others { (k : ℕ) → (k < x * count) ⊎ (x * count + count ≤ k) → slice_index into.new k ≡ slice_index into.old k }
+    ensures bound { (d : ℕ) → d < count → slice_index into.new (x * count + d) ≤ MAX_PATH_VALUE }
+    ensures each { let far = far_between (penalties_of pen) guide.now guide_before.now in (d : ℕ) → d < count
+        → StepsAt dir width count (penalties_of pen).p1 far before.now costs.now x d (slice_index into.new (x * count + d)) }
+    ensures other_sums { (k : ℕ) → (k < x * count) ⊎ (x * count + count ≤ k) → slice_index sums.new k ≡ slice_index sums.old k }
+    ensures added { (d : ℕ) → d < count
+        → slice_index sums.new (x * count + d) ≡ slice_index sums.old (x * count + d) + slice_index into.new (x * count + d) }
+{
+    let at = x * count;
+    match source(dir, width, x) {
+        Some(z) => {
+            let prev = &before[z * count..z * count + count];
+            let (here, there) = (guide[x], guide_before[z]);
+            let far = far_at::<ADAPTIVE>(pen, here, there);
+            add_from_other(prev, costs, pen.p1(), far, at, into, sums);
+        }
+        None => {
+            begin_at(costs, count, at, into);
+            add_at(into, count, at, sums);
+        }
     }
 }
 
@@ -136,9 +186,8 @@ fn add_step_from<const ADAPTIVE: bool>(
     ensures added { EachIndex sums.new (λ k. slice_index sums.new k ≡ slice_index sums.old k + slice_index into.new k) }
 {
     let width = into.len() / count;
-    // A pixel's values are added while they are in the first cache.
     for x in 0..width {
-        step_at::<ADAPTIVE>(
+        add_step_at::<ADAPTIVE>(
             dir,
             pen,
             costs,
@@ -149,8 +198,8 @@ fn add_step_from<const ADAPTIVE: bool>(
             width,
             x,
             into,
+            sums,
         );
-        add_at(into, count, x * count, sums);
     }
 }
 

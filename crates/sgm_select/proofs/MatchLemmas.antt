@@ -1,5 +1,5 @@
 -- The matches of the right image, in sixteenths.
-use Rattle.std.proofs.Common.{◌≡◌, ℕ, ◌*◌, ◌/◌, ◌%◌, ◌<◌, ◌∙◌, List, Option, Some, None, get_or, refl, sym, ap, subst, ℤ}
+use Rattle.std.proofs.Common.{◌≡◌, ℕ, ◌*◌, ◌/◌, ◌%◌, ◌<◌, List, Option, Some, None, get_or, refl, sym, subst, ℤ}
 use Rattle.std.specs.Prelude.{IfSome, option_map, slice_get, All}
 use Rattle.std.specs.List.{range_with_len}
 use Rattle.std.proofs.lemmas.List.Elements.{All-map}

@@ -16,11 +16,11 @@ const NO_KEY: u32 = u32::MAX;
 /// A number for a sum and its index, by which pairs are ordered by their sums, and by the indices where
 /// these are equal. So the least key is that of the least index at which the sum is least.
 #[inline]
-fn key(sum: u16, index: usize) -> u32
+fn key(sum: u16, index: u32) -> u32
     requires { index < MAX_COUNT }
     ensures { result ≡ key_of sum index }
 {
-    MAX_COUNT * u32::from(sum) + index as u32
+    MAX_COUNT * u32::from(sum) + index
 }
 
 /// The least index at which the sums of a pixel are least.
@@ -34,7 +34,7 @@ fn base_at(sums: &[u16]) -> u16
     let mut least = key(sums[0], 0);
     // From 0 on, so that whole chunks of lanes are left.
     for d in 0..sums.len() {
-        least = least.min(key(sums[d], d));
+        least = least.min(key(sums[d], d as u32));
     }
     (least % MAX_COUNT) as u16
 }
@@ -83,8 +83,10 @@ fn lower(keys: &mut [u32], sums: &[u16], skipped: usize)
     ensures { EachIndex keys.new (λ k.
         slice_index keys.new k ≡ min (slice_index keys.old k) (key_of (slice_index sums.now k) (skipped + k))) }
 {
+    // As narrow as the keys, so that as many lanes hold it.
+    let first = skipped as u32;
     for k in 0..keys.len() {
-        keys[k] = keys[k].min(key(sums[k], skipped + k));
+        keys[k] = keys[k].min(key(sums[k], first + k as u32));
     }
 }
 

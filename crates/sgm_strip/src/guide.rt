@@ -34,6 +34,10 @@ fn grey(entry: Option<u16>, maxval: u16) -> Option<u8>
     ensures { result ≡ option_map (λ v. 255 * v / maxval) entry }
 {
     let value = entry?;
+    // So go most images, and a division takes longer than all else here.
+    if maxval == 255 {
+        return Some(value as u8);
+    }
     Some((255 * u32::from(value) / u32::from(maxval)) as u8)
 }
 

@@ -1,6 +1,4 @@
-use Rattle.std.proofs.Common.{get_or, false, ◌∙◌, sym, ap, cond, Some, None, refl}
-use Rattle.sgm_census.specs.Costs.{cost_between}
-use Rattle.sgm_census.specs.Packed.{bits_of}
+use Rattle.std.proofs.Common.{get_or, false, sym, ap, cond}
 use Rattle.sgm_census.proofs.CostWords.{cost-masked}
 use Rattle.sgm_census.proofs.cost.cost_beside.Goals as goal
 

@@ -1,7 +1,11 @@
-use Rattle.std.proofs.Common.{◌+◌, ◌-◌, arith, false, get_or, length}
+use Rattle.std.proofs.Common.{◌+◌, ◌-◌, ◌∙◌, arith, sym, false, get_or, length}
 use Rattle.std.proofs.lemmas.List.{length-drop}
 use Rattle.sgm_census.proofs.RowBits.{marks_more}
+use Rattle.sgm_census.proofs.Threes.{marks_kept}
 use Rattle.sgm_census.proofs.pack.keep_row.Goals as goal
+
+pub returns-then-all_set : goal.returns-then-all_set
+returns-then-all_set c = λ k h. marks_kept (get_or c.args.present.now k false) c.args.row.now k c.args.wide (sym c.all_set.ensures ∙ c.if-all_set.true)
 
 pub loop-i-preserved : goal.loop-i-preserved
 loop-i-preserved c = λ k h.

@@ -15,7 +15,7 @@ pub loop-i-preserved : goal.loop-i-preserved
 loop-i-preserved c = λ k h.
     let row = c.args.row.now in
     let i = c.loop-i.i in
-    bits_more (slice_index c.args.centres.now k) row k i (i + length c.fill.new.self - i) (slice_index c.loop-i.bits k) (slice_index c.push_bits.new.bits k)
+    bits_more (slice_index c.args.centres.now k) row k i (i + length c.args.bits.now - i) (slice_index c.loop-i.bits k) (slice_index c.push_bits.new.bits k)
     (omega arith) (omega (arith, length-drop k row)) (c.loop-i.invariant k (omega arith)) (c.push_bits.ensures k h)
 
 pub append-requires-clause-small : goal.append-requires-clause-small

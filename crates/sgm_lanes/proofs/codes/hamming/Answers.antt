@@ -1,8 +1,10 @@
-use Rattle.std.proofs.Common.{◌≡◌, ◌*◌, slice_index, count_ones, bit_xor, arith}
+use Rattle.std.proofs.Common.{◌≡◌, ◌*◌, ◌∙◌, slice_index, count_ones, bit_xor, ap₂, arith}
 use Rattle.sgm_lanes.proofs.Lanes.{chunk_more}
 use Rattle.sgm_lanes.proofs.codes.hamming.Goals as goal
 
 pub loop-number-preserved : goal.loop-number-preserved
 loop-number-preserved c =
-    chunk_more (λ k x. x ≡ count_ones (bit_xor (slice_index c.args.a.now k) (slice_index c.args.b.now k))) c.loop-number.into c.store.new.into c.differing_from.result
-    (16 * c.loop-number.number) _ (omega arith) c.loop-number.invariant c.differing_from.ensures.each c.store.ensures.inside c.store.ensures.outside
+    chunk_more (λ k x. x ≡ count_ones (bit_xor (slice_index c.args.a.now k) (slice_index c.args.b.now k))) c.loop-number.into c.store.new.into c.differing_lanes.result
+    (16 * c.loop-number.number) _ (omega arith) c.loop-number.invariant
+    (λ i lt. c.differing_lanes.ensures.each i lt ∙ ap₂ (λ x y. count_ones (bit_xor x y)) (c.load.ensures.each i lt) (c.load-in-loop-number.ensures.each i lt))
+    c.store.ensures.inside c.store.ensures.outside

@@ -7,19 +7,19 @@ use Rattle.sgm_path.proofs.run.add_run_left.Goals as goal
 pub loop-x-preserved : goal.loop-x-preserved
 loop-x-preserved g c =
     let old = c.loop-x.into in
-    let new = c.left_at.new.into in
+    let new = c.add_left_at.new.into in
     let x : ℕ = c.loop-x.x - 1 in
     let up : x + 1 ≡ c.loop-x.x = omega arith in
     let count = c.args.count in
     let width : ℕ = length c.args.into.now / count in
     let next : (k : ℕ) → (x + 1) * count ≤ k → c.loop-x.x * count ≤ k = λ k h. omega (arith, h, ap (λ n. n * count) up) in
     record {
-      bound = bound_down old new count x 4062 c.left_at.ensures.others c.left_at.auto.into
-          (λ k h l. c.loop-x.invariant.bound k (next k h) l) c.left_at.ensures.bound;
-      each = left_more width count (penalties_of c.args.pen).p1 (far_between (penalties_of c.args.pen) c.args.guide.now c.args.guide.now) old new c.args.costs.now x c.left_at.ensures.others
-          (λ z d h. c.loop-x.invariant.each z d (omega arith)) c.left_at.ensures.each;
-      added = added_down c.args.sums.now c.loop-x.sums c.add_at.new.sums old new count x c.left_at.ensures.others c.left_at.auto.into c.add_at.ensures.others c.add_at.ensures.each
+      bound = bound_down old new count x 4062 c.add_left_at.ensures.others c.add_left_at.auto.into
+          (λ k h l. c.loop-x.invariant.bound k (next k h) l) c.add_left_at.ensures.bound;
+      each = left_more width count (penalties_of c.args.pen).p1 (far_between (penalties_of c.args.pen) c.args.guide.now c.args.guide.now) old new c.args.costs.now x c.add_left_at.ensures.others
+          (λ z d h. c.loop-x.invariant.each z d (omega arith)) c.add_left_at.ensures.each;
+      added = added_down c.args.sums.now c.loop-x.sums c.add_left_at.new.sums old new count x c.add_left_at.ensures.others c.add_left_at.auto.into c.add_left_at.ensures.other_sums c.add_left_at.ensures.added
           (λ k h l. c.loop-x.invariant.added k (next k h) l)
           (λ k h. c.loop-x.invariant.left k (omega (arith, h, ap (λ n. n * count) up)));
-      left = λ k h. c.add_at.ensures.others k (inl h) ∙ c.loop-x.invariant.left k (omega (arith, h, ap (λ n. n * count) up));
+      left = λ k h. c.add_left_at.ensures.other_sums k (inl h) ∙ c.loop-x.invariant.left k (omega (arith, h, ap (λ n. n * count) up));
     }

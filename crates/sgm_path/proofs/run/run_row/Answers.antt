@@ -1,4 +1,4 @@
-use Rattle.std.proofs.Common.{ℕ, arith}
+use Rattle.std.proofs.Common.{arith}
 use Rattle.sgm_energy.specs.Pens.{penalties_of}
 use Rattle.sgm_path.specs.Paths.{far_between}
 use Rattle.sgm_path.proofs.PathRows.{between-ordered, paths_level}

@@ -1,4 +1,4 @@
-use Rattle.std.proofs.Common.{◌≡◌, ◌+◌, ◌*◌, ◌<◌, ◌∙◌, ◌++◌, sym, ap, arith, drop, get_or, length, None}
+use Rattle.std.proofs.Common.{◌≡◌, ◌+◌, ◌*◌, ◌∙◌, ◌++◌, sym, ap, arith, drop, get_or, length, None}
 use Rattle.std.specs.Prelude.{option_map}
 use Rattle.sgm_select.specs.Selection.{matched}
 use Rattle.sgm_select.proofs.Selected.{entries_more}

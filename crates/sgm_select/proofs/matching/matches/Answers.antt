@@ -1,4 +1,4 @@
-use Rattle.std.proofs.Common.{◌≡◌, ◌*◌, ◌<◌, ℕ, map, subst, sym, arith, Result, Ok, Err, Option}
+use Rattle.std.proofs.Common.{◌≡◌, ◌*◌, ◌<◌, ℕ, map, subst, sym, Result, Ok, Err}
 use Rattle.std.specs.Prelude.{IfOk, IfSome, All}
 use Rattle.sgm_base.specs.Values.{Values}
 use Rattle.sgm_strip.specs.Scenes.{problem_of}

@@ -1,0 +1,22 @@
+use Rattle.std.proofs.Common.{◌+◌, ◌-◌, ◌<◌, sym, arith, slice_index, length, refl}
+use Rattle.sgm_path.proofs.Follow.{follows_part, mid_at, part_at}
+use Rattle.sgm_path.proofs.pixel.add_from_other.Goals as goal
+
+pub returns-clause-each : goal.returns-clause-each
+returns-clause-each c d h =
+    let front = c.split_at_mut-rest.result.0.now in
+    let back = c.split_at_mut-here.result.1.now in
+    let prev = c.args.prev.now in
+    let lt : d < length c.add_follow.new.into = omega (arith, c.add_follow.auto.into, c.split_at_mut-here.ensures.front_len) in
+    follows_part prev (slice_index prev) (length prev) c.args.p1 c.args.far _ (slice_index c.args.costs.now (c.args.at + d)) d (slice_index c.add_follow.new.into d) _
+    refl h (λ k hk. refl)
+    (part_at c.args.costs.now c.args.at (c.args.at + length prev - c.args.at) d (omega arith))
+    (sym (mid_at front c.add_follow.new.into back c.args.at d c.split_at_mut-rest.ensures.front_len lt))
+    (c.add_follow.ensures.each d lt)
+
+pub returns-clause-bound : goal.returns-clause-bound
+returns-clause-bound c d h =
+    let front = c.split_at_mut-rest.result.0.now in
+    let back = c.split_at_mut-here.result.1.now in
+    let lt : d < length c.add_follow.new.into = omega (arith, c.add_follow.auto.into, c.split_at_mut-here.ensures.front_len) in
+    omega (arith, mid_at front c.add_follow.new.into back c.args.at d c.split_at_mut-rest.ensures.front_len lt, c.add_follow.ensures.bound d 0 lt)
