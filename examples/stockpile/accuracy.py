@@ -20,7 +20,7 @@ is measured twice from the same sums: in sixteenths, as the program does, and in
 be without them. What is true is computed for each pixel from the ray that goes through it. The disparities,
 points and cells are those of the definitions (tests/reference_matching.py); tests/compare.sh shows that the
 program's are the same. These numbers are for people, and use floating point. Takes half a minute to a minute of
-a processor for each pair and setting, of which there are thirteen.
+a processor for each pair and setting, of which there are fifteen.
 """
 
 import argparse
@@ -45,7 +45,7 @@ MORE_HEIGHTS = (8_000_000, 8_060_000, 8_130_000, 8_200_000)
 CELLS = (50_000, 100_000, 125_000, 150_000, 250_000)
 METRE = 1_000_000
 # Windows and first penalties beside the example's own. Its second penalty is kept.
-SETTINGS = (((7, 7), 24), ((7, 5), 17), ((5, 5), 14))
+SETTINGS = (((7, 7), 24), ((7, 5), 10), ((7, 5), 17), ((5, 5), 14))
 # In 128ths, from that of the example's ground on, for bands of rows.
 CONTRASTS = (80, 40, 20, 10, 5, 0)
 # West, east, south and north ends of the example's two regions: a box that holds the cone, and flat ground.
