@@ -8,6 +8,7 @@ use sgm_base::{MAX_COST, Overlap, Span};
 use sgm_lanes::{differing, hamming_to};
 
 /// Replaces by `greatest` the costs where there is no code.
+#[inline(always)]
 fn mask(present: &[bool], greatest: u8, into: &mut [u8])
     requires { length present.now ≡ length into.old }
     ensures { EachIndex into.new (λ k.
@@ -20,6 +21,7 @@ fn mask(present: &[bool], greatest: u8, into: &mut [u8])
 }
 
 /// Writes the costs of a code against each of some others.
+#[inline(always)]
 fn cost_each(code: u64, words: &[u64], present: &[bool], greatest: u8, into: &mut [u8])
     requires words_length { length words.now ≡ length into.old }
     requires present_length { length present.now ≡ length into.old }
@@ -33,6 +35,7 @@ fn cost_each(code: u64, words: &[u64], present: &[bool], greatest: u8, into: &mu
 }
 
 /// Writes the costs of the pixel whose code stands at `place` in its row, index by index.
+#[inline(always)]
 fn cost_pixel(
     left: CodeRow,
     right: CodeRow,

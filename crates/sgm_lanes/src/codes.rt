@@ -71,6 +71,7 @@ pub fn hamming(a: &[u64], b: &[u64], into: &mut [u8])
 
 /// Writes, for each place, how many bits of the one word and of the word there differ: [`hamming`] with
 /// that word at each place. The two slices have one length.
+#[inline(always)]
 pub fn hamming_to(word: u64, words: &[u64], into: &mut [u8])
     requires { length words.now ≡ length into.old }
     ensures { EachIndex into.new (λ k. slice_index into.new k ≡ count_ones (bit_xor word (slice_index words.now k))) }

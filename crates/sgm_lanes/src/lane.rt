@@ -7,7 +7,7 @@ use std::simd::prelude::*;
 pub(crate) const LANES: usize = 16;
 
 /// The same value in each lane.
-#[inline]
+#[inline(always)]
 pub(crate) fn repeated(value: u16) -> u16x16
     ensures len { length result ≡ LANES }
     ensures each { (i : ℕ) → i < LANES → slice_index result i ≡ value }
@@ -16,7 +16,7 @@ pub(crate) fn repeated(value: u16) -> u16x16
 }
 
 /// The lesser of two values in each lane.
-#[inline]
+#[inline(always)]
 pub(crate) fn lesser(a: u16x16, b: u16x16) -> u16x16
     requires { (length a ≡ LANES) × (length b ≡ LANES) }
     ensures len { length result ≡ LANES }
@@ -26,7 +26,7 @@ pub(crate) fn lesser(a: u16x16, b: u16x16) -> u16x16
 }
 
 /// The sum of two values in each lane.
-#[inline]
+#[inline(always)]
 pub(crate) fn plus(a: u16x16, b: u16x16) -> u16x16
     requires lens { (length a ≡ LANES) × (length b ≡ LANES) }
     requires fits { (i : ℕ) → i < LANES → slice_index a i + slice_index b i < 2 ^ 16 }
@@ -37,7 +37,7 @@ pub(crate) fn plus(a: u16x16, b: u16x16) -> u16x16
 }
 
 /// The difference of two values in each lane.
-#[inline]
+#[inline(always)]
 pub(crate) fn minus(a: u16x16, b: u16x16) -> u16x16
     requires lens { (length a ≡ LANES) × (length b ≡ LANES) }
     requires fits { (i : ℕ) → i < LANES → slice_index b i ≤ slice_index a i }
@@ -48,7 +48,7 @@ pub(crate) fn minus(a: u16x16, b: u16x16) -> u16x16
 }
 
 /// The values from `at` on.
-#[inline]
+#[inline(always)]
 pub(crate) fn load(values: &[u16], at: usize) -> u16x16
     requires { at + LANES ≤ length values.now }
     ensures len { length result ≡ LANES }
@@ -58,7 +58,7 @@ pub(crate) fn load(values: &[u16], at: usize) -> u16x16
 }
 
 /// The bytes from `at` on.
-#[inline]
+#[inline(always)]
 pub(crate) fn load_bytes(bytes: &[u8], at: usize) -> u16x16
     requires { at + LANES ≤ length bytes.now }
     ensures len { length result ≡ LANES }
@@ -68,7 +68,7 @@ pub(crate) fn load_bytes(bytes: &[u8], at: usize) -> u16x16
 }
 
 /// Writes the lanes from `at` on.
-#[inline]
+#[inline(always)]
 pub(crate) fn store(lanes: u16x16, at: usize, into: &mut [u16])
     requires { (at + LANES ≤ length into.old) × (length lanes ≡ LANES) }
     ensures inside { (i : ℕ) → i < LANES → slice_index into.new (at + i) ≡ slice_index lanes i }
@@ -78,7 +78,7 @@ pub(crate) fn store(lanes: u16x16, at: usize, into: &mut [u16])
 }
 
 /// Adds the lanes to the values from `at` on.
-#[inline]
+#[inline(always)]
 pub(crate) fn increase(lanes: u16x16, at: usize, sums: &mut [u16])
     requires inside { (at + LANES ≤ length sums.old) × (length lanes ≡ LANES) }
     requires fits { (i : ℕ) → i < LANES → slice_index sums.old (at + i) + slice_index lanes i < 2 ^ 16 }
@@ -90,7 +90,7 @@ pub(crate) fn increase(lanes: u16x16, at: usize, sums: &mut [u16])
 }
 
 /// Each lane's left neighbour: that of the first is the last of `behind`.
-#[inline]
+#[inline(always)]
 pub(crate) fn neighbours_left(behind: u16x16, lanes: u16x16) -> u16x16
     requires { (length behind ≡ LANES) × (length lanes ≡ LANES) }
     ensures len { length result ≡ LANES }
@@ -106,7 +106,7 @@ pub(crate) fn neighbours_left(behind: u16x16, lanes: u16x16) -> u16x16
 }
 
 /// Each lane's right neighbour: that of the last is the first of `ahead`.
-#[inline]
+#[inline(always)]
 pub(crate) fn neighbours_right(lanes: u16x16, ahead: u16x16) -> u16x16
     requires { (length ahead ≡ LANES) × (length lanes ≡ LANES) }
     ensures len { length result ≡ LANES }

@@ -4,7 +4,7 @@ use crate::lane::{LANES, lesser, load};
 use std::simd::prelude::*;
 
 /// The least of some numbers, one after the other.
-#[inline]
+#[inline(always)]
 fn least_of_few(v: &[u16]) -> u16
     requires { 0 < length v.now }
     ensures contained { Contains v.now result }
@@ -20,7 +20,7 @@ fn least_of_few(v: &[u16]) -> u16
 }
 
 /// The least of each lane over the whole chunks of the numbers.
-#[inline]
+#[inline(always)]
 fn least_by_lane(v: &[u16]) -> u16x16
     requires { LANES ≤ length v.now }
     ensures len { length result ≡ LANES }
@@ -35,7 +35,7 @@ fn least_by_lane(v: &[u16]) -> u16x16
 }
 
 /// The least of the whole chunks of the numbers; where there is none, the first number.
-#[inline]
+#[inline(always)]
 fn least_of_chunks(v: &[u16]) -> u16
     requires { 0 < length v.now }
     ensures contained { Contains v.now result }
@@ -48,6 +48,7 @@ fn least_of_chunks(v: &[u16]) -> u16
 }
 
 /// The least of some numbers, of which there is at least one.
+#[inline(always)]
 pub fn least(v: &[u16]) -> u16
     requires { 0 < length v.now }
     ensures contained { Contains v.now result }

@@ -15,7 +15,7 @@ use std::simd::prelude::*;
 const ABSENT: u16 = MAX_PATH_VALUE + MAX_PENALTY;
 
 /// The left neighbours of the values from `at` on, where `behind` ends in that of the first.
-#[inline]
+#[inline(always)]
 fn lefts(prev: &[u16], at: usize, behind: u16x16) -> u16x16
     requires inside { at + LANES ≤ length prev.now }
     requires len { length behind ≡ LANES }
@@ -28,7 +28,7 @@ fn lefts(prev: &[u16], at: usize, behind: u16x16) -> u16x16
 }
 
 /// The right neighbours of the values from `at` on.
-#[inline]
+#[inline(always)]
 fn rights(prev: &[u16], at: usize) -> u16x16
     requires inside { at + LANES ≤ length prev.now }
     ensures len { length result ≡ LANES }
@@ -44,7 +44,7 @@ fn rights(prev: &[u16], at: usize) -> u16x16
 
 /// The step's values at the indices from `at` on, where `left` and `right` are the neighbours of the
 /// values there.
-#[inline]
+#[inline(always)]
 #[tactic(auto, unfolding(sgm_terms::specs::Step::carried))]
 fn chunk(
     prev: &[u16],
@@ -73,7 +73,7 @@ fn chunk(
 }
 
 /// The step at the indices of the whole chunks.
-#[inline]
+#[inline(always)]
 fn step_chunks(prev: &[u16], floor: u16, cost: &[u8], p1: u16, p2: u16, into: &mut [u16])
     requires can { CanStep prev.now floor cost.now p1 p2 }
     requires prev_length { length prev.now ≡ length into.old }
@@ -99,7 +99,7 @@ fn step_chunks(prev: &[u16], floor: u16, cost: &[u8], p1: u16, p2: u16, into: &m
 }
 
 /// The step at the indices of the whole chunks, each value added to the sum at its place.
-#[inline]
+#[inline(always)]
 fn add_step_chunks(
     prev: &[u16],
     floor: u16,
@@ -140,7 +140,7 @@ fn add_step_chunks(
 }
 
 /// One step's value at the index `d`, which may be the first or the last.
-#[inline]
+#[inline(always)]
 #[tactic(auto, unfolding(sgm_terms::specs::Step::carried))]
 fn end_cell(prev: &[u16], floor: u16, cost: &[u8], p1: u16, p2: u16, d: usize) -> u16
     requires can { CanStep prev.now floor cost.now p1 p2 }
@@ -158,7 +158,7 @@ fn end_cell(prev: &[u16], floor: u16, cost: &[u8], p1: u16, p2: u16, d: usize) -
 }
 
 /// One step's value at an index with another on each side.
-#[inline]
+#[inline(always)]
 #[tactic(auto, unfolding(sgm_terms::specs::Step::carried))]
 fn inner_cell(prev: &[u16], floor: u16, cost: &[u8], p1: u16, p2: u16, d: usize) -> u16
     requires can { CanStep prev.now floor cost.now p1 p2 }
@@ -172,7 +172,7 @@ fn inner_cell(prev: &[u16], floor: u16, cost: &[u8], p1: u16, p2: u16, d: usize)
 }
 
 /// The step at the indices from `start` on.
-#[inline]
+#[inline(always)]
 fn step_rest(
     prev: &[u16],
     floor: u16,
@@ -202,6 +202,7 @@ fn step_rest(
 /// One step of the recurrence: writes, for each index d, `cost[d]` plus the least of `prev[d]`,
 /// `prev[d - 1] + p1`, `prev[d + 1] + p1` and `floor + p2`, less `floor`. Terms outside the slice are
 /// left out. The three slices have one length, and `floor` is the least of `prev`.
+#[inline(always)]
 pub fn step(prev: &[u16], floor: u16, cost: &[u8], p1: u16, p2: u16, into: &mut [u16])
     requires some { 0 < length into.old }
     requires prev_length { length prev.now ≡ length into.old }
@@ -227,6 +228,7 @@ pub fn step(prev: &[u16], floor: u16, cost: &[u8], p1: u16, p2: u16, into: &mut 
 
 /// One step as [`step`] makes it, whose values are added to the sums at their places while they are at
 /// hand. All four slices have one length, and each sum has room for the greatest path value.
+#[inline(always)]
 pub fn add_step(
     prev: &[u16],
     floor: u16,

@@ -3,7 +3,7 @@ ghost use Rattle.std.specs.Prelude.{◌≡◌, ℕ, ◌+◌, ◌*◌, ◌/◌, �
 use crate::lane::{LANES, increase, load};
 
 /// Adds the values from `start` on to the sums at their places.
-#[inline]
+#[inline(always)]
 pub(crate) fn add_rest(sums: &mut [u16], v: &[u16], start: usize)
     requires same_length { length sums.old ≡ length v.now }
     requires fits { (k : ℕ) → start ≤ k → k < length sums.old → slice_index sums.old k + slice_index v.now k < 2 ^ 16 }
@@ -16,7 +16,7 @@ pub(crate) fn add_rest(sums: &mut [u16], v: &[u16], start: usize)
 }
 
 /// Adds the values of the whole chunks to the sums at their places.
-#[inline]
+#[inline(always)]
 fn add_chunks(sums: &mut [u16], v: &[u16])
     requires same_length { length sums.old ≡ length v.now }
     requires fits { EachIndex sums.old (λ k. slice_index sums.old k + slice_index v.now k < 2 ^ 16) }

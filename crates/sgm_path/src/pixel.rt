@@ -9,7 +9,7 @@ use sgm_lanes::{add, add_step, least, step};
 
 /// The penalty of a change by more than one between two pixels with these grey values. `ADAPTIVE` is
 /// whether the pen is: with a fixed one nothing is left of it but the pen's penalty.
-#[inline]
+#[inline(always)]
 pub(crate) fn far_at<const ADAPTIVE: bool>(pen: Pen, here: Option<u8>, before: Option<u8>) -> u16
     requires kind { (penalties_of pen).adaptive ≡ ADAPTIVE }
     ensures value { result ≡ far_of (penalties_of pen) here before }
@@ -23,7 +23,7 @@ pub(crate) fn far_at<const ADAPTIVE: bool>(pen: Pen, here: Option<u8>, before: O
 }
 
 /// The values of a pixel from those of the pixel before.
-#[inline]
+#[inline(always)]
 fn follow(prev: &[u16], costs: &[u8], p1: u16, far: u16, into: &mut [u16])
     requires some { 0 < length prev.now }
     requires prev_length { length prev.now ≡ length into.old }
@@ -39,7 +39,7 @@ fn follow(prev: &[u16], costs: &[u8], p1: u16, far: u16, into: &mut [u16])
 }
 
 /// The same, and each value is added to the sum at its place.
-#[inline]
+#[inline(always)]
 fn add_follow(prev: &[u16], costs: &[u8], p1: u16, far: u16, into: &mut [u16], sums: &mut [u16])
     requires some { 0 < length prev.now }
     requires prev_length { length prev.now ≡ length into.old }
@@ -58,7 +58,7 @@ fn add_follow(prev: &[u16], costs: &[u8], p1: u16, far: u16, into: &mut [u16], s
 }
 
 /// The values of a pixel that begins a ray: its costs.
-#[inline]
+#[inline(always)]
 pub(crate) fn begin_at(costs: &[u8], count: usize, at: usize, into: &mut [u16])
     requires inside { at + count ≤ length into.old }
     requires same_length { length costs.now ≡ length into.old }
@@ -73,7 +73,7 @@ pub(crate) fn begin_at(costs: &[u8], count: usize, at: usize, into: &mut [u16])
 }
 
 /// The values of a pixel from those of the pixel on its left.
-#[inline]
+#[inline(always)]
 pub(crate) fn from_left(costs: &[u8], count: usize, p1: u16, far: u16, at: usize, into: &mut [u16])
     requires positive { 0 < count }
     requires room { count ≤ at }
@@ -93,7 +93,7 @@ pub(crate) fn from_left(costs: &[u8], count: usize, p1: u16, far: u16, at: usize
 }
 
 /// The values of a pixel from those of the pixel on its right.
-#[inline]
+#[inline(always)]
 pub(crate) fn from_right(costs: &[u8], count: usize, p1: u16, far: u16, at: usize, into: &mut [u16])
     requires positive { 0 < count }
     requires inside { (at + count) + count ≤ length into.old }
@@ -112,7 +112,7 @@ pub(crate) fn from_right(costs: &[u8], count: usize, p1: u16, far: u16, at: usiz
 }
 
 /// The values of a pixel from those of a pixel of another row, `prev`.
-#[inline]
+#[inline(always)]
 pub(crate) fn from_other(prev: &[u16], costs: &[u8], p1: u16, far: u16, at: usize, into: &mut [u16])
     requires some { 0 < length prev.now }
     requires inside { at + length prev.now ≤ length into.old }
@@ -131,7 +131,7 @@ pub(crate) fn from_other(prev: &[u16], costs: &[u8], p1: u16, far: u16, at: usiz
 }
 
 /// Adds the values of a pixel to its sums, which begin at the same place.
-#[inline]
+#[inline(always)]
 pub(crate) fn add_at(values: &[u16], count: usize, at: usize, sums: &mut [u16])
     requires inside { at + count ≤ length sums.old }
     requires same_length { length values.now ≡ length sums.old }
@@ -145,7 +145,7 @@ pub(crate) fn add_at(values: &[u16], count: usize, at: usize, sums: &mut [u16])
 }
 
 /// As [`from_right`], and adds the values to the sums of the pixel, which begin at the same place.
-#[inline]
+#[inline(always)]
 pub(crate) fn add_from_right(
     costs: &[u8],
     count: usize,
@@ -185,7 +185,7 @@ pub(crate) fn add_from_right(
 }
 
 /// As [`from_other`], and adds the values to the sums of the pixel, which begin at the same place.
-#[inline]
+#[inline(always)]
 pub(crate) fn add_from_other(
     prev: &[u16],
     costs: &[u8],

@@ -1,4 +1,4 @@
-ghost use Rattle.std.specs.Prelude.{◌≡◌, ℕ, ◌+◌, ◌*◌, ◌/◌, ◌%◌, ◌^◌, ◌<◌, ◌≤◌, ◌⊎◌, length, slice_index, All, EachIndex, IsTrue};
+ghost use Rattle.std.specs.Prelude.{◌≡◌, ℕ, ◌+◌, ◌*◌, ◌/◌, ◌%◌, ◌^◌, ◌<◌, ◌≤◌, ◌⊎◌, length, slice_index, All, EachIndex, IsTrue, false};
 ghost use Rattle.sgm_energy.specs.declared.dir.Dir.TheVariants.{Right, Left};
 ghost use Rattle.sgm_energy.specs.Dirs.{is_level};
 ghost use Rattle.sgm_energy.specs.Pens.{penalties_of};
@@ -15,6 +15,7 @@ use sgm_energy::{Dir, Pen};
 // at the guide.
 
 /// From the left end of the row to the right.
+#[inline(always)]
 fn run_right<const ADAPTIVE: bool>(
     pen: Pen,
     costs: &[u8],
@@ -44,7 +45,7 @@ fn run_right<const ADAPTIVE: bool>(
 }
 
 /// The values of the column `x` in the run to the left, after those of all columns on its right.
-#[inline]
+#[inline(always)]
 fn left_at<const ADAPTIVE: bool>(
     pen: Pen,
     costs: &[u8],
@@ -77,7 +78,7 @@ fn left_at<const ADAPTIVE: bool>(
 }
 
 /// The same, and each value is added to the sum at its place.
-#[inline]
+#[inline(always)]
 fn add_left_at<const ADAPTIVE: bool>(
     pen: Pen,
     costs: &[u8],
@@ -141,6 +142,7 @@ fn run_left<const ADAPTIVE: bool>(
 }
 
 /// The same, and each value is added to the sum at its place.
+#[inline(always)]
 fn add_run_left<const ADAPTIVE: bool>(
     pen: Pen,
     costs: &[u8],
@@ -229,6 +231,7 @@ pub fn run_row(
 }
 
 /// The sums of both directions.
+#[inline(always)]
 fn both_levels<const ADAPTIVE: bool>(
     pen: Pen,
     costs: &[u8],
@@ -250,6 +253,34 @@ fn both_levels<const ADAPTIVE: bool>(
 {
     run_right::<ADAPTIVE>(pen, costs, guide, count, into);
     add_run_left::<ADAPTIVE>(pen, costs, guide, count, spare, into);
+}
+
+/// [`both_levels`] with a fixed pen. The numbers of indices that most pictures ask for are compiled apart,
+/// so that the chunks of a pixel are counted there and not while it runs.
+fn fixed_levels(
+    pen: Pen,
+    costs: &[u8],
+    guide: &[Option<u8>],
+    count: usize,
+    spare: &mut [u16],
+    into: &mut [u16],
+)
+    requires fixed { (penalties_of pen).adaptive ≡ false }
+    requires positive { 0 < count }
+    requires same_length { length costs.now ≡ length into.old }
+    requires guide_length { length guide.now ≡ length into.old / count }
+    requires spare_length { length spare.old ≡ length into.old }
+    requires whole { length into.old % count ≡ 0 }
+    requires costs { All (λ c. c ≤ MAX_COST) costs.now }
+    ensures { (g : Problem) (y : ℕ) → Suits g y (penalties_of pen).p1 count costs.now
+        → HasFar g y y (far_between (penalties_of pen) guide.now guide.now)
+        → HoldsRow g y (λ p d. path_value g Right p d + path_value g Left p d) into.new }
+{
+    match count {
+        64 => both_levels::<false>(pen, costs, guide, 64, spare, into),
+        128 => both_levels::<false>(pen, costs, guide, 128, spare, into),
+        _ => both_levels::<false>(pen, costs, guide, count, spare, into),
+    }
 }
 
 /// Writes the sums of the path values of both level directions of one row. `costs`, `spare` and `into`
@@ -277,6 +308,6 @@ pub fn level_sums(
     if pen.is_adaptive() {
         both_levels::<true>(pen, costs, guide, count, spare, into)
     } else {
-        both_levels::<false>(pen, costs, guide, count, spare, into)
+        fixed_levels(pen, costs, guide, count, spare, into)
     }
 }

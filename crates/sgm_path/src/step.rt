@@ -12,7 +12,7 @@ use sgm_energy::{Dir, Pen};
 use sgm_lanes::add;
 
 /// The column that a direction comes from, where it lies in the image.
-#[inline]
+#[inline(always)]
 fn source(dir: Dir, width: usize, x: usize) -> Option<usize>
     requires { x < width }
     ensures value { result ≡ column_before dir width x }
@@ -27,7 +27,7 @@ fn source(dir: Dir, width: usize, x: usize) -> Option<usize>
 }
 
 /// The values of the column `x` of a row, from the row that the direction comes from.
-#[inline]
+#[inline(always)]
 fn step_at<const ADAPTIVE: bool>(
     dir: Dir,
     pen: Pen,
@@ -67,7 +67,7 @@ fn step_at<const ADAPTIVE: bool>(
 }
 
 /// The same, and each value is added to the sum at its place.
-#[inline]
+#[inline(always)]
 fn add_step_at<const ADAPTIVE: bool>(
     dir: Dir,
     pen: Pen,
@@ -158,6 +158,7 @@ fn step_from<const ADAPTIVE: bool>(
 }
 
 /// The same, and each value is added to the sum at its place.
+#[inline(always)]
 fn add_step_from<const ADAPTIVE: bool>(
     dir: Dir,
     pen: Pen,
@@ -254,6 +255,62 @@ pub fn step_row(
     }
 }
 
+/// [`add_step_from`] with a fixed pen. The numbers of indices that most pictures ask for are compiled
+/// apart, so that the chunks of a pixel are counted there and not while it runs.
+fn add_step_fixed(
+    dir: Dir,
+    pen: Pen,
+    costs: &[u8],
+    before: &[u16],
+    guide: &[Option<u8>],
+    guide_before: &[Option<u8>],
+    count: usize,
+    into: &mut [u16],
+    sums: &mut [u16],
+)
+    requires fixed { (penalties_of pen).adaptive ≡ false }
+    requires positive { 0 < count }
+    requires same_length { length costs.now ≡ length into.old }
+    requires before_length { length before.now ≡ length into.old }
+    requires guide_length { length guide.now ≡ length into.old / count }
+    requires guide_before_length { length guide_before.now ≡ length into.old / count }
+    requires sums_length { length sums.old ≡ length into.old }
+    requires whole { length into.old % count ≡ 0 }
+    requires costs { All (λ c. c ≤ MAX_COST) costs.now }
+    requires values { All (λ v. v ≤ MAX_PATH_VALUE) before.now }
+    requires room { EachIndex sums.old (λ k. slice_index sums.old k + MAX_PATH_VALUE < 2 ^ 16) }
+    ensures bound { All (λ v. v ≤ MAX_PATH_VALUE) into.new }
+    ensures each { let far = far_between (penalties_of pen) guide.now guide_before.now in
+        RowFollows dir count (penalties_of pen).p1 far before.now costs.now into.new }
+    ensures added { EachIndex sums.new (λ k. slice_index sums.new k ≡ slice_index sums.old k + slice_index into.new k) }
+{
+    match count {
+        64 => add_step_from::<false>(dir, pen, costs, before, guide, guide_before, 64, into, sums),
+        128 => add_step_from::<false>(
+            dir,
+            pen,
+            costs,
+            before,
+            guide,
+            guide_before,
+            128,
+            into,
+            sums,
+        ),
+        _ => add_step_from::<false>(
+            dir,
+            pen,
+            costs,
+            before,
+            guide,
+            guide_before,
+            count,
+            into,
+            sums,
+        ),
+    }
+}
+
 /// Writes the path values of one row as [`step_row`] does, and adds each to the sum at its place.
 pub fn add_step_row(
     dir: Dir,
@@ -304,7 +361,7 @@ pub fn add_step_row(
                     sums,
                 )
             } else {
-                add_step_from::<false>(
+                add_step_fixed(
                     dir,
                     pen,
                     costs,

@@ -24,6 +24,7 @@ fn key(sum: u16, index: u32) -> u32
 }
 
 /// The least index at which the sums of a pixel are least.
+#[inline(always)]
 fn base_at(sums: &[u16]) -> u16
     requires some { 0 < length sums.now }
     requires few { length sums.now ≤ MAX_COUNT }
@@ -39,9 +40,9 @@ fn base_at(sums: &[u16]) -> u16
     (least % MAX_COUNT) as u16
 }
 
-/// Writes, for each pixel of the left row, the least index at which its sum is least. The sum of the
-/// column x and the index d stands at `x * count + d`. Takes no memory.
-pub fn base_row(sums: &[u16], count: usize, into: &mut [u16])
+/// What [`base_row`] writes.
+#[inline(always)]
+fn base_each(sums: &[u16], count: usize, into: &mut [u16])
     requires count_range { (1 ≤ count) × (count ≤ MAX_COUNT) }
     requires lengths { length sums.now ≡ length into.old * count }
     ensures each { EachIndex into.new (λ x. slice_index into.new x ≡ base_in sums.now count x) }
@@ -50,6 +51,23 @@ pub fn base_row(sums: &[u16], count: usize, into: &mut [u16])
     for x in 0..into.len() {
         let at = x * count;
         into[x] = base_at(&sums[at..at + count]);
+    }
+}
+
+/// Writes, for each pixel of the left row, the least index at which its sum is least. The sum of the
+/// column x and the index d stands at `x * count + d`. Takes no memory.
+pub fn base_row(sums: &[u16], count: usize, into: &mut [u16])
+    requires count_range { (1 ≤ count) × (count ≤ MAX_COUNT) }
+    requires lengths { length sums.now ≡ length into.old * count }
+    ensures each { EachIndex into.new (λ x. slice_index into.new x ≡ base_in sums.now count x) }
+    ensures below { All (λ b. b < count) into.new }
+{
+    // The numbers of indices that most pictures ask for are compiled apart, so that the loop over them is
+    // unrolled there.
+    match count {
+        64 => base_each(sums, 64, into),
+        128 => base_each(sums, 128, into),
+        _ => base_each(sums, count, into),
     }
 }
 

@@ -26,8 +26,8 @@ returns-else-is_adaptive-clause-paths c g y s w =
     let guide_before = c.args.guide_before.now in
     let far : ℕ → ℕ → ℕ = far_between pen guide guide_before in
     let b = subst (λ o. MatchOption o (row_before dir g.height y ≡ None) (λ r. HoldsRowBefore g dir y far r.now)) c.in-Some.is w in
-    paths_from g dir y pen.p1 c.args.count far c.args.costs.now c.in-Some.before.now c.add_step_from-else-is_adaptive.new.into s
-    (between-ordered pen guide guide_before c.args.pen.ordered) (omega arith) (omega (arith, c.add_step_from-else-is_adaptive.auto.into)) b c.add_step_from-else-is_adaptive.ensures.each
+    paths_from g dir y pen.p1 c.args.count far c.args.costs.now c.in-Some.before.now c.add_step_fixed.new.into s
+    (between-ordered pen guide guide_before c.args.pen.ordered) (omega arith) (omega (arith, c.add_step_fixed.auto.into)) b c.add_step_fixed.ensures.each
 
 pub returns-in-None-clause-costs_alone : goal.returns-in-None-clause-costs_alone
 returns-in-None-clause-costs_alone c =

@@ -3,7 +3,7 @@ use Rattle.std.proofs.lemmas.List.{length-take, length-drop}
 use Rattle.std.proofs.lemmas.List.Elements.{All-from_get_or}
 use Rattle.std.proofs.lemmas.Nat.{row_fits}
 use Rattle.sgm_select.proofs.LeastIndex.{base_from}
-use Rattle.sgm_select.proofs.indices.base_row.Goals as goal
+use Rattle.sgm_select.proofs.indices.base_each.Goals as goal
 
 pub loop-x-preserved : goal.loop-x-preserved
 loop-x-preserved c =

@@ -1,6 +1,6 @@
 use Rattle.std.proofs.Common.{◌≡◌, ℕ, ◌<◌, slice_index}
 use Rattle.sgm_select.specs.Rows.{base_in}
-use Rattle.sgm_select.proofs.indices.base_row.Given as goal
+use Rattle.sgm_select.proofs.indices.base_each.Given as goal
 
 abbrev pub invariant-loop-x : goal.invariant-loop-x
 invariant-loop-x l =
