@@ -25,6 +25,3 @@ pub use point::{Point, round_div};
 pub use side::Side;
 pub use size::Size;
 pub use span::Span;
-
-#[cfg(test)]
-mod tests;

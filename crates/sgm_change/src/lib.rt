@@ -8,6 +8,3 @@ mod volumes;
 pub use compare::{Changed, change};
 pub use difference::write_difference;
 pub use volumes::write_volumes;
-
-#[cfg(test)]
-mod tests;

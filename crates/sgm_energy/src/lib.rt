@@ -8,6 +8,3 @@ mod pen;
 
 pub use dir::Dir;
 pub use pen::Pen;
-
-#[cfg(test)]
-mod tests;

@@ -1,9 +1,11 @@
-//! The tests of `sgm_height`, `sgm_grid` and `sgm_report`, which call them from outside. They stand apart
+//! The tests of `sgm_height`, `sgm_grid`, `sgm_report` and `sgm_change`, which call them from outside. They stand apart
 //! from them, since a crate that has tests is proved a second time with them.
 #![tactic(auto)]
 
 #[cfg(test)]
 mod asc;
+#[cfg(test)]
+mod change;
 #[cfg(test)]
 mod grid;
 #[cfg(test)]

@@ -12,6 +12,3 @@ pub use codes::{differing, hamming, hamming_to};
 pub use minimum::least;
 pub use recurrence::{add_step, step};
 pub use sums::add;
-
-#[cfg(test)]
-mod tests;

@@ -15,6 +15,3 @@ pub use fault::{ListError, ListFault};
 pub use limits::{MAX_ENTRIES, MAX_LIST_BYTES};
 pub use line::{Line, MAX_DIGITS, MAX_LINE, fault_line};
 pub use read::read_list;
-
-#[cfg(test)]
-mod tests;

@@ -8,6 +8,3 @@ mod write;
 
 pub use outcome::{Outcome, Refusal};
 pub use write::{write_fault, write_line};
-
-#[cfg(test)]
-mod tests;

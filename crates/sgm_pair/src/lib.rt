@@ -4,6 +4,3 @@
 mod generated;
 
 pub use generated::pair;
-
-#[cfg(test)]
-mod tests;

@@ -9,6 +9,3 @@ mod step;
 
 pub use run::{level_sums, run_row};
 pub use step::{add_step_row, step_row};
-
-#[cfg(test)]
-mod tests;

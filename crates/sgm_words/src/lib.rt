@@ -19,6 +19,3 @@ pub use operands::{ChangeWords, OperandWords};
 pub use options::Options;
 pub use read::read_words;
 pub use usage::UsageFault;
-
-#[cfg(test)]
-mod tests;

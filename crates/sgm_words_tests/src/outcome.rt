@@ -1,10 +1,10 @@
 //! The status and the line of each kind of outcome.
 
-use crate::{Outcome, Refusal, write_fault};
 use sgm_base::{Side, Size};
 use sgm_calib::{CalibFault, Key};
 use sgm_grid::AscFault;
 use sgm_io::MemorySink;
+use sgm_outcome::{Outcome, Refusal, write_fault};
 use sgm_pgm::PgmFault;
 use sgm_rectify::WarpFault;
 use sgm_words::{Input, Output, UsageFault};

@@ -1,7 +1,7 @@
 // Each kernel against a plain loop, at every length up to eight chunks and a rest.
 ghost use Rattle.std.specs.Prelude.{◌≡◌, ◌<◌, ◌≤◌, length, All};
 
-use super::{add, add_step, hamming, hamming_to, least, step};
+use sgm_lanes::{add, add_step, hamming, hamming_to, least, step};
 
 const MOST: usize = 130;
 

@@ -1,8 +1,8 @@
 //! The words, one check after the other.
 
-use crate::{ChangeWords, Input, OperandWords, Options, Output, UsageFault, read_words};
 use sgm_energy::Dir;
 use sgm_refine::Refine;
+use sgm_words::{ChangeWords, Input, OperandWords, Options, Output, UsageFault, read_words};
 use std::alloc::{AllocError, Global};
 use std::test::Fail;
 

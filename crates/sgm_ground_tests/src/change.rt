@@ -1,19 +1,11 @@
 ghost use Rattle.std.specs.Prelude.{◌≡◌, IsTrue};
 
-use super::*;
+use crate::grid::EXAMPLE;
 use sgm_base::Point;
+use sgm_change::{Changed, change, write_difference, write_volumes};
 use sgm_grid::{Grid, GridSpec};
 use std::alloc::Global;
 use std::test::Fail;
-
-/// The grids of the worked example: four columns from 2000 and three rows from -2000.
-const EXAMPLE: GridSpec = GridSpec {
-    west: 2_000,
-    south: -2_000,
-    cell: 1_000,
-    cols: 4,
-    rows: 3,
-};
 
 fn at(x: i64, y: i64, h: i64) -> Point
     ensures { result ≡ record { x = x; y = y; h = h } }

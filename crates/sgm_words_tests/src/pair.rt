@@ -1,5 +1,5 @@
-use crate::pair;
 use sgm_base::Size;
+use sgm_pair::pair;
 use std::test::Fail;
 
 #[test]

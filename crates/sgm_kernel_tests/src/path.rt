@@ -2,9 +2,9 @@
 // sequence along whole rays.
 ghost use Rattle.std.specs.Prelude.{◌≡◌, ◌≤◌, ◌%◌, length, All};
 
-use super::{add_step_row, level_sums, run_row, step_row};
 use sgm_base::{MAX_COST, MAX_COUNT};
 use sgm_energy::{Dir, Pen};
+use sgm_path::{add_step_row, level_sums, run_row, step_row};
 
 type Row = (
     (u16, u16),

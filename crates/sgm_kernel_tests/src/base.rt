@@ -1,4 +1,9 @@
-use crate::{DispMap, Image, Plane, Size, Span, limits, round_div};
+use sgm_base::{
+    DispMap, Image, MAX_CALIB_BYTES, MAX_COST, MAX_COUNT, MAX_DISPARITY, MAX_FIRST, MAX_GRID_LINES,
+    MAX_IMAGE_BYTES, MAX_PATH_VALUE, MAX_PENALTY, MAX_REGIONS, MAX_SIDE, MAX_STRIPS, MAX_SUM,
+    MAX_VOLUME, MAX_WINDOW_HEIGHT, MAX_WINDOW_WIDTH, MAX_WORKERS, MIN_FIRST, MIN_WINDOW_SIDE,
+    Plane, Size, Span, round_div,
+};
 use std::test::Fail;
 
 fn size(width: u32, height: u32) -> Result<Size, Fail> {
@@ -140,19 +145,16 @@ fn quotients_are_rounded_halves_upwards(rt: HostRuntime) -> Result<(), Fail> {
 // Contracts cite the limits by name, so that no clause says their values.
 #[test]
 fn limits_as_numbers(rt: HostRuntime) {
-    assert_eq!(rt; (limits::MAX_SIDE, limits::MAX_COUNT), (4096, 256));
-    assert_eq!(rt; (limits::MIN_FIRST, limits::MAX_FIRST), (-1024, 1024));
-    assert_eq!(rt; limits::MAX_VOLUME, 268_435_456);
-    assert_eq!(rt; limits::MIN_WINDOW_SIDE, 3);
-    assert_eq!(rt;
-        (limits::MAX_WINDOW_WIDTH, limits::MAX_WINDOW_HEIGHT),
-        (9, 7)
-    );
-    assert_eq!(rt; (limits::MAX_COST, limits::MAX_PENALTY), (62, 4000));
-    assert_eq!(rt; (limits::MAX_PATH_VALUE, limits::MAX_SUM), (4062, 32_496));
-    assert_eq!(rt; limits::MAX_DISPARITY, 4080);
-    assert_eq!(rt; (limits::MAX_STRIPS, limits::MAX_WORKERS), (64, 16));
-    assert_eq!(rt; (limits::MAX_GRID_LINES, limits::MAX_REGIONS), (4096, 1000));
-    assert_eq!(rt; limits::MAX_IMAGE_BYTES, 67_108_864);
-    assert_eq!(rt; limits::MAX_CALIB_BYTES, 16_777_216);
+    assert_eq!(rt; (MAX_SIDE, MAX_COUNT), (4096, 256));
+    assert_eq!(rt; (MIN_FIRST, MAX_FIRST), (-1024, 1024));
+    assert_eq!(rt; MAX_VOLUME, 268_435_456);
+    assert_eq!(rt; MIN_WINDOW_SIDE, 3);
+    assert_eq!(rt; (MAX_WINDOW_WIDTH, MAX_WINDOW_HEIGHT), (9, 7));
+    assert_eq!(rt; (MAX_COST, MAX_PENALTY), (62, 4000));
+    assert_eq!(rt; (MAX_PATH_VALUE, MAX_SUM), (4062, 32_496));
+    assert_eq!(rt; MAX_DISPARITY, 4080);
+    assert_eq!(rt; (MAX_STRIPS, MAX_WORKERS), (64, 16));
+    assert_eq!(rt; (MAX_GRID_LINES, MAX_REGIONS), (4096, 1000));
+    assert_eq!(rt; MAX_IMAGE_BYTES, 67_108_864);
+    assert_eq!(rt; MAX_CALIB_BYTES, 16_777_216);
 }

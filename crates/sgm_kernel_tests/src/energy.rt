@@ -1,4 +1,4 @@
-use super::{Dir, Pen};
+use sgm_energy::{Dir, Pen};
 
 #[test]
 fn penalties_in_range(rt: HostRuntime) {

@@ -1,6 +1,6 @@
 //! Lists and their first faults.
 
-use crate::{ListError, ListFault, MAX_LIST_BYTES, fault_line, read_list};
+use sgm_list::{ListError, ListFault, MAX_LIST_BYTES, fault_line, read_list};
 use std::alloc::{AllocError, Global};
 use std::test::Fail;
 
