@@ -9,7 +9,8 @@
 # says which; --install installs them first, by apt-get, as root, but for those of ssh and Slurm, whose packages start
 # servers. The programs are those that the variables SGM and SGM_SERIES name (./sgm and ./sgm_series of this repository
 # without them), which are built first where they aren't. Once they are, all tests together take about half an hour, most
-# of it definitions, which asks the toolchain for proofs, and compare.
+# of it definitions, which asks the toolchain for proofs, and compare. Of the edits that stand outside the gate it asks
+# only whether each can be applied; tests/edits.py tries them, for over an hour of processor time.
 #
 # Status: 0 where none failed, 1 where one did, 2 for wrong words. What a test that failed has printed is kept, and
 # the path of the file stands below its line.
@@ -33,6 +34,7 @@ reference_lists     -           tests/test_reference_lists.py
 reference_series    -           tests/test_reference_series.py
 stored_runs         -           tests/stored_runs.py
 least_energies      -           tests/least_energies.py --check
+edits_apply         -           tests/edits.py --apply
 cubic_metres        -           tools/test_cubic_metres.py
 sgm_files           pictures    tools/test_sgm_files.py
 stretch             pictures    tools/test_stretch.py
