@@ -2,6 +2,7 @@
 """Measures the time and the memory of `sgm match`, beside OpenCV's StereoSGBM where that is installed.
 
     bench/bench.py [--only 640x480] [--strips 1 7 64] [--workers 1 4] [--builds] [--parts] [--runs 3]
+    bench/bench.py --turns 5 --strips 8 16 64 --workers 1 4
 
 Makes pairs of three sizes, runs the program on each with 64 and, for the two larger sizes, 128
 disparities, and prints a Markdown table: the least seconds of some runs, how many times as fast that is
@@ -19,6 +20,7 @@ import json
 import os
 import random
 import shutil
+import statistics
 import subprocess
 import sys
 import tempfile
@@ -243,6 +245,33 @@ def measure(words, cases, programs, python, folder):
                 yield f"{width} x {height}, {count} disparities, {strips}, {workers}, {build_name}", command, opencv
 
 
+def in_turns(words, cases, programs, python, folder):
+    """A table of medians: in each turn OpenCV and every program with every number of strips and workers run once."""
+    row("Size", "Disparities", *(["Build"] if words.builds else []), "Workers", "Strips", "Seconds", "Memory, MB", "OpenCV, seconds", "OpenCV / program")
+    row(*["---"] * (9 if words.builds else 8))
+    for width, height, count in cases:
+        pair = write_pair(folder, width, height)
+        calibration, out = write_calibration(folder, count), os.path.join(folder, "out")
+        rival, seconds, memory = [], {}, {}
+        for _ in range(words.turns):
+            rival += beside(python, pair, count, 1)[:1]
+            for build_name, program in programs:
+                for strips, workers in splits(words):
+                    command = [program, "match", *pair, calibration, out, f"strips={strips}", f"workers={workers}"]
+                    run, key = measured(command), (build_name, workers, strips)
+                    seconds.setdefault(key, []).append(run[0])
+                    memory[key] = max(run[1], memory.get(key, 0))
+        for build_name, _ in programs:
+            for workers in words.workers:
+                keys = [key for key in seconds if key[:2] == (build_name, workers)]
+                best = min(keys, key=lambda key: statistics.median(seconds[key]))
+                median = statistics.median(seconds[best])
+                cells = [f"{width} x {height}", str(count), *([build_name] if words.builds else []), str(workers), str(best[2])]
+                cells += [f"{median:.3f}", f"{max(memory[key] for key in keys):.0f}"]
+                beside_it = statistics.median(rival) if rival else None
+                row(*cells, *([f"{beside_it:.3f}", f"{beside_it / median:.2f}"] if rival else ["", ""]))
+
+
 def within(low, high):
     """A reader of whole numbers in that range."""
 
@@ -266,6 +295,8 @@ def words_of():
     parser.add_argument("--builds", action="store_true", help=f"build and measure the gate's program ({GATE}) and the launcher's")
     parser.add_argument("--parts", action="store_true", help="print where the time goes too, by functions (needs Linux's perf)")
     parser.add_argument("--runs", type=within(1, 1000), metavar="N", default=3, help="take the least of so many runs (3)")
+    help_turns = "in place of the table above one of medians of N turns, in each of which OpenCV and the program run once"
+    parser.add_argument("--turns", type=within(1, 1000), metavar="N", help=help_turns + ", with the best number of strips")
     return parser.parse_args()
 
 
@@ -282,6 +313,9 @@ def main():
             os.environ.setdefault("GLIBC_TUNABLES", TUNABLES)
         measured([programs[0][1], "demo", "0"])
         rival = f"OpenCV {version}, one thread" if python else "no OpenCV: `import cv2` fails"
+        if words.turns:
+            print(f"Processor: {processor()}. Medians of {words.turns} turns. {rival}.\n")
+            return in_turns(words, cases, programs, python, folder)
         print(f"Processor: {processor()}. Least of {words.runs} runs. {rival}.\n")
         row(*heads(words, python))
         row(*["---"] * len(heads(words, python)))
