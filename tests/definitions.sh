@@ -16,7 +16,7 @@ tar -C "$top" --exclude=out --exclude=must-fail -c crates crates.txt HANDLES | t
 mkdir -p "$crate/src" "$crate/specs" "$crate/proofs" || exit 1
 printf '%s\n' '//! Cases of the definitions.' '#![tactic(auto)]' >"$crate/src/lib.rt"
 : >"$crate/specs/Lib.antt"
-libraries=$(sed -n 's/:.*//p' "$work/crates.txt" | grep -vx -e sgm_cli -e sgm_cases -e 'sgm_.*_tests' | tr '\n' ' ')
+libraries=$(sed -n 's/:.*//p' "$work/crates.txt" | grep -vx -e 'sgm_.*cli' -e sgm_cases -e 'sgm_.*_tests' | tr '\n' ' ')
 echo "sgm_pages: serde_json $libraries" >>"$work/crates.txt"
 
 # Checks the pages, and names those that aren't proved.

@@ -6,8 +6,8 @@
 It knows nothing of a recurrence: the least energy is the least over all sequences, and a path value is
 the least energy of the ray among the sequences that end in an index, less the least energy of the ray
 without its last pixel. Where a guide is given, the penalty of a larger change follows it. It prints
-tables, which stand in the tests of sgm_path. With --check it looks through these tests and tries each row
-that stands there.
+tables, which stand in the tests of sgm_path (crate sgm_kernel_tests). With --check it looks through these
+tests and tries each row that stands there.
 """
 
 import argparse
@@ -17,7 +17,7 @@ import re
 import sys
 from itertools import product
 
-TESTS = os.path.join(os.path.dirname(os.path.abspath(__file__)), "..", "crates", "sgm_path", "src", "*.rt")
+TESTS = os.path.join(os.path.dirname(os.path.abspath(__file__)), "..", "crates", "sgm_kernel_tests", "src", "path.rt")
 
 OFFSETS = {
     "Right": (1, 0),
