@@ -2,7 +2,7 @@
 """Measures the time and the memory of `sgm match`, beside OpenCV's StereoSGBM where that is installed.
 
     bench/bench.py [--only 640x480] [--strips 1 7 64] [--workers 1 4] [--builds] [--parts] [--runs 3]
-    bench/bench.py --turns 5 --strips 8 16 64 --workers 1 4
+    bench/bench.py --turns 5 --strips 8 16 64 --workers 1 4 [--beside OTHER_SGM]
 
 Makes pairs of three sizes, runs the program on each with 64 and, for the two larger sizes, 128
 disparities, and prints a Markdown table: the least seconds of some runs, how many times as fast that is
@@ -247,8 +247,9 @@ def measure(words, cases, programs, python, folder):
 
 def in_turns(words, cases, programs, python, folder):
     """A table of medians: in each turn OpenCV and every program with every number of strips and workers run once."""
-    row("Size", "Disparities", *(["Build"] if words.builds else []), "Workers", "Strips", "Seconds", "Memory, MB", "OpenCV, seconds", "OpenCV / program")
-    row(*["---"] * (9 if words.builds else 8))
+    has_names = len(programs) > 1
+    row("Size", "Disparities", *(["Program"] if has_names else []), "Workers", "Strips", "Seconds", "Memory, MB", "OpenCV, seconds", "OpenCV / program")
+    row(*["---"] * (9 if has_names else 8))
     for width, height, count in cases:
         pair = write_pair(folder, width, height)
         calibration, out = write_calibration(folder, count), os.path.join(folder, "out")
@@ -266,7 +267,7 @@ def in_turns(words, cases, programs, python, folder):
                 keys = [key for key in seconds if key[:2] == (build_name, workers)]
                 best = min(keys, key=lambda key: statistics.median(seconds[key]))
                 median = statistics.median(seconds[best])
-                cells = [f"{width} x {height}", str(count), *([build_name] if words.builds else []), str(workers), str(best[2])]
+                cells = [f"{width} x {height}", str(count), *([build_name] if has_names else []), str(workers), str(best[2])]
                 cells += [f"{median:.3f}", f"{max(memory[key] for key in keys):.0f}"]
                 beside_it = statistics.median(rival) if rival else None
                 row(*cells, *([f"{beside_it:.3f}", f"{beside_it / median:.2f}"] if rival else ["", ""]))
@@ -297,7 +298,11 @@ def words_of():
     parser.add_argument("--runs", type=within(1, 1000), metavar="N", default=3, help="take the least of so many runs (3)")
     help_turns = "in place of the table above one of medians of N turns, in each of which OpenCV and the program run once"
     parser.add_argument("--turns", type=within(1, 1000), metavar="N", help=help_turns + ", with the best number of strips")
-    return parser.parse_args()
+    parser.add_argument("--beside", metavar="PROGRAM", help="another program that runs in each turn too (with --turns)")
+    words = parser.parse_args()
+    if words.beside and not words.turns:
+        parser.error("--beside takes --turns")
+    return words
 
 
 def main():
@@ -311,7 +316,9 @@ def main():
         programs = builds(folder) if words.builds else [(os.path.basename(SGM), SGM)]
         if words.builds:
             os.environ.setdefault("GLIBC_TUNABLES", TUNABLES)
-        measured([programs[0][1], "demo", "0"])
+        programs += [(words.beside, os.path.realpath(words.beside))] if words.beside else []
+        for _, program in programs:
+            measured([program, "demo", "0"])
         rival = f"OpenCV {version}, one thread" if python else "no OpenCV: `import cv2` fails"
         if words.turns:
             print(f"Processor: {processor()}. Medians of {words.turns} turns. {rival}.\n")

@@ -11,8 +11,9 @@ set -u
 has rt || { echo "definitions: skipped: the toolchain's command rt isn't on the PATH"; exit 0; }
 crate=$work/crates/sgm_pages
 
-# A copy of the workspace, with one crate more: the pages.
-tar -C "$top" --exclude=out --exclude=must-fail -c crates crates.txt HANDLES | tar -C "$work" -x || exit 1
+# A copy of the workspace, with one crate more: the pages. What is proved there already, some gigabytes in the folders
+# out, comes with it.
+tar -C "$top" --exclude=must-fail -c crates crates.txt HANDLES | tar -C "$work" -x || exit 1
 mkdir -p "$crate/src" "$crate/specs" "$crate/proofs" || exit 1
 printf '%s\n' '//! Cases of the definitions.' '#![tactic(auto)]' >"$crate/src/lib.rt"
 : >"$crate/specs/Lib.antt"
