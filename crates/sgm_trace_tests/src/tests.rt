@@ -150,18 +150,22 @@ fn a_tie(rt: HostRuntime) -> Result<(), Fail> {
     Ok(())
 }
 
-/// The costs are (8, 8, 8), (0, 6, 8), (6, 6, 0). From the second pixel to the third the guide changes by 3, which leaves
-/// 4 of the penalty 12, so the change from 0 to 2 pays there: 8 + 0 + 0 + 4. With the fixed penalty 1 1 2 has the
-/// least, 8 + 6 + 0 + 1.
-#[test]
-fn a_penalty_that_follows_the_image(rt: HostRuntime) -> Result<(), Fail> {
+/// The certificate of the last index at the third pixel of a row. The costs are (8, 8, 8), (0, 6, 8), (6, 6, 0). From the
+/// second pixel to the third the guide changes by 3.
+fn along_a_guide(alloc: Global, pen: Pen) -> Result<Traced, Fail> {
     let left = [30, 30, 40, 30, 40, 20].map(Some);
     let right = [10, 40, 10, 10, 20, 20].map(Some);
     let guide = [5, 5, 8, 8, 8, 8].map(Some);
     let span = Span::make(-1, 3).ok_or("span")?;
-    let adaptive = Pen::adaptive(1, 12).ok_or("pen")?;
-    let scene = scene_of(rt.alloc(), &left, &right, &guide, span, adaptive)?;
-    let found = traced(rt.alloc(), &scene, Dir::Right, 2, 1, 2)?;
+    let scene = scene_of(alloc, &left, &right, &guide, span, pen)?;
+    traced(alloc, &scene, Dir::Right, 2, 1, 2)
+}
+
+/// The guide leaves 4 of the penalty 12, so the change from 0 to 2 pays at the third pixel: 8 + 0 + 0 + 4.
+#[test]
+fn a_penalty_that_follows_the_image(rt: HostRuntime) -> Result<(), Fail> {
+    let pen = Pen::adaptive(1, 12).ok_or("pen")?;
+    let found = along_a_guide(rt.alloc(), pen)?;
     let steps = [
         step(0, 1, 0, 8, 0),
         step(1, 1, 0, 0, 0),
@@ -169,9 +173,14 @@ fn a_penalty_that_follows_the_image(rt: HostRuntime) -> Result<(), Fail> {
     ];
     assert_eq!(rt; found.energy, 12);
     assert!(rt; found.steps.as_slice() == steps.as_slice());
-    let fixed = Pen::make(1, 12).ok_or("pen")?;
-    let scene = scene_of(rt.alloc(), &left, &right, &guide, span, fixed)?;
-    let found = traced(rt.alloc(), &scene, Dir::Right, 2, 1, 2)?;
+    Ok(())
+}
+
+/// With the fixed penalty 1 1 2 has the least, 8 + 6 + 0 + 1.
+#[test]
+fn a_penalty_that_is_fixed(rt: HostRuntime) -> Result<(), Fail> {
+    let pen = Pen::make(1, 12).ok_or("pen")?;
+    let found = along_a_guide(rt.alloc(), pen)?;
     let steps = [
         step(0, 1, 1, 8, 0),
         step(1, 1, 1, 6, 0),

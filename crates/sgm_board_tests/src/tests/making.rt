@@ -22,7 +22,10 @@ use std::test::Fail;
 /// The plane of three rows, each of these values.
 fn plane_of(alloc: Global, row: &[u16; 5]) -> Result<Plane, Fail> {
     let size = Size::make(5, 3).ok_or("size")?;
-    let entries = [row.map(Some), row.map(Some), row.map(Some)].concat(alloc)?;
+    let mut entries = Vec::new(alloc);
+    for at in 0..15 {
+        entries.push(Some(row[at % 5]))?;
+    }
     Ok(Plane::make(size, entries).ok_or("entries")?)
 }
 

@@ -3,7 +3,7 @@ ghost use Rattle.std.specs.Prelude.{◌≡◌, ◌≤◌, ◌<◌, All};
 ghost use Rattle.sgm_strip.specs.Scenes.{row_length};
 ghost use Rattle.sgm_strip.specs.Parcels.{IsOf};
 
-use super::making::{parcels_of, scene_of};
+use super::making::{parcels_of, row_of, scene_of};
 use super::sums::has_sums;
 use sgm_energy::Dir;
 use sgm_strip::{Cut, Front, Parcel, Row, Scene, pass};
@@ -99,16 +99,26 @@ fn shared<T: Send + Sync>(value: &T) -> &T
     value
 }
 
+fn shares_parcel(alloc: Global, scene: &Scene, cut: Cut) -> Result<u32, Fail>
+    requires { cut.height ≡ scene.now.left.height }
+{
+    let parcel = Parcel::make(alloc, shared(scene), cut, 0)?;
+    Ok(shared(&parcel).strip())
+}
+
+fn shares_front(alloc: Global, scene: &Scene, cut: Cut) -> Result<u32, Fail>
+    requires { cut.height ≡ scene.now.left.height }
+{
+    let front = Front::make(alloc, scene, cut, Dir::Down)?;
+    Ok(shared(&front).next())
+}
+
 #[test]
 fn threads_may_share_and_move_them(rt: HostRuntime) -> Result<(), Fail> {
-    let alloc = rt.alloc();
-    let scene = scene_of(alloc)?;
-    let size = scene.size();
-    let cut = Cut::even(size.height, 2);
-    let parcel = Parcel::make(alloc, shared(&scene), cut, 0)?;
-    let front = Front::make(alloc, &scene, cut, Dir::Down)?;
-    let _ = shared(&Row::make(alloc, size, scene.span())?);
-    assert_eq!(rt; shared(&parcel).strip(), 0);
-    assert_eq!(rt; shared(&front).next(), 0);
+    let scene = scene_of(rt.alloc())?;
+    let cut = Cut::even(scene.size().height, 2);
+    assert_eq!(rt; shares_parcel(rt.alloc(), &scene, cut)?, 0);
+    assert_eq!(rt; shares_front(rt.alloc(), &scene, cut)?, 0);
+    let _ = shared(&row_of(rt.alloc(), &scene)?);
     Ok(())
 }

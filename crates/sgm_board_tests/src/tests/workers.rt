@@ -34,18 +34,12 @@ fn matched<R: Threads + Sync, G: Gate + Sync>(
 
 /// Whether the visits are those of all strips, in this order.
 fn goes_through(visits: &[Visit], strips: u32, down: bool) -> bool {
-    let mut next = 0;
-    for visit in visits {
-        if next >= strips {
-            return false;
-        }
-        let strip = if down { next } else { strips - 1 - next };
-        if visit.strip != strip {
-            return false;
-        }
-        next += 1;
+    let order = visits.iter().map(|visit| visit.strip);
+    if down {
+        order.eq(0..strips)
+    } else {
+        order.rev().eq(0..strips)
     }
-    next == strips
 }
 
 #[test]

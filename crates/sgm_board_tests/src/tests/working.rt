@@ -41,6 +41,20 @@ pub(super) fn hand_on(
     true
 }
 
+/// Whether the pass sees that a front has passed all strips.
+fn has_passed(board: &Board, pass: &mut Pass, number: usize) -> bool
+    requires own { IsPassOf board.now pass.old }
+    requires idle { IsIdle (parts_of pass.old) }
+    ensures own { IsPassOf board.now pass.new }
+    ensures idle { IsIdle (parts_of pass.new) }
+    ensures gathered { (parts_of pass.new).gathered ≡ (parts_of pass.old).gathered }
+{
+    match dir_of(number) {
+        Some(dir) => board.passed(pass, dir) == board.strips(),
+        None => false,
+    }
+}
+
 /// Whether the pass sees that each front has passed all strips.
 fn is_over(board: &Board, pass: &mut Pass) -> bool
     requires own { IsPassOf board.now pass.old }
@@ -50,10 +64,8 @@ fn is_over(board: &Board, pass: &mut Pass) -> bool
     ensures gathered { (parts_of pass.new).gathered ≡ (parts_of pass.old).gathered }
 {
     for number in 0..6 {
-        if let Some(dir) = dir_of(number) {
-            if board.passed(pass, dir) < board.strips() {
-                return false;
-            }
+        if !has_passed(board, pass, number) {
+            return false;
         }
     }
     true
