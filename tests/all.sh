@@ -8,9 +8,10 @@
 # With NAMEs only these run; --list prints them all. A test whose tools aren't installed is skipped, and the line
 # says which; --install installs them first, by apt-get, as root, but for those of ssh and Slurm, whose packages start
 # servers. The programs are those that the variables SGM and SGM_SERIES name (./sgm and ./sgm_series of this repository
-# without them), which are built first where they aren't. Once they are, all tests together take about half an hour, most
-# of it definitions, which asks the toolchain for proofs, and compare. Of the edits that stand outside the gate it asks
-# only whether each can be applied; tests/edits.py tries them, for over an hour of processor time.
+# without them), which are built first where they aren't. Once they are, all tests together take about half an hour, half
+# of it compare, package and definitions. The last two ask the toolchain for what is proved in this checkout, and take
+# many minutes more where nothing is. Of the edits that stand outside the gate it asks only whether each can be applied;
+# tests/edits.py tries them, for over an hour of processor time.
 #
 # Status: 0 where none failed, 1 where one did, 2 for wrong words. What a test that failed has printed is kept, and
 # the path of the file stands below its line.
