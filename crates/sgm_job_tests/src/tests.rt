@@ -132,7 +132,7 @@ fn refined<R: Threads + Sync>(rt: &R, alloc: Global, peak: u32) -> Result<Survey
     let calib = calib(alloc, &[SETTINGS, CAMERA, GRID])?;
     let left = image_of_rows(alloc, &LEFT)?;
     let right = image_of_rows(alloc, &RIGHT)?;
-    let refine = Refine { peak, fill: true };
+    let refine = Refine::make(peak, true).ok_or("peak")?;
     let found = survey_refined(rt, alloc, &left, &right, &calib, 2, 2, refine, &OpenGate);
     Ok(found.ok().ok_or("survey")?)
 }
