@@ -30,21 +30,6 @@ pub fn image_of_rows(alloc: Global, row: &[u16; 5]) -> Result<Image, Fail> {
     image(alloc, (5, 3), rows.as_slice())
 }
 
-/// The entries of a disparity map: 0 and 1 are indices, and a dot is none.
-pub fn map_of(alloc: Global, rows: &[&str]) -> Result<Vec<Option<u16>>, Fail> {
-    let mut entries = Vec::new(alloc);
-    for row in rows {
-        for mark in row.bytes() {
-            entries.push(match mark {
-                b'0' => Some(0),
-                b'1' => Some(16),
-                _ => None,
-            })?;
-        }
-    }
-    Ok(entries)
-}
-
 /// The calibration whose text has these parts, up to its end.
 pub fn calib(alloc: Global, parts: &[&str]) -> Result<Calib, Fail> {
     let mut text = String::new(alloc);

@@ -4,9 +4,7 @@
 ghost use Rattle.std.specs.Prelude.{◌≤◌};
 ghost use Rattle.sgm_base.specs.declared.limits.TheConstants.{MAX_STRIPS, MAX_WORKERS};
 
-use crate::fixtures::{
-    LEFT, RIGHT, calib, even_image, image, image_of_rows, map_of, settings_2, span,
-};
+use crate::fixtures::{LEFT, RIGHT, calib, even_image, image, image_of_rows, settings_2, span};
 use sgm_base::{Image, Side, Size};
 use sgm_calib::Calib;
 use sgm_example::{CAMERA, GRID, REGIONS, SETTINGS};
@@ -41,91 +39,118 @@ fn example<R: Threads + Sync>(
     Ok(found.ok().ok_or("survey")?)
 }
 
-/// The cells of a survey's grid, row by row from the north.
-fn cells(alloc: Global, found: &Surveyed) -> Result<Vec<Option<i32>>, Fail> {
-    let grid = found.grid.as_ref().ok_or("no grid")?;
-    let mut cells = Vec::new(alloc);
-    for row in 0..grid.spec().rows {
-        cells.extend_from_slice(grid.row(row))?;
-    }
-    Ok(cells)
+/// Whether each of the three rows of a survey's map is this one.
+fn has_map(found: &Surveyed, row: &[Option<u16>]) -> bool {
+    let mut rows = found.disp.entries().chunks(5);
+    rows.len() == 3 && rows.all(|entries| entries == row)
 }
 
-// The index 1 lies at a depth of 100000, at x = 1000 * column and y = -1000 * row, and the index 0 has no point.
-#[test]
-fn the_worked_example(rt: HostRuntime) -> Result<(), Fail> {
-    let alloc = rt.alloc();
-    let calib = calib(alloc, &[SETTINGS, CAMERA, GRID, REGIONS])?;
-    let map = map_of(alloc, &["00111", "00111", "00111"])?;
-    let height = Some(50_000);
-    let row = [height, height, height, None];
-    let grid = [row, row, row].concat(alloc)?;
-    let all = RegionTally {
+/// Whether a survey has a grid of three rows, each this one.
+fn has_cells(found: &Surveyed, row: &[Option<i32>]) -> bool {
+    let Some(grid) = &found.grid else {
+        return false;
+    };
+    for y in 0..grid.spec().rows {
+        if grid.row(y) != row {
+            return false;
+        }
+    }
+    grid.spec().rows == 3
+}
+
+/// Whether a survey has these tallies.
+fn has_tallies(found: &Surveyed, wanted: &[RegionTally]) -> bool {
+    match &found.tallies {
+        Some(tallies) => tallies.as_slice() == wanted,
+        None => false,
+    }
+}
+
+/// A row of the map of the worked example: the indices 0, 0, 1, 1, 1.
+const MAP: [Option<u16>; 5] = [Some(0), Some(0), Some(16), Some(16), Some(16)];
+
+/// The height of its index 1, which lies at a depth of 100000, at x = 1000 * column and y = -1000 * row. The index 0 has
+/// no point.
+const HEIGHT: Option<i32> = Some(50_000);
+
+/// The tallies of its two regions, of all cells and of one empty cell in the east.
+const TALLIES: [RegionTally; 2] = [
+    RegionTally {
         cells: 9,
         empty: 3,
         fill: 90_000_000_000,
         cut: 0,
-        lowest: height,
-        highest: height,
-    };
-    let east = RegionTally {
+        lowest: HEIGHT,
+        highest: HEIGHT,
+    },
+    RegionTally {
         cells: 0,
         empty: 1,
         fill: 0,
         cut: 0,
         lowest: None,
         highest: None,
-    };
+    },
+];
+
+/// Whether a survey is that of the worked example.
+fn is_example(found: &Surveyed) -> bool {
+    has_map(found, &MAP)
+        && has_cells(found, &[HEIGHT, HEIGHT, HEIGHT, None])
+        && has_tallies(found, &TALLIES)
+}
+
+#[test]
+fn the_worked_example(rt: HostRuntime) -> Result<(), Fail> {
+    let calib = calib(rt.alloc(), &[SETTINGS, CAMERA, GRID, REGIONS])?;
     for (strips, workers) in [(1, 1), (2, 2), (3, 2), (64, 1), (64, 16), (1, 16)] {
-        let found = example(&rt, alloc, &calib, strips, workers)?;
-        assert_eq!(rt; found.disp.entries(), map.as_slice(), "{strips} {workers}");
-        assert_eq!(rt;
-            cells(alloc, &found)?.as_slice(),
-            grid.as_slice(),
-            "{strips} {workers}"
-        );
-        let tallies = found.tallies.as_ref().ok_or("no tallies")?;
-        assert_eq!(rt;
-            tallies.as_slice(),
-            [all, east].as_slice(),
-            "{strips} {workers}"
-        );
+        let found = example(&rt, rt.alloc(), &calib, strips, workers)?;
+        assert!(rt; is_example(&found), "{strips} {workers}");
     }
     Ok(())
+}
+
+/// The survey of the worked example with the greater penalty 3, which follows the image or is fixed.
+fn by_version_2<R: Threads + Sync>(rt: &R, alloc: Global, adapt: bool) -> Result<Surveyed, Fail> {
+    let settings = settings_2(alloc, 3, adapt)?;
+    let calib = calib(alloc, &[settings.as_str(), CAMERA, GRID, REGIONS])?;
+    example(rt, alloc, &calib, 2, 2)
 }
 
 // Two indices never differ by more than 1, so it doesn't matter what a greater change costs.
 #[test]
 fn penalties_that_follow_the_image(rt: HostRuntime) -> Result<(), Fail> {
-    let alloc = rt.alloc();
-    let map = map_of(alloc, &["00111", "00111", "00111"])?;
     for adapt in [false, true] {
-        let settings = settings_2(alloc, 3, adapt)?;
-        let calib = calib(alloc, &[settings.as_str(), CAMERA, GRID, REGIONS])?;
-        let found = example(&rt, alloc, &calib, 2, 2)?;
-        assert_eq!(rt; found.disp.entries(), map.as_slice(), "{adapt}");
-        let tallies = found.tallies.as_ref().ok_or("no tallies")?;
-        assert_eq!(rt; tallies.len(), 2);
+        let found = by_version_2(&rt, rt.alloc(), adapt)?;
+        assert!(rt; is_example(&found), "{adapt}");
     }
     Ok(())
+}
+
+/// The survey of the worked example without segments of fewer pixels, filled.
+fn refined<R: Threads + Sync>(rt: &R, alloc: Global, peak: u32) -> Result<Surveyed, Fail> {
+    let calib = calib(alloc, &[SETTINGS, CAMERA, GRID])?;
+    let left = image_of_rows(alloc, &LEFT)?;
+    let right = image_of_rows(alloc, &RIGHT)?;
+    let refine = Refine::make(peak, true).ok_or("peak")?;
+    let found = survey_refined(rt, alloc, &left, &right, &calib, 2, 2, refine, &OpenGate);
+    Ok(found.ok().ok_or("survey")?)
 }
 
 // All fifteen pixels are one segment.
 #[test]
 fn the_worked_example_refined(rt: HostRuntime) -> Result<(), Fail> {
-    let alloc = rt.alloc();
-    let calib = calib(alloc, &[SETTINGS, CAMERA, GRID])?;
-    let left = image_of_rows(alloc, &LEFT)?;
-    let right = image_of_rows(alloc, &RIGHT)?;
-    for (peak, row, cell) in [(15, "00111", Some(50_000)), (16, ".....", None)] {
-        let refine = Refine { peak, fill: true };
-        let found = survey_refined(&rt, alloc, &left, &right, &calib, 2, 2, refine, &OpenGate);
-        let found = found.ok().ok_or("survey")?;
-        let map = map_of(alloc, &[row, row, row])?;
-        assert_eq!(rt; found.disp.entries(), map.as_slice(), "{peak}");
-        let cells = cells(alloc, &found)?;
-        assert!(rt; cells.first() == Some(&cell), "{peak}");
-    }
+    let found = refined(&rt, rt.alloc(), 15)?;
+    assert!(rt; has_map(&found, &MAP));
+    assert!(rt; has_cells(&found, &[HEIGHT, HEIGHT, HEIGHT, None]));
+    Ok(())
+}
+
+#[test]
+fn the_worked_example_without_its_only_segment(rt: HostRuntime) -> Result<(), Fail> {
+    let found = refined(&rt, rt.alloc(), 16)?;
+    assert!(rt; has_map(&found, &[None; 5]));
+    assert!(rt; has_cells(&found, &[None; 4]));
     Ok(())
 }
 

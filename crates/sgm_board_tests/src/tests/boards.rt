@@ -1,37 +1,67 @@
-//! Boards can be made, and threads finish one.
+//! Boards can be made, and threads finish one. What is made stands apart from what is asked of it, since each way out of a
+//! body is proved to give back all that was made until then.
+ghost use Rattle.std.specs.Prelude.{◌≡◌, ◌<◌};
+ghost use Rattle.sgm_strip.specs.Scenes.{row_length};
+ghost use Rattle.sgm_board.specs.Boards.{parts_of, scene_of, strips_of, IsPassOf, IsIdle};
+
 use super::making::{row_of, scene_of, two_passes};
 use super::sums::has_sums;
 use super::taking::{lower_strip_goes_first, refuses, upper_strip_goes_second};
 use super::workers::finish_all;
 use super::working::work_both;
+use sgm_board::{Board, Pass};
+use sgm_strip::{Parcel, Row, Scene};
+use std::alloc::Global;
 use std::test::Fail;
+use std::thread::Threads;
+
+/// The first pass takes the upper strip of two, and the second one then gets the lower one alone.
+fn go_to_one_at_a_time(
+    board: &Board,
+    first: &mut Pass,
+    second: &mut Pass,
+    spare: &mut Row,
+) -> Result<(), Fail>
+    requires first { IsPassOf board.now first.old × IsIdle (parts_of first.old) }
+    requires second { IsPassOf board.now second.old × IsIdle (parts_of second.old) }
+    requires two { 1 < strips_of board.now }
+    requires spare { spare.old ≡ row_length (scene_of board.now) }
+{
+    let Some(upper) = board.try_claim(first, 0) else {
+        return Err("strip 0 is free")?;
+    };
+    if !refuses(board, second, 0) {
+        return Err("strip 0 is held")?;
+    }
+    lower_strip_goes_first(board, second, spare)?;
+    upper_strip_goes_second(board, first, &upper)
+}
 
 #[test]
 fn a_strip_and_a_front_go_to_one_pass_at_a_time(rt: HostRuntime) -> Result<(), Fail> {
     let scene = scene_of(rt.alloc())?;
-    let (board, mut first, mut second) = two_passes(rt.alloc(), &scene, 2)?;
     let mut spare = row_of(rt.alloc(), &scene)?;
+    let (board, mut first, mut second) = two_passes(rt.alloc(), &scene, 2)?;
     if board.strips() != 2 {
         return Err("strips")?;
     }
-    let Some(upper) = board.try_claim(&mut first, 0) else {
-        return Err("strip 0 is free")?;
-    };
-    assert!(rt; refuses(&board, &mut second, 0), "strip 0 is held");
-    lower_strip_goes_first(&board, &mut second, &mut spare)?;
-    upper_strip_goes_second(&board, &mut first, &upper)?;
-    Ok(())
+    go_to_one_at_a_time(&board, &mut first, &mut second, &mut spare)
+}
+
+/// The parcels of a board of three strips on which two threads worked, once the caller has handed on what they left.
+fn completed<R: Threads + Sync>(rt: &R, alloc: Global, scene: &Scene) -> Result<Vec<Parcel>, Fail> {
+    let mut spare = row_of(alloc, scene)?;
+    let rows = (row_of(alloc, scene)?, row_of(alloc, scene)?);
+    let (board, first, second) = two_passes(alloc, scene, 3)?;
+    let (parcels, fronts) = work_both(rt, board, (first, rows.0), (second, rows.1));
+    let (parcels, _) = finish_all(parcels, fronts, &mut spare);
+    Ok(parcels)
 }
 
 #[test]
 fn two_threads_complete_a_board_of_three_strips(rt: HostRuntime) -> Result<(), Fail> {
     let scene = scene_of(rt.alloc())?;
-    let (board, first, second) = two_passes(rt.alloc(), &scene, 3)?;
-    let first = (first, row_of(rt.alloc(), &scene)?);
-    let second = (second, row_of(rt.alloc(), &scene)?);
-    let mut spare = row_of(rt.alloc(), &scene)?;
-    let (parcels, fronts) = work_both(&rt, board, first, second);
-    let (parcels, _) = finish_all(parcels, fronts, &mut spare);
+    let parcels = completed(&rt, rt.alloc(), &scene)?;
     assert_eq!(rt; parcels.len(), 3);
     assert!(rt; parcels.iter().all(|parcel| has_sums(parcel)));
     Ok(())

@@ -8,7 +8,7 @@ ghost use Rattle.sgm_board.specs.Settled.{AreSettled};
 use super::gates::{Meeting, Recorder};
 use super::making::{board_of, fronts_of, only_of, parcels_of, row_of, scene_of};
 use super::sums::has_sums;
-use sgm_strip::{Cut, Front, Parcel, Row, Visit};
+use sgm_strip::{Cut, Front, Parcel, Row, Scene, Visit};
 use sgm_work::{CALLER, Gate, Matched, OpenGate, finish, match_all, scan};
 use std::alloc::Global;
 use std::test::Fail;
@@ -112,24 +112,37 @@ pub(super) fn finish_all(
     (parcels, fronts)
 }
 
+/// The parcels and fronts of a board of three strips after one scan, once the caller has handed on what was left.
+fn finished(alloc: Global, scene: &Scene) -> Result<(Vec<Parcel>, Vec<Front>), Fail> {
+    let mut spare = row_of(alloc, scene)?;
+    let (board, passes) = board_of(alloc, scene, 3, 1)?;
+    let mut pass = only_of(&board, passes)?;
+    if scan(&board, &mut pass, &mut spare, &OpenGate) != 12 {
+        return Err("twelve fronts are passed on")?;
+    }
+    let (parcels, fronts) = board.close(pass);
+    Ok(finish_all(parcels, fronts, &mut spare))
+}
+
+/// Whether a front went through all three strips, and so many times by the caller.
+fn went_through(front: &Front, by_caller: usize) -> bool {
+    let caller = front.visits().iter().filter(|visit| visit.worker == CALLER);
+    goes_through(front.visits(), 3, goes_down(front)) && caller.count() == by_caller
+}
+
+fn goes_down(front: &Front) -> bool {
+    front.dir().offset().1 > 0
+}
+
 // One scan takes the fronts that go down through all three strips, and those that go up through the last one alone.
 #[test]
 fn finish_goes_on_where_a_scan_ended(rt: HostRuntime) -> Result<(), Fail> {
-    let alloc = rt.alloc();
-    let scene = scene_of(alloc)?;
-    let (board, passes) = board_of(alloc, &scene, 3, 1)?;
-    let mut pass = only_of(&board, passes)?;
-    let mut spare = row_of(alloc, &scene)?;
-    assert_eq!(rt; scan(&board, &mut pass, &mut spare, &OpenGate), 12);
-    let (parcels, fronts) = board.close(pass);
-    let (parcels, fronts) = finish_all(parcels, fronts, &mut spare);
+    let scene = scene_of(rt.alloc())?;
+    let (parcels, fronts) = finished(rt.alloc(), &scene)?;
     assert!(rt; parcels.iter().all(|parcel| has_sums(parcel)));
     assert_eq!(rt; fronts.len(), 6);
     for front in &fronts {
-        let down = front.dir().offset().1 > 0;
-        assert!(rt; goes_through(front.visits(), 3, down));
-        let caller = front.visits().iter().filter(|visit| visit.worker == CALLER);
-        assert_eq!(rt; caller.count(), if down { 0 } else { 2 });
+        assert!(rt; went_through(front, if goes_down(front) { 0 } else { 2 }));
     }
     Ok(())
 }
