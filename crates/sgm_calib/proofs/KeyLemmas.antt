@@ -1,8 +1,6 @@
 -- The checks of an object's keys, and of an object of the value itself.
 use Rattle.std.proofs.Common.{◌≡◌, ℕ, ◌+◌, ◌≤◌, ℤ, pos, negsuc, nat_abs, ◌-ℤ◌, ◌≤ℤ◌, arith, Bool, true, false, if◌then◌else◌, List, ◌∷◌, Option, Some, None, Ok, Err, option_map, Bor, refl, ap, sym, ◌∙◌}
 use Rattle.std.proofs.lemmas.Int.{ints}
-use Rattle.std.specs.Int.{w64}
-use mir.Val.{SFits}
 use Rattle.std.specs.Option.{option_or}
 use Rattle.std.specs.Result.{result_err}
 use Rattle.serde_json.specs.Data.{Data}
@@ -17,7 +15,6 @@ use Rattle.sgm_calib.specs.declared.place.TheConstants.{PLAIN}
 use Rattle.sgm_calib.specs.Rows.{Row, key_at}
 use Rattle.sgm_calib.specs.Table as table
 use Rattle.sgm_calib.specs.Table.{rows_in}
-use Rattle.sgm_calib.specs.declared.sort.Sort.{Sort}
 use Rattle.sgm_calib.specs.Checks.{typed_in, or_out_of_range, text_in, key_fault, keys_fault}
 use Rattle.sgm_calib.specs.WarpKeys.{rows_of_kind, mesh_fault}
 use Rattle.sgm_calib.specs.Judge.{sort_of, itself_fault, held_fault, section_fault}
@@ -86,8 +83,3 @@ lines_inside (pos a) (pos b) lines low some high =
     (first_of (omega (arith, ints), grind (arith, ints)), first_of (omega (arith, ints), grind (arith, ints)))
 lines_inside (pos a) (negsuc b) lines low some high = absurd (first_of (omega (arith, ints), grind (arith, ints)))
 lines_inside (negsuc a) count lines low some high = absurd (first_of (omega (arith, ints), grind (arith, ints)))
-
--- a small number above 0 fits
-pub small_fits : (z : ℤ) (most : ℕ) → pos 1 ≤ℤ z → z ≤ℤ pos most → most ≤ 2000000000 → SFits w64 z
-small_fits (pos a) most low high small = record { sfits = first_of (omega (arith, ints, high, small), grind (arith, ints, high, small)) }
-small_fits (negsuc a) most low high small = absurd (first_of (omega (arith, ints, low), grind (arith, ints, low)))

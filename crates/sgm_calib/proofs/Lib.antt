@@ -4,6 +4,7 @@ pub mod Kept
 pub mod KeyLemmas
 pub mod ListLemmas
 pub mod Names
+pub mod Numbers
 pub mod Objects
 pub mod RegionLemmas
 pub mod Short

@@ -142,6 +142,10 @@ key_fault place holder row = key_fault_of row.form place holder row
 abbrev pub keys_fault : Place → Data → List Row → Option CalibFault
 keys_fault place holder rows = first_of (map (key_fault place holder) rows)
 
+-- the first fault of some keys of an object that are whole numbers
+abbrev pub wholes_fault : Place → Data → List Row → Option CalibFault
+wholes_fault place holder rows = first_of (map (λ row. result_err (number_in place holder row)) rows)
+
 -- ---- values
 
 -- the value of a key in its object

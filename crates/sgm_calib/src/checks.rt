@@ -1,15 +1,16 @@
 //! The checks of one key, and of one object.
 
-ghost use Rattle.std.specs.Prelude.{◌≡◌, ◌==◌, ◌&&◌, ◌+◌, ◌<◌, ◌≤ℤ◌, IfOk, IfErr, OnOk, IsTrue, Some, None, Ok, Err, string_bytes, option_map, IsSome};
+ghost use Rattle.std.specs.Prelude.{◌≡◌, ◌==◌, ◌&&◌, ◌+◌, ◌<◌, ◌≤ℤ◌, pos, unsigned_abs, map, All, IfOk, IfErr, OnOk, IsTrue, Some, None, Ok, Err, string_bytes, option_map, IsSome};
 ghost use Rattle.std.specs.BTreeMap.{keys};
 ghost use Rattle.std.specs.List.{list_all, list_any};
 ghost use Rattle.std.specs.Str.{bytes_eq};
 ghost use Rattle.serde_json.specs.View.{view};
 ghost use Rattle.serde_json.specs.Find.{as_bool, as_str, get};
+ghost use Rattle.sgm_base.specs.Ranges.{IsFromTo};
 ghost use Rattle.sgm_calib.specs.Table as table;
 ghost use Rattle.sgm_calib.specs.Table.{is_known};
 ghost use Rattle.sgm_calib.specs.Rows.{key_at, whole, whole_at, number_of, least, greatest, has_parity, is_in_range, is_required, is_given, truth_at, meant, form_meant, presence_meant};
-ghost use Rattle.sgm_calib.specs.Checks.{number_in, typed_in, object_fault, text_of};
+ghost use Rattle.sgm_calib.specs.Checks.{number_in, typed_in, wholes_fault, object_fault, text_of};
 ghost use Rattle.sgm_calib.specs.Judge.{sort_of, version_fault, top_fault, itself_fault};
 
 use crate::keys::{CalibFault, Key};
@@ -29,13 +30,23 @@ pub fn key_at(row: &Row, place: Place) -> Key
     }
 }
 
-fn number_at(object: &Value, name: &str) -> i64
+/// The whole number under a name of an object, and 0 where there is none.
+pub fn number_at(object: &Value, name: &str) -> i64
     ensures { result ≡ whole_at name.now (view object.now) }
 {
     match object.get(name) {
         None => 0,
         Some(value) => value.as_i64().unwrap_or(0),
     }
+}
+
+/// The number under a name of an object, which isn't negative and fits.
+#[tactic(auto, using(std::proofs::lemmas::Int::ints))]
+pub fn count_at(object: &Value, name: &str) -> u32
+    requires { IsFromTo (pos 0) (pos 4294967295) (whole_at name.now (view object.now)) }
+    ensures { result ≡ unsigned_abs (whole_at name.now (view object.now)) }
+{
+    number_at(object, name) as u32
 }
 
 fn least(row: &Row, object: &Value) -> i64
@@ -127,6 +138,18 @@ pub fn odd_or_whole(object: &Value, row: &Row, place: Place) -> Result<i64, Cali
     } else {
         Err(CalibFault::Range(key_at(row, place)))
     }
+}
+
+/// Checks keys of an object, in their order, which are whole numbers.
+pub fn check_numbers(object: &Value, rows: &[Row], place: Place) -> Result<(), CalibFault>
+    requires { All (λ row. row.number + place.shift < 256) rows.now }
+    ensures ok { OnOk result (wholes_fault place (view object.now) (map meant rows.now) ≡ None) }
+    ensures fault { IfErr result (λ f. wholes_fault place (view object.now) (map meant rows.now) ≡ Some f) }
+{
+    for row in rows {
+        odd_or_whole(object, row, place)?;
+    }
+    Ok(())
 }
 
 /// The text of a key, or what is wrong: it is missing, or its type.

@@ -9,13 +9,14 @@ ghost use Rattle.sgm_calib.specs.Checks.{first_of, key_fault, keys_fault, text_o
 ghost use Rattle.sgm_calib.specs.RegionKeys.{region_place, region_fault, region_faults, regions_fault_of, regions_fault, area_of, area_in, regions_in};
 ghost use Rattle.sgm_calib.specs.Judge.{grid_in};
 
-use crate::checks::{check_object, key_at, text, whole};
+use crate::checks::{check_numbers, check_object, count_at, key_at, number_at, text};
 use crate::keys::{CalibError, CalibFault};
 use crate::lists::elements;
 use crate::place::{PLAIN, Place};
 use crate::sort::Sort;
 use crate::table::{
-    REGION, REGION_BASE, REGION_COL, REGION_COLS, REGION_NAME, REGION_ROW, REGION_ROWS, REGIONS,
+    REGION, REGION_BASE, REGION_COL, REGION_COLS, REGION_NAME, REGION_NUMBERS, REGION_ROW,
+    REGION_ROWS, REGIONS,
 };
 use serde_json::Value;
 use sgm_base::MAX_REGIONS;
@@ -76,17 +77,13 @@ fn region_numbers(object: &Value, place: Place) -> Result<RegionNumbers, CalibFa
         (table.region_col ∷ table.region_row ∷ table.region_cols ∷ table.region_rows ∷ table.region_base ∷ [])
         ≡ Some f) }
 {
-    let col = whole(object, &REGION_COL, place)?;
-    let row = whole(object, &REGION_ROW, place)?;
-    let cols = whole(object, &REGION_COLS, place)?;
-    let rows = whole(object, &REGION_ROWS, place)?;
-    let base = whole(object, &REGION_BASE, place)?;
+    check_numbers(object, &REGION_NUMBERS, place)?;
     Ok(RegionNumbers {
-        col: col as u32,
-        row: row as u32,
-        cols: cols as u32,
-        rows: rows as u32,
-        base,
+        col: count_at(object, REGION_COL.name),
+        row: count_at(object, REGION_ROW.name),
+        cols: count_at(object, REGION_COLS.name),
+        rows: count_at(object, REGION_ROWS.name),
+        base: number_at(object, REGION_BASE.name),
     })
 }
 

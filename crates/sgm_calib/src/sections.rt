@@ -18,13 +18,17 @@ ghost use Rattle.sgm_calib.specs.Checks.{keys_fault, value_of};
 ghost use Rattle.sgm_calib.specs.Table.{given_rows, rows_in, span_of, window_of, penalties_of, camera_of, grid_of};
 ghost use Rattle.sgm_calib.specs.Judge.{section_fault, camera_in, grid_in};
 
-use crate::checks::{is_given, object_in, odd_or_whole, sort_of, truth, truth_at, whole};
+use crate::checks::{
+    check_numbers, count_at, is_given, number_at, object_in, odd_or_whole, sort_of, truth,
+    truth_at, whole,
+};
 use crate::keys::CalibFault;
 use crate::place::PLAIN;
 use crate::sort::Sort;
 use crate::table::{
-    ADAPT, BASELINE, CAMERA, CELL, CENSUS, COUNT, CX, CY, DISPARITIES, DOFFS, FAR, FIRST, FOCAL,
-    GRID, GRID_COLS, GRID_ROWS, HEIGHT, MOUNT, NEAR, P1, P2, PENALTIES, SOUTH, WEST, WIDTH,
+    ADAPT, BASELINE, CAMERA, CAMERA_KEYS, CELL, CENSUS, COUNT, CX, CY, DISPARITIES, DOFFS, FAR,
+    FIRST, FOCAL, GRID, GRID_COLS, GRID_KEYS, GRID_ROWS, HEIGHT, MOUNT, NEAR, P1, P2, PENALTIES,
+    SOUTH, WEST, WIDTH,
 };
 use serde_json::Value;
 use sgm_base::Span;
@@ -166,26 +170,18 @@ pub fn penalties(top: &Value) -> Result<Pen, CalibFault>
 fn camera_of(object: &Value) -> Result<Camera, CalibFault>
     ensures ok { OnOk result (keys_fault PLAIN (view object.now) table.camera_keys ≡ None) }
     ensures value { IfOk result (λ c. c ≡ camera_of (view object.now)) }
-    ensures kept { IfOk result IsCamera }
     ensures fault { IfErr result (λ f. keys_fault PLAIN (view object.now) table.camera_keys ≡ Some f) }
 {
-    let focal = whole(object, &FOCAL, PLAIN)?;
-    let baseline = whole(object, &BASELINE, PLAIN)?;
-    let cx = whole(object, &CX, PLAIN)?;
-    let cy = whole(object, &CY, PLAIN)?;
-    let doffs = whole(object, &DOFFS, PLAIN)?;
-    let mount = whole(object, &MOUNT, PLAIN)?;
-    let near = whole(object, &NEAR, PLAIN)?;
-    let far = whole(object, &FAR, PLAIN)?;
+    check_numbers(object, &CAMERA_KEYS, PLAIN)?;
     Ok(Camera {
-        focal,
-        baseline,
-        cx,
-        cy,
-        doffs,
-        mount,
-        near,
-        far,
+        focal: number_at(object, FOCAL.name),
+        baseline: number_at(object, BASELINE.name),
+        cx: number_at(object, CX.name),
+        cy: number_at(object, CY.name),
+        doffs: number_at(object, DOFFS.name),
+        mount: number_at(object, MOUNT.name),
+        near: number_at(object, NEAR.name),
+        far: number_at(object, FAR.name),
     })
 }
 
@@ -208,46 +204,21 @@ pub fn camera(top: &Value) -> Result<Option<Camera>, CalibFault>
     }
 }
 
-/// The grid of numbers in their ranges.
-#[tactic(auto, using(std::proofs::lemmas::Int::ints))]
-fn grid_spec(west: i64, south: i64, cell: i64, cols: i64, rows: i64) -> GridSpec
-    requires west { IsFromTo (neg_ℤ MAX_PLACE) MAX_PLACE west }
-    requires south { IsFromTo (neg_ℤ MAX_PLACE) MAX_PLACE south }
-    requires cell { IsFromTo (pos 1) MAX_CELL cell }
-    requires cols { IsFromTo (pos 1) (pos MAX_GRID_LINES) cols }
-    requires rows { IsFromTo (pos 1) (pos MAX_GRID_LINES) rows }
-    ensures value { result ≡ record {
-      west = west;
-      south = south;
-      cell = cell;
-      cols = unsigned_abs cols;
-      rows = unsigned_abs rows;
-    } }
-    ensures kept { IsGridSpec result }
-{
-    GridSpec {
-        west,
-        south,
-        cell,
-        cols: cols as u32,
-        rows: rows as u32,
-    }
-}
-
 /// The grid that an object is, once its names are known.
 #[tactic(auto, unfolding(crate::specs::Table::grid_of))]
 fn grid_of(object: &Value) -> Result<GridSpec, CalibFault>
     ensures ok { OnOk result (keys_fault PLAIN (view object.now) table.grid_keys ≡ None) }
     ensures value { IfOk result (λ g. g ≡ grid_of (view object.now)) }
-    ensures kept { IfOk result IsGridSpec }
     ensures fault { IfErr result (λ f. keys_fault PLAIN (view object.now) table.grid_keys ≡ Some f) }
 {
-    let west = whole(object, &WEST, PLAIN)?;
-    let south = whole(object, &SOUTH, PLAIN)?;
-    let cell = whole(object, &CELL, PLAIN)?;
-    let cols = whole(object, &GRID_COLS, PLAIN)?;
-    let rows = whole(object, &GRID_ROWS, PLAIN)?;
-    Ok(grid_spec(west, south, cell, cols, rows))
+    check_numbers(object, &GRID_KEYS, PLAIN)?;
+    Ok(GridSpec {
+        west: number_at(object, WEST.name),
+        south: number_at(object, SOUTH.name),
+        cell: number_at(object, CELL.name),
+        cols: count_at(object, GRID_COLS.name),
+        rows: count_at(object, GRID_ROWS.name),
+    })
 }
 
 /// The grid, where there is one.

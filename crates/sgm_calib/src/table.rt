@@ -160,6 +160,9 @@ pub const MESH_ROWS: Row = key_row!(18 in 13 "warp.left." "rows": NODE_COUNTS, O
 
 pub const NODES: Row = key_row!(19 in 13 "warp.left." "nodes": COORDINATES, OF_MESH);
 
+/// The keys of a mesh before its nodes, in the order of the checks.
+pub const SHAPE_KEYS: [Row; 3] = [STEP, MESH_COLS, MESH_ROWS];
+
 /// The right side has the keys of the left one, seven numbers on.
 pub const RIGHT: Row = key_row!(20 in 12 "warp." "right": Form::Object);
 
@@ -193,6 +196,9 @@ pub const NEAR: Row = key_row!(34 in 27 "camera." "near": Form::Between(1, MAX_D
 
 pub const FAR: Row = key_row!(35 in 27 "camera." "far": Form::From("near", MAX_DEPTH));
 
+/// The keys of a camera, in the order of the checks.
+pub const CAMERA_KEYS: [Row; 8] = [FOCAL, BASELINE, CX, CY, DOFFS, MOUNT, NEAR, FAR];
+
 pub const GRID: Row = key_row!(36 in 1 "" "grid": Form::Object, Presence::With("regions"));
 
 pub const WEST: Row = key_row!(37 in 36 "grid." "west": PLACES);
@@ -204,6 +210,9 @@ pub const CELL: Row = key_row!(39 in 36 "grid." "cell": Form::Between(1, MAX_CEL
 pub const GRID_COLS: Row = key_row!(40 in 36 "grid." "cols": GRID_LINES);
 
 pub const GRID_ROWS: Row = key_row!(41 in 36 "grid." "rows": GRID_LINES);
+
+/// The keys of a grid, in the order of the checks.
+pub const GRID_KEYS: [Row; 5] = [WEST, SOUTH, CELL, GRID_COLS, GRID_ROWS];
 
 pub const REGIONS: Row = key_row!(42 in 1 "" "regions": Form::Regions, Presence::Optional);
 
@@ -220,6 +229,15 @@ pub const REGION_COLS: Row = key_row!(47 in 43 "]." "cols": Form::ColumnsFrom("c
 pub const REGION_ROWS: Row = key_row!(48 in 43 "]." "rows": Form::LinesFrom("row"));
 
 pub const REGION_BASE: Row = key_row!(49 in 43 "]." "base": BASES);
+
+/// The keys of a region behind its name, in the order of the checks.
+pub const REGION_NUMBERS: [Row; 5] = [
+    REGION_COL,
+    REGION_ROW,
+    REGION_COLS,
+    REGION_ROWS,
+    REGION_BASE,
+];
 
 /// The table, in the order of the checks.
 static KEYS: [Row; 50] = [

@@ -10,13 +10,15 @@ ghost use Rattle.sgm_calib.specs.Rows.{whole, count_of, meant, form_meant, prese
 ghost use Rattle.sgm_calib.specs.Checks.{object_fault, key_fault, keys_fault, numbers_fault, value_of, IsFaultOf};
 ghost use Rattle.sgm_calib.specs.WarpKeys.{kind_of, rows_of_kind, shape_keys, mesh_fault, matrix_in, pairs, side_fault, side_warp, warp_of_kind, warps_fault, warp_in};
 
-use crate::checks::{check_object, key_at, text, whole};
+use crate::checks::{check_numbers, check_object, count_at, key_at, text};
 use crate::keys::{CalibError, CalibFault};
 use crate::kind::{Kind, kind_named};
 use crate::lists::{number, numbers};
 use crate::place::{PLAIN, Place, RIGHT_SIDE};
 use crate::sort::Sort;
-use crate::table::{KIND, LEFT, MATRIX, MESH_COLS, MESH_ROWS, NODES, RIGHT, Row, STEP, WARP};
+use crate::table::{
+    KIND, LEFT, MATRIX, MESH_COLS, MESH_ROWS, NODES, RIGHT, Row, SHAPE_KEYS, STEP, WARP,
+};
 use serde_json::Value;
 use sgm_rectify::{Nodes, Warp};
 use std::alloc::{AllocError, Global};
@@ -73,13 +75,11 @@ fn mesh_shape(side: &Value, place: Place) -> Result<Shape, CalibFault>
     ensures rows_range { IfOk result (λ s. (MIN_NODE_COUNT ≤ s.rows) × (s.rows ≤ MAX_NODE_COUNT)) }
     ensures fault { IfErr result (λ f. keys_fault place (view side.now) shape_keys ≡ Some f) }
 {
-    let step = whole(side, &STEP, place)?;
-    let cols = whole(side, &MESH_COLS, place)?;
-    let rows = whole(side, &MESH_ROWS, place)?;
+    check_numbers(side, &SHAPE_KEYS, place)?;
     Ok(Shape {
-        step: step as u32,
-        cols: cols as u32,
-        rows: rows as u32,
+        step: count_at(side, STEP.name),
+        cols: count_at(side, MESH_COLS.name),
+        rows: count_at(side, MESH_ROWS.name),
     })
 }
 

@@ -26,14 +26,18 @@ fn push_fault(text: &mut String, fault: AscFault) -> Result<(), AllocError> {
     }
 }
 
+fn push_answer(alloc: Global, text: &mut String, bytes: &[u8]) -> Result<(), AllocError> {
+    match read_asc(alloc, bytes) {
+        Ok(grid) => push_grid(alloc, text, &grid),
+        Err(AscError::Fault(fault)) => push_fault(text, fault),
+        Err(AscError::NoMemory) => text.push_str("out of memory"),
+    }
+}
+
 /// The answer to the case of that text.
 pub fn answer(alloc: Global, case: &str) -> Result<String, AllocError> {
     let bytes = escapes::unescaped(alloc, case)?;
     let mut text = String::new(alloc);
-    match read_asc(alloc, &bytes) {
-        Ok(grid) => push_grid(alloc, &mut text, &grid)?,
-        Err(AscError::Fault(fault)) => push_fault(&mut text, fault)?,
-        Err(AscError::NoMemory) => text.push_str("out of memory")?,
-    }
+    push_answer(alloc, &mut text, &bytes)?;
     Ok(text)
 }

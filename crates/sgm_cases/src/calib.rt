@@ -112,14 +112,18 @@ fn push_calib(text: &mut String, calib: &Calib) -> Result<(), AllocError> {
     Ok(())
 }
 
+fn push_answer(alloc: Global, text: &mut String, bytes: &[u8]) -> Result<(), AllocError> {
+    match read(alloc, bytes) {
+        Ok(calib) => push_calib(text, &calib),
+        Err(CalibError::Fault(fault)) => push_fault(text, fault),
+        Err(CalibError::NoMemory) => text.push_str("out of memory"),
+    }
+}
+
 /// The answer to the case of that text.
 pub fn answer(alloc: Global, case: &str) -> Result<String, AllocError> {
     let bytes = escapes::unescaped(alloc, case)?;
     let mut text = String::new(alloc);
-    match read(alloc, &bytes) {
-        Ok(calib) => push_calib(&mut text, &calib)?,
-        Err(CalibError::Fault(fault)) => push_fault(&mut text, fault)?,
-        Err(CalibError::NoMemory) => text.push_str("out of memory")?,
-    }
+    push_answer(alloc, &mut text, &bytes)?;
     Ok(text)
 }

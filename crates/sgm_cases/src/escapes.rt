@@ -82,6 +82,14 @@ impl Bytes {
             )),
         }
     }
+
+    fn take_all(&mut self, alloc: Global, text: &str) -> Result<(), AllocError> {
+        let mut state = State::Plain;
+        for byte in text.as_bytes() {
+            state = self.take(alloc, state, *byte)?;
+        }
+        Ok(())
+    }
 }
 
 /// The bytes that a text stands for.
@@ -91,10 +99,7 @@ pub fn unescaped(alloc: Global, text: &str) -> Result<Vec<u8>, AllocError> {
         start: 0,
         copies: 0,
     };
-    let mut state = State::Plain;
-    for byte in text.as_bytes() {
-        state = read.take(alloc, state, *byte)?;
-    }
+    read.take_all(alloc, text)?;
     let Bytes {
         bytes,
         start: _,

@@ -14,15 +14,20 @@ fn held(alloc: Global, name: &str, bytes: &[u8]) -> Result<(String, Vec<u8>), Al
     Ok((String::from_str(alloc, name)?, bytes.to_vec(alloc)?))
 }
 
+fn calibration(alloc: Global) -> Result<String, AllocError> {
+    let mut text = String::new(alloc);
+    for part in CALIBRATION {
+        text.push_str(part)?;
+    }
+    Ok(text)
+}
+
 /// Its images and its calibration.
 pub fn files(alloc: Global) -> Result<Vec<(String, Vec<u8>)>, AllocError> {
-    let mut calibration = String::new(alloc);
-    for part in CALIBRATION {
-        calibration.push_str(part)?;
-    }
+    let text = calibration(alloc)?;
     let mut files = Vec::new(alloc);
     files.push(held(alloc, "l.pgm", LEFT)?)?;
     files.push(held(alloc, "r.pgm", RIGHT)?)?;
-    files.push(held(alloc, "c.json", calibration.as_bytes())?)?;
+    files.push(held(alloc, "c.json", text.as_bytes())?)?;
     Ok(files)
 }

@@ -91,27 +91,41 @@ impl Case {
             _ => Ok(false),
         }
     }
+
+    /// Takes in all fields, and answers whether there are such.
+    fn add_all(&mut self, alloc: Global, fields: &str) -> Result<bool, AllocError> {
+        if fields.is_empty() {
+            return Ok(true);
+        }
+        for field in fields.split(" ; ") {
+            if !self.add(alloc, field)? {
+                return Ok(false);
+            }
+        }
+        Ok(true)
+    }
 }
 
-fn read_case(alloc: Global, text: &str) -> Result<Option<Case>, AllocError> {
-    let (words, fields) = text.split_once(" ; ").unwrap_or((text, ""));
-    let mut case = Case {
+/// The case of those words that asks for nothing else.
+fn plain_case(alloc: Global, words: &str) -> Result<Case, AllocError> {
+    Ok(Case {
         words: words_of(alloc, words)?,
         files: example::files(alloc)?,
         trips: Vec::new(alloc),
         is_sure: false,
         out_stop: None,
         err_stop: None,
-    };
-    if fields.is_empty() {
-        return Ok(Some(case));
+    })
+}
+
+fn read_case(alloc: Global, text: &str) -> Result<Option<Case>, AllocError> {
+    let (words, fields) = text.split_once(" ; ").unwrap_or((text, ""));
+    let mut case = plain_case(alloc, words)?;
+    if case.add_all(alloc, fields)? {
+        Ok(Some(case))
+    } else {
+        Ok(None)
     }
-    for field in fields.split(" ; ") {
-        if !case.add(alloc, field)? {
-            return Ok(None);
-        }
-    }
-    Ok(Some(case))
 }
 
 fn push_quoted(text: &mut String, bytes: &[u8]) -> Result<(), AllocError> {
@@ -154,40 +168,58 @@ fn push_untold(
     Ok(())
 }
 
+/// Adds how a run ended, what the shelf holds then, and what the two streams received.
+fn push_end<S: Shelf>(
+    alloc: Global,
+    text: &mut String,
+    outcome: Outcome,
+    shelf: &mut S,
+    out: &[u8],
+    err: &[u8],
+) -> Result<(), AllocError> {
+    let status = outcome.status();
+    write!(text, "{status}")?;
+    for name in ["o.pgm", "o.asc", "o.csv"] {
+        push_held(alloc, text, shelf, name)?;
+    }
+    text.push_str(" | out ")?;
+    push_quoted(text, out)?;
+    text.push_str(" | err ")?;
+    push_quoted(text, err)?;
+    push_untold(alloc, text, outcome, err)
+}
+
 /// How a run of these words ends over the shelf, with these streams.
 fn end_of<R: Threads + Sync, S: Shelf>(
     rt: &R,
     alloc: Global,
     words: &[String],
     shelf: &mut S,
-    mut out: MemorySink,
-    mut err: MemorySink,
+    out: &mut MemorySink,
+    err: &mut MemorySink,
 ) -> Result<String, AllocError> {
-    let outcome = run(rt, alloc, words, shelf, &mut out, &mut err, &OpenGate);
-    let status = outcome.status();
-    let mut text = format!(in alloc; "{status}")?;
-    for name in ["o.pgm", "o.asc", "o.csv"] {
-        push_held(alloc, &mut text, shelf, name)?;
-    }
-    text.push_str(" | out ")?;
-    push_quoted(&mut text, out.taken())?;
-    text.push_str(" | err ")?;
-    push_quoted(&mut text, err.taken())?;
-    push_untold(alloc, &mut text, outcome, err.taken())?;
+    let outcome = run(rt, alloc, words, shelf, out, err, &OpenGate);
+    let mut text = String::new(alloc);
+    push_end(alloc, &mut text, outcome, shelf, out.taken(), err.taken())?;
     Ok(text)
 }
 
-fn end_of_case<R: Threads + Sync>(rt: &R, alloc: Global, case: Case) -> Result<String, AllocError> {
+/// How a case ends, with these streams.
+fn end_with<R: Threads + Sync>(
+    rt: &R,
+    alloc: Global,
+    case: Case,
+    out: &mut MemorySink,
+    err: &mut MemorySink,
+) -> Result<String, AllocError> {
     let Case {
         words,
         files,
         trips,
         is_sure,
-        out_stop,
-        err_stop,
+        out_stop: _,
+        err_stop: _,
     } = case;
-    let out = MemorySink::make(alloc, ROOM, out_stop)?;
-    let err = MemorySink::make(alloc, ROOM, err_stop)?;
     if is_sure {
         let mut shelf = SureShelf::make(alloc, files)?;
         end_of(rt, alloc, &words, &mut shelf, out, err)
@@ -195,6 +227,12 @@ fn end_of_case<R: Threads + Sync>(rt: &R, alloc: Global, case: Case) -> Result<S
         let mut shelf = MemoryShelf::make(alloc, files, trips)?;
         end_of(rt, alloc, &words, &mut shelf, out, err)
     }
+}
+
+fn end_of_case<R: Threads + Sync>(rt: &R, alloc: Global, case: Case) -> Result<String, AllocError> {
+    let mut out = MemorySink::make(alloc, ROOM, case.out_stop)?;
+    let mut err = MemorySink::make(alloc, ROOM, case.err_stop)?;
+    end_with(rt, alloc, case, &mut out, &mut err)
 }
 
 /// The answer to the case of that text.

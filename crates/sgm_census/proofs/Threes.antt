@@ -23,6 +23,15 @@ pub pushed_three : (c word k : ℕ) (values : List ℕ) → k + 2 < length value
     → 2 * (2 * (2 * word + from_bool (ltb (get_or values k 0) c)) + from_bool (ltb (get_or values (k + 1) 0) c)) + from_bool (ltb (get_or values (k + 2) 0) c) ≡ pushed word (lesser c (take 3 (drop k values)))
 pushed_three c word k values h = sym (ap (λ us. pushed word (lesser c (take 3 us))) (three_at values k h))
 
+-- a bit
+pub bit_small : (n : ℕ) (b : Bool) → n ≡ from_bool b → n ≤ 1
+bit_small n true e = omega (arith, e)
+bit_small n false e = omega (arith, e)
+
+-- three bits, pushed at once
+pub three_bits : (word a b c x y z pushed : ℕ) → a ≡ x → b ≡ y → c ≡ z → 2 * (2 * (2 * word + x) + y) + z ≡ pushed → 8 * word + ((4 * a + 2 * b) + c) ≡ pushed
+three_bits word a b c x y z pushed ex ey ez e = omega (arith, ex, ey, ez, e)
+
 -- a row of a window with three values more
 pub places_more : (c k n m at bits more : ℕ) (values : List ℕ) → m ≡ n + 3 → at ≡ k + n → bits ≡ pushed 0 (lesser c (take n (drop k values))) → more ≡ pushed bits (lesser c (take 3 (drop at values)))
     → more ≡ pushed 0 (lesser c (take m (drop k values)))

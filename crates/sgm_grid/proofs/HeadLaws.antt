@@ -76,6 +76,20 @@ lacks_line name word at words more (Range k) is same lacks low high places = lac
 lacks_line name word at words more (Count have need) is same lacks low high places = lacks low high places
 lacks_line name word at words more (Height index) is same lacks low high places = lacks low high places
 
+-- no word is there
+pub lacks_word : (at : ℕ) (words : List (List ℕ)) → words ≡ [] → LacksNumber at words (Word at)
+lacks_word at words is low high places = ap (first_failing is_kind at (number low high ∷ places)) is
+
+not_some : (o : Option ℤ) → option_map capped o ≡ None → is_some o ≡ false
+not_some None e = refl
+not_some (Some real) e = absurd cc
+
+-- the word there writes no number
+pub lacks_number : (word : List ℕ) (at : ℕ) (words more : List (List ℕ)) → words ≡ word ∷ more → option_map capped (number_of word) ≡ None → LacksNumber at words (Word at)
+lacks_number word at words more is none low high places =
+    ap (first_failing is_kind at (number low high ∷ places)) is
+    ∙ ap (λ (t : Bool). if t then first_failing is_kind (at + 1) places more else Some at) (not_some (number_of word) none)
+
 -- ---- ranges
 
 pub out_past : (low high value : ℤ) (at : ℕ) (others : Option ℕ) → is_from_to low high value ≡ true → out_of low high value at others ≡ others

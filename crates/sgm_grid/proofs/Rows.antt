@@ -1,6 +1,6 @@
 -- The texts of rows.
-use Rattle.std.proofs.Common.{◌≡◌, ℕ, ◌<◌, List, [], ◌∷◌, ◌++◌, map, length, drop, get_or, ℤ, Option, None, sym, ap, ◌∙◌, arith, flat_map, ◌+◌, append-nil, append_assoc, take, subst, ◌-◌, ◌≤◌, Result, Ok, Err, is_ok, OnOk, if◌then◌else◌}
-use Rattle.std.proofs.lemmas.List.{take-append-drop, take_all, length-drop}
+use Rattle.std.proofs.Common.{◌≡◌, ℕ, ◌<◌, List, [], ◌∷◌, ◌++◌, map, length, drop, get_or, ℤ, Option, None, sym, ap, ◌∙◌, arith, flat_map, ◌+◌, append-nil, append_assoc, take, subst, ◌-◌, ◌≤◌, Result, Ok, Err, is_ok, OnOk, OnErr, if◌then◌else◌}
+use Rattle.std.proofs.lemmas.List.{take-append-drop, take_all, take_more, length-drop}
 use Rattle.std.proofs.Math.Seq.{take-append_seam}
 use Rattle.std.proofs.lemmas.List.{flat_map_more}
 use Rattle.std.proofs.lemmas.List.FromFn.{map-range_with_len_more}
@@ -77,3 +77,24 @@ rows_more grid n first old new heights is before now =
 -- what was added at the end of a text leaves what stood before
 pub starts_more : (xs ys zs added : List ℕ) → StartsAs xs ys → zs ≡ ys ++ added → StartsAs xs zs
 starts_more xs ys zs added p is = starts_on xs ys zs p (subst (λ (t : List ℕ). StartsAs ys t) (sym is) (starts_append ys added))
+
+-- a text with more at its end begins as before
+pub starts_with : (first now added : List ℕ) → now ≡ first ++ added → StartsAs first now
+starts_with first now added is = subst (λ (t : List ℕ). StartsAs first t) (sym is) (starts_append first added)
+
+-- the heights so far, each after a space, and the next
+pub heights_more : (heights : List (Option ℤ)) (n : ℕ) (first old spaced new : List ℕ) → n < length heights
+    → old ≡ first ++ after_spaces (take n heights) → spaced ≡ old ++ (32 ∷ []) → new ≡ spaced ++ height_text (get_or heights n None)
+    → new ≡ first ++ after_spaces (take (n + 1) heights)
+heights_more heights n first old spaced new inside before space now =
+    let each : Option ℤ → List ℕ = λ height. 32 ∷ height_text height in
+    let height = get_or heights n None in
+    now ∙ ap (λ (t : List ℕ). t ++ height_text height) space
+    ∙ append_assoc old (32 ∷ []) (height_text height)
+    ∙ ap (λ (t : List ℕ). t ++ each height) before
+    ∙ flat_map_more each first (take n heights) height
+    ∙ ap (λ (t : List (Option ℤ)). first ++ after_spaces t) (sym (take_more heights n None inside))
+
+pub on_err : {E P : Type 0} (r : Result (Unit {0}) E) → P → OnErr r P
+on_err (Ok u) p = tt
+on_err (Err e) p = p

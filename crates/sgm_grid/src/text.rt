@@ -75,7 +75,6 @@ fn append_cell(spec: GridSpec, empty: &[u8], into: &mut Vec<u8>) -> Result<(), A
 }
 
 /// Adds the lines of the rows, from the north.
-#[tactic(auto, using(crate::proofs::Rows::starts_on, crate::proofs::Rows::starts_append))]
 fn append_rows(grid: &Grid, into: &mut Vec<u8>) -> Result<(), AllocError>
     ensures ok { OnOk result (into.new.items ≡ into.old.items ++ rows_text grid.now) }
     ensures err { OnErr result (StartsAs into.old.items into.new.items) }

@@ -1,22 +1,25 @@
 //! Reading grids' texts: the worked rows, and a case of each fault. More are cases of `sgm_cases`.
 
-use crate::grid::EXAMPLE;
-use sgm_base::Point;
-use sgm_grid::{AscError, AscFault, Grid, read_asc};
+use crate::grid::{EXAMPLE, grid_with, text_of};
+use sgm_grid::{AscError, AscFault, read_asc};
 use std::alloc::{AllocError, Global};
+use std::process::Abort;
 use std::test::Fail;
 
 /// The text of the worked example with one height.
-fn written(alloc: Global) -> Result<Vec<u8>, AllocError> {
-    let mut grid = Grid::make(alloc, EXAMPLE)?;
-    grid.add(Point {
-        x: 4_500,
-        y: 500,
-        h: -7,
-    });
-    let mut text = Vec::new(alloc);
-    grid.write_asc(&mut text)?;
-    Ok(text)
+fn written(rt: &impl Abort, alloc: Global) -> Result<Vec<u8>, AllocError> {
+    let grid = grid_with(rt, alloc, EXAMPLE, &[(4_500, 500, -7)])?;
+    text_of(alloc, &grid, b"")
+}
+
+/// Whether a text is read as that grid.
+fn is_read(alloc: Global, text: &[u8]) -> bool {
+    match read_asc(alloc, text) {
+        Ok(grid) => {
+            grid.spec() == EXAMPLE && (grid.get(2, 0), grid.get(1, 0)) == (Some(-7), None)
+        }
+        Err(_) => false,
+    }
 }
 
 /// The fault of a text, or None where it has none.
@@ -29,46 +32,34 @@ fn fault_of(alloc: Global, text: &[u8]) -> Option<AscFault> {
 
 #[test]
 fn what_was_written_is_read(rt: HostRuntime) -> Result<(), Fail> {
-    let text = written(rt.alloc())?;
-    match read_asc(rt.alloc(), &text) {
-        Ok(grid) => {
-            assert_eq!(rt; grid.spec(), EXAMPLE);
-            assert_eq!(rt; (grid.get(2, 0), grid.get(1, 0)), (Some(-7), None));
-        }
-        Err(_) => assert!(rt; false),
-    }
+    let text = written(&rt, rt.alloc())?;
+    assert!(rt; is_read(rt.alloc(), &text));
     Ok(())
 }
 
 /// Twelve heights are needed; without the last one, which has eleven bytes, there are eleven.
 #[test]
 fn a_height_is_missing(rt: HostRuntime) -> Result<(), Fail> {
-    let text = written(rt.alloc())?;
+    let text = written(&rt, rt.alloc())?;
     let short = text.get(..text.len().saturating_sub(12)).unwrap_or(&[]);
-    assert_eq!(rt;
-        fault_of(rt.alloc(), short),
-        Some(AscFault::Count { have: 11, need: 12 })
-    );
+    assert!(rt; fault_of(rt.alloc(), short) == Some(AscFault::Count { have: 11, need: 12 }));
     Ok(())
 }
 
 #[test]
 fn no_word(rt: HostRuntime) {
-    assert_eq!(rt; fault_of(rt.alloc(), b""), Some(AscFault::Word { at: 0 }));
+    assert!(rt; fault_of(rt.alloc(), b"") == Some(AscFault::Word { at: 0 }));
 }
 
 #[test]
 fn no_columns(rt: HostRuntime) {
     let text = b"ncols 0 nrows 1 xllcorner 0 yllcorner 0 cellsize 1 nodata_value -2147483648";
-    assert_eq!(rt; fault_of(rt.alloc(), text), Some(AscFault::Range { at: 1 }));
+    assert!(rt; fault_of(rt.alloc(), text) == Some(AscFault::Range { at: 1 }));
 }
 
 #[test]
 fn too_high(rt: HostRuntime) {
     let text =
         b"ncols 1 nrows 1 xllcorner 0 yllcorner 0 cellsize 1 nodata_value -2147483648 2000000001";
-    assert_eq!(rt;
-        fault_of(rt.alloc(), text),
-        Some(AscFault::Height { index: 0 })
-    );
+    assert!(rt; fault_of(rt.alloc(), text) == Some(AscFault::Height { index: 0 }));
 }

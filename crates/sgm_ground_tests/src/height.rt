@@ -18,10 +18,10 @@ fn depths_by_hand(rt: HostRuntime) {
         near: 1,
         far: 2_000_000_000,
     };
-    assert_eq!(rt; point(&camera, 0, 0, 800), at(0, 0, -2_000_000));
-    assert_eq!(rt; point(&camera, 0, 0, 808), at(0, 0, -1_980_198));
-    assert_eq!(rt; point(&camera, 0, 0, 0), None);
-    assert_eq!(rt; point(&camera, 0, 0, -800), None);
+    assert!(rt; point(&camera, 0, 0, 800) == at(0, 0, -2_000_000));
+    assert!(rt; point(&camera, 0, 0, 808) == at(0, 0, -1_980_198));
+    assert!(rt; point(&camera, 0, 0, 0) == None);
+    assert!(rt; point(&camera, 0, 0, -800) == None);
 }
 
 /// Pixels to the right lie to the east, pixels downwards to the south.
@@ -37,9 +37,9 @@ fn places_by_hand(rt: HostRuntime) {
         near: 1,
         far: 1_000_000,
     };
-    assert_eq!(rt; point(&camera, 2, 0, 16), at(2_000, 0, 50_000));
-    assert_eq!(rt; point(&camera, 4, 1, 16), at(4_000, -1_000, 50_000));
-    assert_eq!(rt; point(&camera, 3, 2, 16), at(3_000, -2_000, 50_000));
+    assert!(rt; point(&camera, 2, 0, 16) == at(2_000, 0, 50_000));
+    assert!(rt; point(&camera, 4, 1, 16) == at(4_000, -1_000, 50_000));
+    assert!(rt; point(&camera, 3, 2, 16) == at(3_000, -2_000, 50_000));
 }
 
 /// A half goes upwards, on both sides of 0.
@@ -55,9 +55,9 @@ fn halves_by_hand(rt: HostRuntime) {
         near: 1,
         far: 2_000_000_000,
     };
-    assert_eq!(rt; point(&camera, 5, 5, 32), at(2, -1, -2), "3 halves");
-    assert_eq!(rt; point(&camera, 3, 3, 32), at(1, 0, -2), "1 half");
-    assert_eq!(rt; point(&camera, 1, 1, 32), at(0, 1, -2), "1 half below");
+    assert!(rt; point(&camera, 5, 5, 32) == at(2, -1, -2), "3 halves");
+    assert!(rt; point(&camera, 3, 3, 32) == at(1, 0, -2), "1 half");
+    assert!(rt; point(&camera, 1, 1, 32) == at(0, 1, -2), "1 half below");
 }
 
 #[test]
@@ -72,13 +72,13 @@ fn depth_range_is_closed(rt: HostRuntime) {
         near: 2_000_000,
         far: 2_000_000,
     };
-    assert_eq!(rt; point(&camera, 0, 0, 800), at(0, 0, 3_000_000));
+    assert!(rt; point(&camera, 0, 0, 800) == at(0, 0, 3_000_000));
     camera.near = 2_000_001;
     camera.far = 2_000_001;
-    assert_eq!(rt; point(&camera, 0, 0, 800), None);
+    assert!(rt; point(&camera, 0, 0, 800) == None);
     camera.near = 1;
     camera.far = 1_999_999;
-    assert_eq!(rt; point(&camera, 0, 0, 800), None);
+    assert!(rt; point(&camera, 0, 0, 800) == None);
 }
 
 /// The offset moves every disparity, and no disparity with it may be 0 or less.
@@ -94,12 +94,12 @@ fn offset_by_hand(rt: HostRuntime) {
         near: 1,
         far: 2_000_000_000,
     };
-    assert_eq!(rt; point(&camera, 0, 0, -16), at(0, 0, 50_000));
-    assert_eq!(rt; point(&camera, 0, 0, -32), None);
+    assert!(rt; point(&camera, 0, 0, -16) == at(0, 0, 50_000));
+    assert!(rt; point(&camera, 0, 0, -32) == None);
     camera.doffs = 1;
-    assert_eq!(rt; point(&camera, 0, 0, 0), at(0, 0, 150_000 - 25_600_000));
+    assert!(rt; point(&camera, 0, 0, 0) == at(0, 0, 150_000 - 25_600_000));
     camera.doffs = 0;
-    assert_eq!(rt; point(&camera, 0, 0, 0), None);
+    assert!(rt; point(&camera, 0, 0, 0) == None);
 }
 
 /// The greatest numbers that a camera may have.
@@ -115,8 +115,8 @@ fn largest_camera(rt: HostRuntime) {
         near: 1,
         far: MAX_DEPTH,
     };
-    assert_eq!(rt;
-        point(&camera, 4095, 4095, 32768),
-        at(2_060_576_468, -2_060_576_468, 2_000_000_000 - 1_939_393_939)
+    assert!(rt;
+        point(&camera, 4095, 4095, 32768)
+            == at(2_060_576_468, -2_060_576_468, 2_000_000_000 - 1_939_393_939)
     );
 }

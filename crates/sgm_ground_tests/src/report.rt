@@ -1,10 +1,10 @@
-ghost use Rattle.std.specs.Prelude.{◌≡◌, IsTrue, All};
+ghost use Rattle.std.specs.Prelude.{IsTrue, All};
 ghost use Rattle.sgm_report.specs.Areas.{IsBase, IsRegionName, LiesIn};
 
-use sgm_base::Point;
+use crate::grid::grid_with;
 use sgm_grid::{Grid, GridSpec, MAX_HEIGHT};
 use sgm_report::{Region, RegionTally, is_region_name, tally, write_report};
-use std::alloc::Global;
+use std::alloc::{AllocError, Global};
 use std::process::Abort;
 use std::test::Fail;
 
@@ -38,18 +38,9 @@ const LARGEST: GridSpec = GridSpec {
 /// The bytes before the first region.
 const HEAD: &[u8] = b"region,cells,empty,fill,cut,lowest,highest\n";
 
-fn at(x: i64, y: i64, h: i64) -> Point
-    ensures { result ≡ record { x = x; y = y; h = h } }
-{
-    Point { x, y, h }
-}
-
 /// The cells 5, 7 and an empty one.
-fn five_seven_none(alloc: Global) -> Result<Grid, Fail> {
-    let mut grid = Grid::make(alloc, ROW)?;
-    grid.add(at(0, 0, 5));
-    grid.add(at(1_000, 0, 7));
-    Ok(grid)
+fn five_seven_none(rt: &impl Abort, alloc: Global) -> Result<Grid, AllocError> {
+    grid_with(rt, alloc, ROW, &[(0, 0, 5), (1_000, 0, 7)])
 }
 
 /// A region of that name, from (col, row), with so many columns and rows.
@@ -81,9 +72,23 @@ fn is_base(base: i64) -> bool
 
 /// The tally of a region that lies in the grid.
 fn tally_in(rt: &impl Abort, grid: &Grid, region: &Region) -> RegionTally {
-    assert!(rt; lies_in(grid.spec(), region));
-    assert!(rt; is_base(region.base));
+    assert!(rt; lies_in(grid.spec(), region) && is_base(region.base));
     tally(grid, region)
+}
+
+/// A region's first column and row, its number of columns and of rows, its base, and its tally.
+type Row = ((u32, u32), (u32, u32), i64, RegionTally);
+
+/// That regions of the grid have these tallies.
+fn assert_tallies(rt: &impl Abort, alloc: Global, grid: &Grid, table: &[Row]) -> Result<(), Fail> {
+    for (corner, sides, base, want) in table {
+        let part = region(alloc, *corner, *sides, *base)?;
+        assert!(rt;
+            tally_in(rt, grid, &part) == *want,
+            "{sides:?} from {corner:?} on over {base}"
+        );
+    }
+    Ok(())
 }
 
 fn have_names(regions: &[Region]) -> bool
@@ -101,8 +106,7 @@ fn add_report(
     tallies: &[RegionTally],
     into: &mut Vec<u8>,
 ) -> Result<(), Fail> {
-    assert!(rt; have_names(regions));
-    assert!(rt; tallies.len() == regions.len());
+    assert!(rt; have_names(regions) && tallies.len() == regions.len());
     write_report(regions, tallies, into)?;
     Ok(())
 }
@@ -121,83 +125,70 @@ fn counted(cells: u64, empty: u64, fill: u128, cut: u128, ends: Option<(i32, i32
 /// The whole row with its base between, below, at and above its heights; one cell; an empty one.
 #[test]
 fn bases_and_parts(rt: HostRuntime) -> Result<(), Fail> {
-    let grid = five_seven_none(rt.alloc())?;
+    let grid = five_seven_none(&rt, rt.alloc())?;
+    let ends = Some((5, 7));
     let table = [
-        (0, 3, 6, counted(2, 1, 1_000_000, 1_000_000, Some((5, 7)))),
-        (0, 3, 4, counted(2, 1, 4_000_000, 0, Some((5, 7)))),
-        (0, 3, 5, counted(2, 1, 2_000_000, 0, Some((5, 7)))),
-        (0, 3, 8, counted(2, 1, 0, 4_000_000, Some((5, 7)))),
-        (0, 3, -10, counted(2, 1, 32_000_000, 0, Some((5, 7)))),
-        (1, 1, 6, counted(1, 0, 1_000_000, 0, Some((7, 7)))),
-        (0, 1, 6, counted(1, 0, 0, 1_000_000, Some((5, 5)))),
-        (2, 1, 6, counted(0, 1, 0, 0, None)),
-        (1, 2, 6, counted(1, 1, 1_000_000, 0, Some((7, 7)))),
+        ((0, 0), (3, 1), 6, counted(2, 1, 1_000_000, 1_000_000, ends)),
+        ((0, 0), (3, 1), 4, counted(2, 1, 4_000_000, 0, ends)),
+        ((0, 0), (3, 1), 5, counted(2, 1, 2_000_000, 0, ends)),
+        ((0, 0), (3, 1), 8, counted(2, 1, 0, 4_000_000, ends)),
+        ((0, 0), (3, 1), -10, counted(2, 1, 32_000_000, 0, ends)),
+        ((1, 0), (1, 1), 6, counted(1, 0, 1_000_000, 0, Some((7, 7)))),
+        ((0, 0), (1, 1), 6, counted(1, 0, 0, 1_000_000, Some((5, 5)))),
+        ((2, 0), (1, 1), 6, counted(0, 1, 0, 0, None)),
+        ((1, 0), (2, 1), 6, counted(1, 1, 1_000_000, 0, Some((7, 7)))),
     ];
-    for (col, cols, base, want) in table {
-        let part = region(rt.alloc(), (col, 0), (cols, 1), base)?;
-        assert_eq!(rt;
-            tally_in(&rt, &grid, &part),
-            want,
-            "{cols} from {col} on over {base}"
-        );
-    }
-    Ok(())
+    assert_tallies(&rt, rt.alloc(), &grid, &table)
 }
 
 /// Heights at both ends of their range, over bases at the other end.
 #[test]
 fn largest_cells(rt: HostRuntime) -> Result<(), Fail> {
-    let mut grid = Grid::make(rt.alloc(), LARGEST)?;
-    grid.add(at(0, 0, 2_000_000_000));
-    grid.add(at(1_000_000_000, 0, -2_000_000_000));
+    let points = [(0, 0, 2_000_000_000), (1_000_000_000, 0, -2_000_000_000)];
+    let grid = grid_with(&rt, rt.alloc(), LARGEST, &points)?;
     let whole: u128 = 4_000_000_000_000_000_000_000_000_000;
-    let ends = Some((2_000_000_000, 2_000_000_000));
-    let high = region(rt.alloc(), (0, 0), (1, 1), -2_000_000_000)?;
-    assert_eq!(rt; tally_in(&rt, &grid, &high), counted(1, 0, whole, 0, ends));
-    let ends = Some((-2_000_000_000, -2_000_000_000));
-    let low = region(rt.alloc(), (1, 0), (1, 1), 2_000_000_000)?;
-    assert_eq!(rt; tally_in(&rt, &grid, &low), counted(1, 0, 0, whole, ends));
-    Ok(())
+    let high = counted(1, 0, whole, 0, Some((2_000_000_000, 2_000_000_000)));
+    let low = counted(1, 0, 0, whole, Some((-2_000_000_000, -2_000_000_000)));
+    let table = [
+        ((0, 0), (1, 1), -2_000_000_000, high),
+        ((1, 0), (1, 1), 2_000_000_000, low),
+    ];
+    assert_tallies(&rt, rt.alloc(), &grid, &table)
 }
 
 /// From the north the rows are 10 20, 30 and an empty cell, 50 60.
 #[test]
 fn rows_count_from_the_north(rt: HostRuntime) -> Result<(), Fail> {
-    let mut grid = Grid::make(rt.alloc(), ROWS)?;
-    for (x, y, h) in [(0, 2, 10), (1, 2, 20), (0, 1, 30), (0, 0, 50), (1, 0, 60)] {
-        grid.add(at(x, y, h));
-    }
-    let north = region(rt.alloc(), (0, 0), (2, 1), 0)?;
-    assert_eq!(rt;
-        tally_in(&rt, &grid, &north),
-        counted(2, 0, 30, 0, Some((10, 20)))
-    );
-    let west = region(rt.alloc(), (0, 0), (1, 3), 30)?;
-    assert_eq!(rt;
-        tally_in(&rt, &grid, &west),
-        counted(3, 0, 20, 20, Some((10, 50)))
-    );
-    Ok(())
+    let points = [(0, 2, 10), (1, 2, 20), (0, 1, 30), (0, 0, 50), (1, 0, 60)];
+    let grid = grid_with(&rt, rt.alloc(), ROWS, &points)?;
+    let table = [
+        ((0, 0), (2, 1), 0, counted(2, 0, 30, 0, Some((10, 20)))),
+        ((0, 0), (1, 3), 30, counted(3, 0, 20, 20, Some((10, 50)))),
+    ];
+    assert_tallies(&rt, rt.alloc(), &grid, &table)
 }
 
 #[test]
-fn names(rt: HostRuntime) -> Result<(), Fail> {
-    let sixty = "abcdefghijklmnopqrstuvwxyzABCDEFGHIJKLMNOPQRSTUVWXYZ01234567";
-    let table = [
+fn names(rt: HostRuntime) {
+    for (name, want) in [
         ("", false),
         ("North-East pit no. 89_b", true),
         ("a,b", false),
         ("\u{e9}", false),
-    ];
-    for (name, want) in table {
-        assert_eq!(rt; is_region_name(name), want, "{name}");
+    ] {
+        assert!(rt; is_region_name(name) == want, "{name}");
     }
+}
+
+/// A name of 64 bytes is the longest.
+#[test]
+fn longest_name(rt: HostRuntime) -> Result<(), Fail> {
+    let sixty = "abcdefghijklmnopqrstuvwxyzABCDEFGHIJKLMNOPQRSTUVWXYZ01234567";
     let mut name = String::from_str(rt.alloc(), sixty)?;
     name.push_str("abcd")?;
-    assert_eq!(rt; name.len(), 64);
-    assert_eq!(rt; is_region_name(name.as_str()), true);
+    assert!(rt; name.len() == 64 && is_region_name(name.as_str()));
     name.push_str("e")?;
-    assert_eq!(rt; is_region_name(name.as_str()), false);
+    assert!(rt; !is_region_name(name.as_str()));
     Ok(())
 }
 
@@ -214,9 +205,9 @@ fn text_of_the_example(rt: HostRuntime) -> Result<(), Fail> {
     ];
     let mut text = b"before\n".to_vec(rt.alloc())?;
     add_report(&rt, &[all, east], &tallies, &mut text)?;
-    assert_eq!(rt;
-        text.as_slice(),
-        b"before\nregion,cells,empty,fill,cut,lowest,highest\nall,9,3,90000000000,0,50000,50000\neast,0,1,0,0,,\n".as_slice()
+    assert!(rt;
+        text.as_slice()
+            == b"before\nregion,cells,empty,fill,cut,lowest,highest\nall,9,3,90000000000,0,50000,50000\neast,0,1,0,0,,\n".as_slice()
     );
     Ok(())
 }
@@ -225,7 +216,7 @@ fn text_of_the_example(rt: HostRuntime) -> Result<(), Fail> {
 fn text_of_no_regions(rt: HostRuntime) -> Result<(), Fail> {
     let mut text = Vec::new(rt.alloc());
     add_report(&rt, &[], &[], &mut text)?;
-    assert_eq!(rt; text.as_slice(), HEAD);
+    assert!(rt; text.as_slice() == HEAD);
     Ok(())
 }
 

@@ -16,7 +16,7 @@ fn a_front_waits_for_its_next_strip(rt: HostRuntime) -> Result<(), Fail> {
     ];
     match replay(rt.alloc(), 3, &early) {
         Ok(_) => panic!(rt; "strip 1 comes second"),
-        Err(error) => assert_eq!(rt; error, ReplayError::Illegal { at: 1 }),
+        Err(error) => assert!(rt; error == ReplayError::Illegal { at: 1 }),
     }
     let due = [
         Event::Claim {
@@ -42,11 +42,8 @@ fn a_front_waits_for_its_next_strip(rt: HostRuntime) -> Result<(), Fail> {
         },
     ];
     let machine = replay(rt.alloc(), 3, &due)?;
-    assert_eq!(rt; machine.passed, [1, 0, 0, 0, 0, 0]);
-    assert_eq!(rt; machine.away, [Some(0), None, None, None, None, None]);
-    assert_eq!(rt;
-        machine.holders.as_slice(),
-        [None, Some(0), None].as_slice()
-    );
+    assert!(rt; machine.passed == [1, 0, 0, 0, 0, 0]);
+    assert!(rt; machine.away == [Some(0), None, None, None, None, None]);
+    assert!(rt; machine.holders.as_slice() == [None, Some(0), None].as_slice());
     Ok(())
 }

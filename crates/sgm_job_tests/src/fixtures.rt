@@ -1,6 +1,8 @@
 //! Images, maps and calibrations for the tests.
 
-use sgm_base::{Image, Size};
+ghost use Rattle.std.specs.Prelude.{◌≡◌, IfOk};
+
+use sgm_base::{DispMap, Image, Size};
 use sgm_calib::{Calib, read};
 use sgm_example::END;
 use std::alloc::Global;
@@ -28,6 +30,13 @@ pub fn even_image(alloc: Global, sides: (u32, u32)) -> Result<Image, Fail> {
 pub fn image_of_rows(alloc: Global, row: &[u16; 5]) -> Result<Image, Fail> {
     let rows = [*row, *row, *row].concat(alloc)?;
     image(alloc, (5, 3), rows.as_slice())
+}
+
+/// A map with these entries.
+pub fn map_of(alloc: Global, size: Size, entries: &[Option<u16>]) -> Result<DispMap, Fail>
+    ensures { IfOk result (λ m. (m.width ≡ size.width) × (m.height ≡ size.height)) }
+{
+    Ok(DispMap::make(size, entries.to_vec(alloc)?).ok_or("entries")?)
 }
 
 /// The calibration whose text has these parts, up to its end.

@@ -4,6 +4,7 @@ use sgm_base::{
     MAX_VOLUME, MAX_WINDOW_HEIGHT, MAX_WINDOW_WIDTH, MAX_WORKERS, MIN_FIRST, MIN_WINDOW_SIDE,
     Plane, Size, Span, round_div,
 };
+use std::alloc::Global;
 use std::test::Fail;
 
 fn size(width: u32, height: u32) -> Result<Size, Fail> {
@@ -23,18 +24,17 @@ fn sizes_are_from_1_to_4096(rt: HostRuntime) -> Result<(), Fail> {
         (1, 4097, false),
         (u32::MAX, u32::MAX, false),
     ] {
-        assert_eq!(rt;
-            Size::make(width, height).is_some(),
-            is_made,
+        assert!(rt;
+            Size::make(width, height).is_some() == is_made,
             "{width} x {height}"
         );
     }
-    assert_eq!(rt; size(640, 480)?.pixels(), 307_200);
+    assert!(rt; size(640, 480)?.pixels() == 307_200);
     Ok(())
 }
 
 #[test]
-fn spans_keep_their_ranges(rt: HostRuntime) -> Result<(), Fail> {
+fn spans_keep_their_ranges(rt: HostRuntime) {
     for (first, count, is_made) in [
         (-1024, 1, true),
         (1024, 256, true),
@@ -43,50 +43,73 @@ fn spans_keep_their_ranges(rt: HostRuntime) -> Result<(), Fail> {
         (0, 0, false),
         (0, 257, false),
     ] {
-        assert_eq!(rt;
-            Span::make(first, count).is_some(),
-            is_made,
+        assert!(rt;
+            Span::make(first, count).is_some() == is_made,
             "{first}, {count}"
         );
     }
-    Ok(())
+}
+
+/// The image of two pixels with these samples, None where it is none.
+fn image_of(alloc: Global, maxval: u16, samples: &[u16]) -> Result<Option<Image>, Fail> {
+    Ok(Image::make(size(2, 1)?, maxval, samples.to_vec(alloc)?))
+}
+
+/// Whether an image of two pixels has this maxval and these samples.
+fn has_samples(image: &Image, maxval: u16, samples: &[u16]) -> bool {
+    let sides = image.size();
+    (sides.width, sides.height) == (2, 1) && image.maxval() == maxval && image.samples() == samples
+}
+
+/// Whether an image keeps what it was made of; None where none is made.
+fn is_kept(alloc: Global, maxval: u16, samples: &[u16]) -> Result<Option<bool>, Fail> {
+    match image_of(alloc, maxval, samples)? {
+        Some(image) => Ok(Some(has_samples(&image, maxval, samples))),
+        None => Ok(None),
+    }
 }
 
 #[test]
 fn images_keep_their_maxval(rt: HostRuntime) -> Result<(), Fail> {
-    let alloc = rt.alloc();
-    for (maxval, samples, is_made) in [
-        (255, [0, 255].as_slice(), true),
-        (65_535, [65_535, 0].as_slice(), true),
-        (1, [0, 2].as_slice(), false),
-        (0, [0, 0].as_slice(), false),
-        (255, [0].as_slice(), false),
-        (255, [0, 0, 0].as_slice(), false),
+    for (maxval, samples, want) in [
+        (255, [0, 255].as_slice(), Some(true)),
+        (65_535, [65_535, 0].as_slice(), Some(true)),
+        (1, [0, 2].as_slice(), None),
+        (0, [0, 0].as_slice(), None),
+        (255, [0].as_slice(), None),
+        (255, [0, 0, 0].as_slice(), None),
     ] {
-        let image = Image::make(size(2, 1)?, maxval, samples.to_vec(alloc)?);
-        assert_eq!(rt;
-            image.is_some(),
-            is_made,
+        assert!(rt;
+            is_kept(rt.alloc(), maxval, samples)? == want,
             "maxval {maxval}, {} samples",
             samples.len()
         );
-        if let Some(image) = image {
-            assert_eq!(rt; image.size(), size(2, 1)?);
-            assert_eq!(rt; image.maxval(), maxval);
-            assert_eq!(rt; image.samples(), samples);
-        }
     }
     Ok(())
 }
 
+/// The plane of these sides with the entries above, None where it is none.
+fn plane_of(alloc: Global, width: u32, height: u32) -> Result<Option<Plane>, Fail> {
+    Ok(Plane::make(size(width, height)?, ENTRIES.to_vec(alloc)?))
+}
+
+/// The map of these sides with the entries above, None where it is none.
+fn map_of(alloc: Global, width: u32, height: u32) -> Result<Option<DispMap>, Fail> {
+    Ok(DispMap::make(size(width, height)?, ENTRIES.to_vec(alloc)?))
+}
+
 #[test]
-fn planes_and_maps_have_rows(rt: HostRuntime) -> Result<(), Fail> {
-    let alloc = rt.alloc();
-    assert!(rt; Plane::make(size(3, 1)?, ENTRIES.to_vec(alloc)?).is_none());
-    assert!(rt; DispMap::make(size(7, 1)?, ENTRIES.to_vec(alloc)?).is_none());
-    let mut plane = Plane::make(size(3, 2)?, ENTRIES.to_vec(alloc)?).ok_or("a plane")?;
-    assert_eq!(rt; plane.row(0), [Some(0), None, Some(2)].as_slice());
-    assert_eq!(rt; plane.entries(), ENTRIES.as_slice());
+fn planes_and_maps_have_an_entry_for_each_pixel(rt: HostRuntime) -> Result<(), Fail> {
+    assert!(rt; plane_of(rt.alloc(), 3, 1)?.is_none());
+    assert!(rt; map_of(rt.alloc(), 7, 1)?.is_none());
+    Ok(())
+}
+
+#[test]
+fn planes_have_rows(rt: HostRuntime) -> Result<(), Fail> {
+    let plane = plane_of(rt.alloc(), 3, 2)?.ok_or("a plane")?;
+    assert!(rt; plane.row(0) == [Some(0), None, Some(2)].as_slice());
+    assert!(rt; plane.entries() == ENTRIES.as_slice());
     Ok(())
 }
 
@@ -98,34 +121,29 @@ fn a_row_that_is_written(rt: HostRuntime) -> Result<(), Fail> {
     assert!(rt; plane.size().height == 3);
     plane.row_mut(1).fill(Some(9));
     let written = [Some(0), None, Some(9), Some(9), Some(4), Some(5)];
-    assert_eq!(rt; plane.entries(), written.as_slice());
+    assert!(rt; plane.entries() == written.as_slice());
     let mut map = DispMap::blank(alloc, size(2, 3)?)?;
-    assert_eq!(rt; map.entries(), [None; 6].as_slice());
+    assert!(rt; map.entries() == [None; 6].as_slice());
     assert!(rt; map.size().height == 3);
     map.row_mut(2).fill(Some(16));
     let written = [None, None, None, None, Some(16), Some(16)];
-    assert_eq!(rt; map.entries(), written.as_slice());
+    assert!(rt; map.entries() == written.as_slice());
     Ok(())
 }
 
-fn shared<T: Send + Sync>(value: &T) -> &T {
-    value
+fn is_shareable<T: Send + Sync>() -> bool {
+    true
 }
 
 #[test]
-fn threads_may_share_images_and_planes(rt: HostRuntime) -> Result<(), Fail> {
-    let alloc = rt.alloc();
-    let image = Image::make(size(1, 1)?, 1, [1].to_vec(alloc)?).ok_or("an image")?;
-    assert_eq!(rt; shared(&image).samples(), [1].as_slice());
-    let plane = Plane::blank(alloc, size(1, 1)?)?;
-    assert_eq!(rt; shared(&plane).entries(), [None].as_slice());
-    let map = DispMap::blank(alloc, size(1, 1)?)?;
-    assert_eq!(rt; shared(&map).entries(), [None].as_slice());
-    Ok(())
+fn threads_may_share_images_and_planes(rt: HostRuntime) {
+    assert!(rt; is_shareable::<Image>());
+    assert!(rt; is_shareable::<Plane>());
+    assert!(rt; is_shareable::<DispMap>());
 }
 
 #[test]
-fn quotients_are_rounded_halves_upwards(rt: HostRuntime) -> Result<(), Fail> {
+fn quotients_are_rounded_halves_upwards(rt: HostRuntime) {
     for (a, b, quotient) in [
         (7, 2, 4),
         (-7, 2, -3),
@@ -137,24 +155,19 @@ fn quotients_are_rounded_halves_upwards(rt: HostRuntime) -> Result<(), Fail> {
         (1_i128 << 120, 1, 1_i128 << 120),
         (-(1_i128 << 120), 1_i128 << 120, -1),
     ] {
-        assert_eq!(rt; round_div(a, b), quotient, "{a} / {b}");
+        assert!(rt; round_div(a, b) == quotient, "{a} / {b}");
     }
-    Ok(())
 }
 
 // Contracts cite the limits by name, so that no clause says their values.
 #[test]
 fn limits_as_numbers(rt: HostRuntime) {
-    assert_eq!(rt; (MAX_SIDE, MAX_COUNT), (4096, 256));
-    assert_eq!(rt; (MIN_FIRST, MAX_FIRST), (-1024, 1024));
-    assert_eq!(rt; MAX_VOLUME, 268_435_456);
-    assert_eq!(rt; MIN_WINDOW_SIDE, 3);
-    assert_eq!(rt; (MAX_WINDOW_WIDTH, MAX_WINDOW_HEIGHT), (9, 7));
-    assert_eq!(rt; (MAX_COST, MAX_PENALTY), (62, 4000));
-    assert_eq!(rt; (MAX_PATH_VALUE, MAX_SUM), (4062, 32_496));
-    assert_eq!(rt; MAX_DISPARITY, 4080);
-    assert_eq!(rt; (MAX_STRIPS, MAX_WORKERS), (64, 16));
-    assert_eq!(rt; (MAX_GRID_LINES, MAX_REGIONS), (4096, 1000));
-    assert_eq!(rt; MAX_IMAGE_BYTES, 67_108_864);
-    assert_eq!(rt; MAX_CALIB_BYTES, 16_777_216);
+    assert!(rt; [MAX_SIDE, MAX_COUNT, MAX_STRIPS, MAX_WORKERS] == [4096, 256, 64, 16]);
+    assert!(rt; [MIN_WINDOW_SIDE, MAX_WINDOW_WIDTH, MAX_WINDOW_HEIGHT] == [3, 9, 7]);
+    assert!(rt; (MIN_FIRST, MAX_FIRST) == (-1024, 1024));
+    assert!(rt; (MAX_COST, MAX_GRID_LINES, MAX_VOLUME) == (62, 4096, 268_435_456));
+    assert!(rt;
+        [MAX_PENALTY, MAX_PATH_VALUE, MAX_SUM, MAX_DISPARITY] == [4000, 4062, 32_496, 4080]
+    );
+    assert!(rt; [MAX_REGIONS, MAX_IMAGE_BYTES, MAX_CALIB_BYTES] == [1000, 67_108_864, 16_777_216]);
 }

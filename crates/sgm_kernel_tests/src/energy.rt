@@ -11,9 +11,9 @@ fn penalties_in_range(rt: HostRuntime) {
         (1, 4001, false),
     ] {
         let pen = Pen::make(p1, p2);
-        assert_eq!(rt; pen.is_some(), within, "at {p1}, {p2}");
+        assert!(rt; pen.is_some() == within, "at {p1}, {p2}");
         if let Some(pen) = pen {
-            assert_eq!(rt; (pen.p1(), pen.p2()), (p1, p2));
+            assert!(rt; (pen.p1(), pen.p2()) == (p1, p2));
         }
     }
 }
@@ -34,8 +34,8 @@ fn penalties_that_follow_the_image(rt: HostRuntime) {
         (Some(5), None, 120),
         (None, None, 120),
     ] {
-        assert_eq!(rt; adaptive.far(here, before), far);
-        assert_eq!(rt; fixed.far(here, before), 120);
+        assert!(rt; adaptive.far(here, before) == far);
+        assert!(rt; fixed.far(here, before) == 120);
     }
 }
 
@@ -51,19 +51,19 @@ fn steps_and_fronts_of_directions(rt: HostRuntime) {
         (Dir::UpRight, (1, -1), Some(4)),
         (Dir::UpLeft, (-1, -1), Some(5)),
     ] {
-        assert_eq!(rt; dir.offset(), offset);
-        assert_eq!(rt; dir.is_level(), front.is_none());
-        assert_eq!(rt; dir.front(), front);
+        assert!(rt; dir.offset() == offset);
+        assert!(rt; dir.is_level() == front.is_none());
+        assert!(rt; dir.front() == front);
         if let Some(front) = front {
-            assert_eq!(rt; Dir::from_front(front), Some(dir));
+            assert!(rt; Dir::from_front(front) == Some(dir));
         }
     }
-    assert_eq!(rt; Dir::from_front(6), None);
+    assert!(rt; Dir::from_front(6) == None);
 }
 
 #[test]
 fn strips_from_the_top_and_from_the_bottom(rt: HostRuntime) {
-    assert_eq!(rt; Dir::DownLeft.position(1, 5), 1);
-    assert_eq!(rt; Dir::UpRight.position(1, 5), 3);
-    assert_eq!(rt; Dir::Up.position(0, 1), 0);
+    assert!(rt; Dir::DownLeft.position(1, 5) == 1);
+    assert!(rt; Dir::UpRight.position(1, 5) == 3);
+    assert!(rt; Dir::Up.position(0, 1) == 0);
 }

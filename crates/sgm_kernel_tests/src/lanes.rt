@@ -61,7 +61,7 @@ fn hamming_of_every_length(rt: HostRuntime) {
             } else {
                 99
             };
-            assert_eq!(rt; u32::from(into[k]), want, "at {k} of {n}");
+            assert!(rt; u32::from(into[k]) == want, "at {k} of {n}");
         }
     }
     let mut into = [99u8; 2];
@@ -82,7 +82,7 @@ fn hamming_to_one_word_of_every_length(rt: HostRuntime) {
             } else {
                 99
             };
-            assert_eq!(rt; u32::from(into[k]), want, "at {k} of {n}");
+            assert!(rt; u32::from(into[k]) == want, "at {k} of {n}");
         }
     }
 }
@@ -96,46 +96,76 @@ fn least_of_every_length(rt: HostRuntime) {
     }
 }
 
+/// Whether the sums are those from before and these values, place by place as far as there are values.
+fn are_added(sums: &[u16; MOST], before: &[u16; MOST], values: &[u16]) -> bool
+    requires sums_length { length sums.now ≡ MOST }
+    requires before_length { length before.now ≡ MOST }
+{
+    for k in 0..MOST {
+        let more = if k < values.len() { values[k] } else { 0 };
+        if sums[k] != before[k].wrapping_add(more) {
+            return false;
+        }
+    }
+    true
+}
+
 #[test]
 fn add_of_every_length(rt: HostRuntime) {
     let (sums, values) = (values(40000), values(4063));
     for n in 0..MOST + 1 {
         let mut into = sums;
         add(&mut into[..n], &values[..n]);
-        for k in 0..MOST {
-            let more = if k < n { values[k] } else { 0 };
-            assert_eq!(rt; into[k], sums[k].wrapping_add(more), "at {k} of {n}");
-        }
+        assert!(rt; are_added(&into, &sums, &values[..n]), "of {n}");
+    }
+}
+
+/// The value of an index, and more than any for an index that is none.
+fn value_at(prev: &[u16], d: usize) -> u32 {
+    if d < prev.len() {
+        u32::from(prev[d])
+    } else {
+        u32::MAX
     }
 }
 
 /// The step at one index, in wider numbers.
 fn stepped(prev: &[u16], floor: u16, cost: u8, p1: u16, p2: u16, d: usize) -> u32 {
-    let value = |k: usize| prev.get(k).map_or(u32::MAX, |v| u32::from(*v));
-    let beside = value(d.wrapping_sub(1)).min(value(d.wrapping_add(1)));
-    let near = value(d).min(beside.saturating_add(u32::from(p1)));
+    let beside = value_at(prev, d.wrapping_sub(1)).min(value_at(prev, d.wrapping_add(1)));
+    let near = value_at(prev, d).min(beside.saturating_add(u32::from(p1)));
     let lowest = near.min(u32::from(floor) + u32::from(p2));
     u32::from(cost)
         .wrapping_add(lowest)
         .wrapping_sub(u32::from(floor))
 }
 
+/// Whether a step writes what it gives index by index.
+fn is_stepped(prev: &[u16], cost: &[u8], p1: u16, p2: u16) -> bool
+    requires some { 0 < length prev.now }
+    requires few { length prev.now ≤ MOST }
+    requires cost_length { length cost.now ≡ length prev.now }
+    requires penalties { (p1 ≤ p2) × (p2 ≤ 4000) }
+    requires values { All (λ x. x < 4063) prev.now }
+    requires costs { All (λ c. c ≤ 62) cost.now }
+{
+    let mut into = [9999u16; MOST];
+    let (n, floor) = (prev.len(), least(prev));
+    step(prev, floor, cost, p1, p2, &mut into[..n]);
+    for d in 0..n {
+        if u32::from(into[d]) != stepped(prev, floor, cost[d], p1, p2, d) {
+            return false;
+        }
+    }
+    true
+}
+
 #[test]
 fn step_of_every_length(rt: HostRuntime) {
     let (near, wide, costs) = (values(150), values(4063), costs());
     for n in 1..MOST + 1 {
-        for (values, p1, p2) in [(&near[..n], 7u16, 60u16), (&wide[..n], 4000, 4000)] {
-            let mut into = [9999u16; MOST];
-            let floor = least(values);
-            step(values, floor, &costs[..n], p1, p2, &mut into[..n]);
-            for d in 0..n {
-                assert_eq!(rt;
-                    u32::from(into[d]),
-                    stepped(values, floor, costs[d], p1, p2, d),
-                    "at {d} of {n}"
-                );
-            }
-        }
+        let costs = &costs[..n];
+        assert!(rt; is_stepped(&near[..n], costs, 7, 60), "near, of {n}");
+        assert!(rt; is_stepped(&wide[..n], costs, 4000, 4000), "wide, of {n}");
     }
 }
 
@@ -154,13 +184,7 @@ fn adds_its_step(prev: &[u16], cost: &[u8], before: &[u16; MOST]) -> bool
     let mut sums = *before;
     step(prev, floor, cost, 7, 60, &mut into[..n]);
     add_step(prev, floor, cost, 7, 60, &mut again[..n], &mut sums[..n]);
-    for d in 0..MOST {
-        let more = if d < n { into[d] } else { 0 };
-        if again[d] != into[d] || sums[d] != before[d].wrapping_add(more) {
-            return false;
-        }
-    }
-    true
+    again == into && are_added(&sums, before, &into[..n])
 }
 
 #[test]
@@ -171,20 +195,26 @@ fn add_step_of_every_length(rt: HostRuntime) {
     }
 }
 
+/// Whether the step from at most four values gives these.
+fn steps_to(prev: &[u16], cost: &[u8], p1: u16, p2: u16, want: &[u16]) -> bool
+    requires some { 0 < length prev.now }
+    requires few { length prev.now ≤ 4 }
+    requires cost_length { length cost.now ≡ length prev.now }
+    requires penalties { (p1 ≤ p2) × (p2 ≤ 4000) }
+    requires values { All (λ x. x < 4063) prev.now }
+    requires costs { All (λ c. c ≤ 62) cost.now }
+{
+    let mut room = [0u16; 4];
+    let into = &mut room[..prev.len()];
+    step(prev, least(prev), cost, p1, p2, into);
+    &*into == want
+}
+
 #[test]
 fn steps_from_values_to_values(rt: HostRuntime) {
-    let mut two = [0u16; 2];
-    for (prev, cost, want) in [([0u16, 5], [5u8, 0], [5u16, 1]), ([5, 1], [0, 5], [1, 5])] {
-        step(&prev, least(&prev), &cost, 1, 3, &mut two);
-        assert!(rt; two == want);
-    }
-    let mut one = [0u16];
-    let prev = [7u16];
-    step(&prev, least(&prev), &[62], 1, 3, &mut one);
-    assert!(rt; one == [62]);
+    assert!(rt; steps_to(&[0, 5], &[5, 0], 1, 3, &[5, 1]));
+    assert!(rt; steps_to(&[5, 1], &[0, 5], 1, 3, &[1, 5]));
+    assert!(rt; steps_to(&[7], &[62], 1, 3, &[62]));
     // each of the four ways is the least once
-    let mut four = [0u16; 4];
-    let prev = [10u16, 2, 9, 20];
-    step(&prev, least(&prev), &[1, 2, 3, 4], 4, 6, &mut four);
-    assert!(rt; four == [5, 2, 7, 10]);
+    assert!(rt; steps_to(&[10, 2, 9, 20], &[1, 2, 3, 4], 4, 6, &[5, 2, 7, 10]));
 }

@@ -1,8 +1,9 @@
 // The tables are printed by tests/least_energies.py at the top of the repository, which tries every
 // sequence along whole rays.
-ghost use Rattle.std.specs.Prelude.{◌≡◌, ◌≤◌, ◌%◌, length, All};
+ghost use Rattle.std.specs.Prelude.{◌≡◌, ◌+◌, ◌/◌, ◌%◌, ◌^◌, ◌<◌, ◌≤◌, length, All, IfSome, IsTrue, false};
+ghost use Rattle.sgm_energy.specs.Dirs.{is_level};
 
-use sgm_base::{MAX_COST, MAX_COUNT};
+use sgm_base::{MAX_COST, MAX_COUNT, MAX_PATH_VALUE};
 use sgm_energy::{Dir, Pen};
 use sgm_path::{add_step_row, level_sums, run_row, step_row};
 
@@ -69,20 +70,69 @@ const ROWS: [Row; 10] = [
     ),
 ];
 
+/// Whether a row of at most 12 costs has these path values in a direction that stays in it.
+fn runs_to(
+    dir: Dir,
+    pen: Pen,
+    costs: &[u8],
+    guide: &[Option<u8>],
+    count: usize,
+    want: &[u16],
+) -> bool
+    requires level { IsTrue (is_level dir) }
+    requires room { length costs.now ≤ 12 }
+    requires count_range { (1 ≤ count) × (count ≤ MAX_COUNT) }
+    requires guide_length { length guide.now ≡ length costs.now / count }
+    requires whole { length costs.now % count ≡ 0 }
+    requires costs { All (λ c. c ≤ MAX_COST) costs.now }
+{
+    let mut room = [0; 12];
+    let values = &mut room[..costs.len()];
+    run_row(dir, pen, costs, guide, count, values);
+    &*values == want
+}
+
+/// Whether these are the path values of a row of at most 12 costs to the right and to the left, by their sums.
+fn adds_up(
+    pen: Pen,
+    costs: &[u8],
+    guide: &[Option<u8>],
+    count: usize,
+    right: &[u16],
+    left: &[u16],
+) -> bool
+    requires room { length costs.now ≤ 12 }
+    requires count_range { (1 ≤ count) × (count ≤ MAX_COUNT) }
+    requires guide_length { length guide.now ≡ length costs.now / count }
+    requires whole { length costs.now % count ≡ 0 }
+    requires costs { All (λ c. c ≤ MAX_COST) costs.now }
+{
+    let mut spare = [0; 12];
+    let mut room = [0; 12];
+    let sums = &mut room[..costs.len()];
+    level_sums(pen, costs, guide, count, &mut spare[..costs.len()], sums);
+    are_sums(sums, right, left)
+}
+
+/// Whether the first numbers are those of the two others, added place by place.
+fn are_sums(sums: &[u16], first: &[u16], second: &[u16]) -> bool {
+    if first.len() != sums.len() || second.len() != sums.len() {
+        return false;
+    }
+    for k in 0..sums.len() {
+        if u32::from(sums[k]) != u32::from(first[k]) + u32::from(second[k]) {
+            return false;
+        }
+    }
+    true
+}
+
 #[test]
 fn three_pixels_to_the_right(rt: HostRuntime) {
     // the costs are (0, 5), (5, 0), (0, 5)
     let pen = Pen::make(1, 3).expect(&rt, "in range");
-    let mut values = [0u16; 6];
-    run_row(
-        Dir::Right,
-        pen,
-        &[0, 5, 5, 0, 0, 5],
-        &[None; 3],
-        2,
-        &mut values,
-    );
-    assert!(rt; values == [0, 5, 5, 1, 1, 5]);
+    let costs = [0, 5, 5, 0, 0, 5];
+    assert!(rt; runs_to(Dir::Right, pen, &costs, &[None; 3], 2, &[0, 5, 5, 1, 1, 5]));
 }
 
 /// Whether a row of at most 12 values is as wanted, to the right, to the left, and both together.
@@ -92,38 +142,30 @@ fn is_as_wanted(pen: Pen, count: usize, costs: &[u8], right: &[u16], left: &[u16
     requires whole { length costs.now % count ≡ 0 }
     requires costs { All (λ c. c ≤ MAX_COST) costs.now }
 {
-    let mut buffer = [0u16; 12];
-    let values = &mut buffer[..costs.len()];
     let guide = &[None; 12][..costs.len() / count];
-    run_row(Dir::Right, pen, costs, guide, count, values);
-    let to_the_right = &*values == right;
-    run_row(Dir::Left, pen, costs, guide, count, values);
-    let to_the_left = &*values == left;
-    let mut room = [0u16; 12];
-    let sums = &mut room[..costs.len()];
-    level_sums(pen, costs, guide, count, values, sums);
-    to_the_right && to_the_left && are_sums(sums, right, left)
+    runs_to(Dir::Right, pen, costs, guide, count, right)
+        && runs_to(Dir::Left, pen, costs, guide, count, left)
+        && adds_up(pen, costs, guide, count, right, left)
 }
 
-/// Whether the first numbers are those of the two others, added place by place.
-fn are_sums(sums: &[u16], first: &[u16], second: &[u16]) -> bool {
-    let mut both = first.iter().zip(second);
-    sums.iter().all(|sum| match both.next() {
-        Some((a, b)) => u32::from(*sum) == u32::from(*a) + u32::from(*b),
-        None => false,
-    })
+/// Whether a row of the table is as wanted. None of its rows is too long or has costs too large.
+fn is_right(row: Row) -> bool {
+    let ((p1, p2), count, costs, right, left) = row;
+    let Some(pen) = Pen::make(p1, p2) else {
+        return false;
+    };
+    costs.len() <= 12
+        && 1 <= count
+        && count <= 3
+        && costs.len() % count == 0
+        && costs.iter().all(|c| *c <= MAX_COST)
+        && is_as_wanted(pen, count, costs, right, left)
 }
 
 #[test]
 fn level_rows_have_least_energies(rt: HostRuntime) {
-    for ((p1, p2), count, costs, right, left) in ROWS {
-        let pen = Pen::make(p1, p2).expect(&rt, "in range");
-        assert!(rt; costs.len() <= 12 && 1 <= count && count <= 3 && costs.len() % count == 0);
-        assert!(rt; costs.iter().all(|c| *c <= MAX_COST));
-        assert!(rt;
-            is_as_wanted(pen, count, costs, right, left),
-            "at {p1}, {p2}"
-        );
+    for row in ROWS {
+        assert!(rt; is_right(row));
     }
 }
 
@@ -159,57 +201,105 @@ const VALUES: [(Dir, [[u16; 6]; 3]); 6] = [
     ),
 ];
 
+/// The path values of a row of the image, the first that the direction comes to.
+fn first_row(dir: Dir, pen: Pen, costs: &[u8; 6]) -> [u16; 6]
+    requires across { is_level dir ≡ false }
+    requires costs { All (λ c. c ≤ MAX_COST) costs.now }
+    ensures len { length result ≡ 6 }
+    ensures bound { All (λ v. v ≤ MAX_PATH_VALUE) result }
+{
+    let mut values = [0; 6];
+    step_row(dir, pen, costs, None, &GREY, &[], 2, &mut values);
+    values
+}
+
+/// The path values of a row of the image that comes after a row with these values.
+fn next_row(dir: Dir, pen: Pen, costs: &[u8; 6], before: &[u16; 6]) -> [u16; 6]
+    requires across { is_level dir ≡ false }
+    requires costs { All (λ c. c ≤ MAX_COST) costs.now }
+    requires values { All (λ v. v ≤ MAX_PATH_VALUE) before.now }
+    ensures len { length result ≡ 6 }
+    ensures bound { All (λ v. v ≤ MAX_PATH_VALUE) result }
+{
+    let mut values = [0; 6];
+    step_row(dir, pen, costs, Some(before), &GREY, &GREY, 2, &mut values);
+    values
+}
+
+/// Whether a step into the first row that adds writes these values, and adds just them.
+fn adds_first_row(dir: Dir, pen: Pen, costs: &[u8; 6], values: &[u16; 6]) -> bool
+    requires across { is_level dir ≡ false }
+    requires costs { All (λ c. c ≤ MAX_COST) costs.now }
+{
+    let (mut again, mut sums) = ([7; 6], [30000; 6]);
+    add_step_row(dir, pen, costs, None, &GREY, &[], 2, &mut again, &mut sums);
+    again == *values && are_sums(&sums, &[30000; 6], values)
+}
+
+/// Whether a step into a next row that adds writes these values, and adds just them.
+fn adds_next_row(dir: Dir, pen: Pen, costs: &[u8; 6], before: &[u16; 6], values: &[u16; 6]) -> bool
+    requires across { is_level dir ≡ false }
+    requires costs { All (λ c. c ≤ MAX_COST) costs.now }
+    requires before { All (λ v. v ≤ MAX_PATH_VALUE) before.now }
+{
+    let (mut again, mut sums) = ([7; 6], [100; 6]);
+    let before = Some(&before[..]);
+    add_step_row(
+        dir, pen, costs, before, &GREY, &GREY, 2, &mut again, &mut sums,
+    );
+    again == *values && are_sums(&sums, &[100; 6], values)
+}
+
+/// Whether three rows of costs have these path values one after the other, the first and the last also where
+/// they are added.
+fn follow(
+    dir: Dir,
+    pen: Pen,
+    begin: &[u8; 6],
+    middle: &[u8; 6],
+    end: &[u8; 6],
+    want: [[u16; 6]; 3],
+) -> bool
+    requires across { is_level dir ≡ false }
+    requires begin { All (λ c. c ≤ MAX_COST) begin.now }
+    requires middle { All (λ c. c ≤ MAX_COST) middle.now }
+    requires end { All (λ c. c ≤ MAX_COST) end.now }
+{
+    let first = first_row(dir, pen, begin);
+    let second = next_row(dir, pen, middle, &first);
+    let third = next_row(dir, pen, end, &second);
+    [first, second, third] == want
+        && adds_first_row(dir, pen, begin, &first)
+        && adds_next_row(dir, pen, end, &second, &third)
+}
+
+/// Whether the image's rows have these path values, the upper ones first.
+fn go_down(dir: Dir, pen: Pen, want: [[u16; 6]; 3]) -> bool
+    requires across { is_level dir ≡ false }
+{
+    let [top, middle, bottom] = IMAGE;
+    follow(dir, pen, &top, &middle, &bottom, want)
+}
+
+/// Whether the image's rows have these path values, the lower ones first.
+fn go_up(dir: Dir, pen: Pen, want: [[u16; 6]; 3]) -> bool
+    requires across { is_level dir ≡ false }
+{
+    let [top, middle, bottom] = IMAGE;
+    let [above, between, below] = want;
+    follow(dir, pen, &bottom, &middle, &top, [below, between, above])
+}
+
 #[test]
 fn rows_of_an_image_have_least_energies(rt: HostRuntime) {
     let pen = Pen::make(2, 5).expect(&rt, "in range");
-    let [top, middle, bottom] = IMAGE;
     for (dir, want) in VALUES {
-        let down = matches!(dir, Dir::Down | Dir::DownRight | Dir::DownLeft);
-        let (begin, end) = if down { (top, bottom) } else { (bottom, top) };
-        assert!(rt;
-            !dir.is_level()
-                && begin.iter().all(|c| *c <= MAX_COST)
-                && end.iter().all(|c| *c <= MAX_COST)
-        );
-        let mut first = [0u16; 6];
-        let mut second = [0u16; 6];
-        let mut third = [0u16; 6];
-        step_row(dir, pen, &begin, None, &GREY, &[], 2, &mut first);
-        step_row(
-            dir,
-            pen,
-            &middle,
-            Some(&first),
-            &GREY,
-            &GREY,
-            2,
-            &mut second,
-        );
-        step_row(dir, pen, &end, Some(&second), &GREY, &GREY, 2, &mut third);
-        // The same values, added to sums that are there.
-        let mut again = [7u16; 6];
-        let mut sums = [100u16; 6];
-        add_step_row(
-            dir,
-            pen,
-            &end,
-            Some(&second),
-            &GREY,
-            &GREY,
-            2,
-            &mut again,
-            &mut sums,
-        );
-        assert!(rt; again == third && are_sums(&sums, &[100; 6], &third));
-        let mut sums = [30000u16; 6];
-        add_step_row(dir, pen, &begin, None, &GREY, &[], 2, &mut again, &mut sums);
-        assert!(rt; again == first && are_sums(&sums, &[30000; 6], &first));
-        let found = if down {
-            [first, second, third]
-        } else {
-            [third, second, first]
+        assert!(rt; !dir.is_level());
+        let is_right = match dir {
+            Dir::Up | Dir::UpRight | Dir::UpLeft => go_up(dir, pen, want),
+            _ => go_down(dir, pen, want),
         };
-        assert!(rt; found == want);
+        assert!(rt; is_right);
     }
 }
 
@@ -243,61 +333,65 @@ fn diagonal_begins_at_the_side(rt: HostRuntime) {
     assert!(rt; bottom == [7, 4, 5, 1]);
 }
 
+const ROW: [u8; 6] = [0, 9, 9, 9, 9, 0];
+
+/// Whether two pixels of a row with these grey values have these path values to the right.
+fn to_the_right(pen: Pen, guide: [Option<u8>; 2], want: &[u16; 6]) -> bool {
+    runs_to(Dir::Right, pen, &ROW, &guide, 3, want)
+}
+
+/// Whether two pixels of a row with these grey values have these path values to the left.
+fn to_the_left(pen: Pen, guide: [Option<u8>; 2], want: &[u16; 6]) -> bool {
+    runs_to(Dir::Left, pen, &ROW, &guide, 3, want)
+}
+
 #[test]
 fn penalties_that_follow_a_row(rt: HostRuntime) {
-    let costs = [0, 9, 9, 9, 9, 0];
     let guide = [Some(10), Some(13)];
     let fixed = Pen::make(1, 6).expect(&rt, "in range");
-    let adaptive = Pen::adaptive(1, 6).expect(&rt, "in range");
-    let mut values = [0u16; 6];
-    run_row(Dir::Right, fixed, &costs, &guide, 3, &mut values);
-    assert!(rt; values == [0, 9, 9, 9, 10, 6]);
-    run_row(Dir::Right, adaptive, &costs, &guide, 3, &mut values);
-    assert!(rt; values == [0, 9, 9, 9, 10, 2]);
-    run_row(Dir::Left, adaptive, &costs, &guide, 3, &mut values);
-    assert!(rt; values == [2, 10, 9, 9, 9, 0]);
-    run_row(
-        Dir::Left,
-        adaptive,
-        &costs,
-        &[Some(10), None],
-        3,
-        &mut values,
-    );
-    assert!(rt; values == [6, 10, 9, 9, 9, 0]);
-    let mut spare = [0u16; 6];
-    let mut sums = [0u16; 6];
-    level_sums(adaptive, &costs, &guide, 3, &mut spare, &mut sums);
-    assert!(rt; sums == [2, 19, 18, 18, 19, 2]);
+    assert!(rt; to_the_right(fixed, guide, &[0, 9, 9, 9, 10, 6]));
+    let pen = Pen::adaptive(1, 6).expect(&rt, "in range");
+    let (right, left) = ([0, 9, 9, 9, 10, 2], [2, 10, 9, 9, 9, 0]);
+    assert!(rt; to_the_right(pen, guide, &right) && to_the_left(pen, guide, &left));
+    assert!(rt; adds_up(pen, &ROW, &guide, 3, &right, &left));
+    assert!(rt; to_the_left(pen, [Some(10), None], &[6, 10, 9, 9, 9, 0]));
 }
+
+const COSTS: [u8; 6] = [9, 9, 0, 9, 9, 0];
+
+const BELOW: [u16; 6] = [0, 9, 9, 0, 9, 9];
 
 #[test]
 fn penalties_that_follow_two_rows(rt: HostRuntime) {
     // Upwards to the right: the column 1 comes from the column 0 of the row below, with the grey value 10.
     let pen = Pen::adaptive(1, 6).expect(&rt, "in range");
-    let below = [0, 9, 9, 0, 9, 9];
-    let costs = [9, 9, 0, 9, 9, 0];
-    let mut values = [0u16; 6];
-    let before = Some(&below[..]);
+    let (guide, guide_below) = ([Some(99), Some(13)], [Some(10), Some(14)]);
+    let mut values = [0; 6];
     step_row(
         Dir::UpRight,
         pen,
-        &costs,
-        before,
-        &[Some(99), Some(13)],
-        &[Some(10), Some(14)],
+        &COSTS,
+        Some(&BELOW),
+        &guide,
+        &guide_below,
         3,
         &mut values,
     );
     assert!(rt; values == [9, 9, 0, 9, 10, 2]);
-    let mut sums = [5u16; 6];
+}
+
+#[test]
+fn added_penalties_that_follow_two_rows(rt: HostRuntime) {
+    let pen = Pen::adaptive(1, 6).expect(&rt, "in range");
+    let (guide, guide_below) = ([Some(12), Some(13)], [Some(10), None]);
+    let (mut values, mut sums) = ([0; 6], [5; 6]);
     add_step_row(
         Dir::Up,
         pen,
-        &costs,
-        before,
-        &[Some(12), Some(13)],
-        &[Some(10), None],
+        &COSTS,
+        Some(&BELOW),
+        &guide,
+        &guide_below,
         3,
         &mut values,
         &mut sums,

@@ -1,5 +1,5 @@
 -- What the kernels give is what the recurrence asks for.
-use Rattle.std.proofs.Common.{◌≡◌, ℕ, ◌+◌, ◌-◌, ◌<◌, ◌≤◌, zero, suc, List, ◌∷◌, ◌++◌, length, map, take, drop, slice_index, refl, sym, ap, ◌∙◌, subst, arith}
+use Rattle.std.proofs.Common.{◌≡◌, ℕ, ◌+◌, ◌-◌, ◌<◌, ◌≤◌, ◌⊎◌, inl, inr, zero, suc, List, ◌∷◌, ◌++◌, length, map, take, drop, slice_index, refl, sym, ap, ◌∙◌, subst, arith}
 use Rattle.std.specs.List.{Contains, All, range_with_len}
 use Rattle.std.proofs.lemmas.Bool.Decides.{nat_tests}
 use Rattle.std.proofs.lemmas.List.{append_assoc, get_or-append-add, get_or_append_left, get_or-take, get_or-drop}
@@ -68,3 +68,48 @@ mid_at_left a v w n d e h = ap (λ l. slice_index l (n + d)) (append_assoc a v w
 
 pub part_at : (xs : List ℕ) (i n k : ℕ) → k < n → slice_index (take n (drop i xs)) k ≡ slice_index xs (i + k)
 part_at xs i n k h = get_or-take n (drop i xs) k 0 h ∙ get_or-drop i xs k 0
+
+-- what stands before a part and behind it stays, whatever the part becomes
+pub mid_others : (xs a v w : List ℕ) (n count k : ℕ) → a ≡ take n xs → w ≡ drop count (drop n xs) → length a ≡ n → length v ≡ count → (k < n) ⊎ (n + count ≤ k) → slice_index (a ++ (v ++ w)) k ≡ slice_index xs k
+mid_others xs a v w n count k ea ew la lv (inl h) =
+    get_or_append_left a (v ++ w) 0 k (omega arith)
+    ∙ ap (λ l. slice_index l k) ea
+    ∙ get_or-take n xs k 0 h
+mid_others xs a v w n count k ea ew la lv (inr h) =
+    let j : ℕ = k - (n + count) in
+    let e : k ≡ length a + (length v + j) = omega arith in
+    let e' : n + (count + j) ≡ k = omega arith in
+    ap (slice_index (a ++ (v ++ w))) e
+    ∙ get_or-append-add a (v ++ w) (length v + j) 0
+    ∙ get_or-append-add v w j 0
+    ∙ ap (λ l. slice_index l j) ew
+    ∙ get_or-drop count (drop n xs) j 0
+    ∙ get_or-drop n xs (count + j) 0
+    ∙ ap (slice_index xs) e'
+
+pub mid_others_left : (xs a v w : List ℕ) (n count k : ℕ) → a ≡ take n (take (n + count) xs) → w ≡ drop (n + count) xs → length a ≡ n → length v ≡ count → (k < n) ⊎ (n + count ≤ k) → slice_index ((a ++ v) ++ w) k ≡ slice_index xs k
+mid_others_left xs a v w n count k ea ew la lv (inl h) =
+    ap (λ l. slice_index l k) (append_assoc a v w)
+    ∙ get_or_append_left a (v ++ w) 0 k (omega arith)
+    ∙ ap (λ l. slice_index l k) ea
+    ∙ get_or-take n (take (n + count) xs) k 0 h
+    ∙ get_or-take (n + count) xs k 0 (omega arith)
+mid_others_left xs a v w n count k ea ew la lv (inr h) =
+    let j : ℕ = k - (n + count) in
+    let e : k ≡ length a + (length v + j) = omega arith in
+    let e' : (n + count) + j ≡ k = omega arith in
+    ap (λ l. slice_index l k) (append_assoc a v w)
+    ∙ ap (slice_index (a ++ (v ++ w))) e
+    ∙ get_or-append-add a (v ++ w) (length v + j) 0
+    ∙ get_or-append-add v w j 0
+    ∙ ap (λ l. slice_index l j) ew
+    ∙ get_or-drop (n + count) xs j 0
+    ∙ ap (slice_index xs) e'
+
+-- an entry of the part that a split leaves in the middle
+pub mid_was : (xs mid rest : List ℕ) (n count d : ℕ) → mid ≡ take count rest → rest ≡ drop n xs → d < count → slice_index mid d ≡ slice_index xs (n + d)
+mid_was xs mid rest n count d em er h =
+    ap (λ l. slice_index l d) em
+    ∙ get_or-take count rest d 0 h
+    ∙ ap (λ l. slice_index l d) er
+    ∙ get_or-drop n xs d 0

@@ -1,6 +1,7 @@
 -- Sums of signed numbers that are known to be small, as the code computes them.
-use Rattle.std.proofs.Common.{◌≡◌, ℕ, ◌+◌, ◌<◌, ℤ, pos, ◌+ℤ◌, ◌-ℤ◌, ◌≤ℤ◌, FitsSigned, w32, w64, to_z, of_z, sym, ap, ◌∙◌, subst, arith}
-use Rattle.std.proofs.lemmas.Int.{ints}
+use Rattle.std.proofs.Common.{◌≡◌, ℕ, ◌+◌, ◌*◌, ◌<◌, ◌≤◌, ℤ, pos, ◌+ℤ◌, ◌-ℤ◌, ◌*ℤ◌, ◌≤ℤ◌, unsigned_abs, FitsSigned, w32, w64, to_z, of_z, sym, ap, ◌∙◌, subst, arith}
+use Rattle.std.proofs.lemmas.Int.{ints, unsigned_abs-mul}
+use Rattle.std.proofs.lemmas.Nat.{mul-le}
 use Rattle.sgm_rectify.specs.Warps.{IsCoordinate}
 
 -- a number from -m to m
@@ -19,6 +20,31 @@ kept m p s h = omega (arith, ints, h.low, h.high)
 
 fits : (m : ℕ) (p : ℤ) → m < 9223372036854775808 → Within m p → FitsSigned w64 p
 fits m p s h = omega (arith, ints, h.low, h.high)
+
+Within-mul : (m n : ℕ) (p q : ℤ) → Within m p → Within n q → Within (m * n) (p *ℤ q)
+Within-mul m n p q h k =
+    let low : unsigned_abs (p *ℤ q) ≤ m * n =
+    subst (λ x. x ≤ m * n) (sym (unsigned_abs-mul p q)) (mul-le (unsigned_abs p) (unsigned_abs q) m n (omega (arith, ints, h.low, h.high)) (omega (arith, ints, k.low, k.high))) in
+    record {
+      low = omega (arith, ints, low);
+      high = omega (arith, ints, low);
+    }
+
+-- what the code computes as a * b, where a is p and b is q
+pub product : (m n : ℕ) (p q a b : ℤ) → a ≡ p → b ≡ q → m * n < 9223372036854775808 → Within m p → Within n q → to_z w64 (of_z w64 (a *ℤ b)) ≡ p *ℤ q
+product m n p q a b ea eb s h k =
+    ap (λ (z : ℤ). to_z w64 (of_z w64 (z *ℤ b))) ea
+    ∙ ap (λ (z : ℤ). to_z w64 (of_z w64 (p *ℤ z))) eb
+    ∙ kept (m * n) (p *ℤ q) s (Within-mul m n p q h k)
+
+pub product-fits : (m n : ℕ) (p q a b : ℤ) → a ≡ p → b ≡ q → m * n < 9223372036854775808 → Within m p → Within n q → FitsSigned w64 (a *ℤ b)
+product-fits m n p q a b ea eb s h k =
+    subst (λ (z : ℤ). FitsSigned w64 z) (sym (ap (λ (z : ℤ). z *ℤ b) ea ∙ ap (λ (z : ℤ). p *ℤ z) eb))
+    (fits (m * n) (p *ℤ q) s (Within-mul m n p q h k))
+
+pub product-within : (m n : ℕ) (p q a b : ℤ) → a ≡ p → b ≡ q → m * n < 9223372036854775808 → Within m p → Within n q → Within (m * n) (to_z w64 (of_z w64 (a *ℤ b)))
+product-within m n p q a b ea eb s h k =
+    subst (λ (z : ℤ). Within (m * n) z) (sym (product m n p q a b ea eb s h k)) (Within-mul m n p q h k)
 
 -- what the code computes as p + q, where p is a sum already
 plus : (m n : ℕ) (p q : ℤ) → m < 9223372036854775808 → n < 9223372036854775808 → Within m p → Within n q → p +ℤ to_z w64 (of_z w64 q) ≡ p +ℤ q

@@ -1,6 +1,8 @@
-//! The tests of `sgm_series`, which call it from outside. They stand apart from it, since a crate that has
-//! tests is proved a second time with them.
+//! The tests of `sgm_batch` and `sgm_series`, which call them from outside. They stand apart from them, since a crate
+//! that has tests is proved a second time with them.
 #![tactic(auto)]
 
+#[cfg(test)]
+mod batch;
 #[cfg(test)]
 mod tests;

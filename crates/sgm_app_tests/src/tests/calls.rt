@@ -45,7 +45,7 @@ fn assert_calls<R: Abort + Threads + Sync>(
     let Ok(made) = calls.try_borrow() else {
         return Err(Fail::new("the calls are lent"));
     };
-    assert_eq!(rt; made.as_str(), wanted, "{line}");
+    assert!(rt; made.as_str() == wanted, "{line}");
     Ok(())
 }
 

@@ -74,8 +74,8 @@ fn a_certificate_that_cannot_be_written_is_begun_at_most(rt: HostRuntime) -> Res
     let outcome = run(
         &rt, alloc, &words, &mut shelf, &mut out, &mut err, &OpenGate,
     );
-    assert_eq!(rt; outcome.status(), 5);
-    assert_eq!(rt; out.taken(), b"least ".as_slice());
-    assert_eq!(rt; err.taken(), b"sgm: cannot write summary\n".as_slice());
+    assert!(rt; outcome.status() == 5);
+    assert!(rt; out.taken() == b"least ".as_slice());
+    assert!(rt; err.taken() == b"sgm: cannot write summary\n".as_slice());
     Ok(())
 }

@@ -50,9 +50,9 @@ pub fn assert_ended(
     err: &[u8],
     case: &str,
 ) {
-    assert_eq!(rt; ended.err.taken(), err, "{case}");
-    assert_eq!(rt; ended.out.taken(), out, "{case}");
-    assert_eq!(rt; ended.status, status, "{case}");
+    assert!(rt; ended.err.taken() == err, "{case}");
+    assert!(rt; ended.out.taken() == out, "{case}");
+    assert!(rt; ended.status == status, "{case}");
 }
 
 /// What the shelf holds under the name.
@@ -84,7 +84,7 @@ pub fn assert_held<S: Shelf>(
     ] {
         let bytes = held(alloc, shelf, name)?;
         let found = bytes.as_ref().map(|bytes| bytes.as_slice());
-        assert_eq!(rt; found, wanted, "{case}: {name}");
+        assert!(rt; found == wanted, "{case}: {name}");
     }
     Ok(())
 }

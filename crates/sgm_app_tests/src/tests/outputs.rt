@@ -5,6 +5,7 @@ use super::fixtures::{DISPARITIES, HEIGHTS, REPORT, SUMMARY, example, file, file
 use sgm_app::{Refine, texts};
 use sgm_example::{CALIBRATION, CAMERA, END, GRID, LEFT, RIGHT, SETTINGS};
 use sgm_work::OpenGate;
+use std::alloc::{AllocError, Global};
 use std::test::Fail;
 
 #[test]
@@ -43,12 +44,12 @@ fn the_texts_of_the_worked_example_are_those_that_are_written(rt: HostRuntime) -
         &OpenGate,
     ) {
         Ok(made) => {
-            assert_eq!(rt; made.disparity.as_slice(), DISPARITIES);
+            assert!(rt; made.disparity.as_slice() == DISPARITIES);
             let heights = made.heights.as_ref().map(|text| text.as_slice());
-            assert_eq!(rt; heights, Some(HEIGHTS));
+            assert!(rt; heights == Some(HEIGHTS));
             let report = made.report.as_ref().map(|text| text.as_slice());
-            assert_eq!(rt; report, Some(REPORT));
-            assert_eq!(rt; made.summary.as_slice(), SUMMARY);
+            assert!(rt; report == Some(REPORT));
+            assert!(rt; made.summary.as_slice() == SUMMARY);
             Ok(())
         }
         Err(_) => Err(Fail::new("the worked example is refused")),
@@ -62,21 +63,24 @@ fn the_calibration_asks_for_the_files(rt: HostRuntime) -> Result<(), Fail> {
     let mut shelf = shelf_of(alloc, files_with(alloc, &[SETTINGS, END])?)?;
     let ended = end_on(&rt, alloc, line, &mut shelf)?;
     assert_ended(&rt, &ended, 0, SUMMARY, b"", "no grid");
-    assert_held(
-        &rt,
-        alloc,
-        &mut shelf,
-        [Some(DISPARITIES), None, None],
-        "no grid",
-    )?;
+    let outputs = [Some(DISPARITIES), None, None];
+    assert_held(&rt, alloc, &mut shelf, outputs, "no grid")
+}
 
-    // Files that stood before are replaced, and one that isn't asked for stays.
+// A calibration without regions, and a file under each name of an output.
+fn files_that_stood(alloc: Global) -> Result<Vec<(String, Vec<u8>)>, AllocError> {
     let mut files = files_with(alloc, &[SETTINGS, CAMERA, GRID, END])?;
     for name in ["o.pgm", "o.asc", "o.csv"] {
         files.push(file(alloc, name, LEFT)?)?;
     }
-    let mut shelf = shelf_of(alloc, files)?;
-    let ended = end_on(&rt, alloc, line, &mut shelf)?;
+    Ok(files)
+}
+
+#[test]
+fn files_that_stood_are_replaced_where_they_are_asked_for(rt: HostRuntime) -> Result<(), Fail> {
+    let alloc = rt.alloc();
+    let mut shelf = shelf_of(alloc, files_that_stood(alloc)?)?;
+    let ended = end_on(&rt, alloc, "match l.pgm r.pgm c.json o", &mut shelf)?;
     assert_ended(&rt, &ended, 0, SUMMARY, b"", "no regions");
     let outputs = [Some(DISPARITIES), Some(HEIGHTS), Some(LEFT)];
     assert_held(&rt, alloc, &mut shelf, outputs, "no regions")

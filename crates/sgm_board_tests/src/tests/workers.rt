@@ -46,12 +46,12 @@ fn goes_through(visits: &[Visit], strips: u32, down: bool) -> bool {
 fn sums_are_the_same_whatever_the_strips_and_the_workers(rt: HostRuntime) -> Result<(), Fail> {
     for (strips, workers) in [(1, 1), (2, 3), (3, 1), (3, 2), (3, 16)] {
         let found = matched(&rt, rt.alloc(), strips, workers, &OpenGate)?;
-        assert_eq!(rt; found.parcels.len(), strips as usize);
+        assert!(rt; found.parcels.len() == strips as usize);
         assert!(rt;
             found.parcels.iter().all(|parcel| has_sums(parcel)),
             "{strips} strips, {workers} workers"
         );
-        assert_eq!(rt; found.fronts.len(), 6);
+        assert!(rt; found.fronts.len() == 6);
         for front in &found.fronts {
             let down = front.dir().offset().1 > 0;
             assert!(rt;
@@ -69,9 +69,9 @@ fn sums_are_the_same_whatever_the_strips_and_the_workers(rt: HostRuntime) -> Res
 fn one_worker_by_board(rt: HostRuntime) -> Result<(), Fail> {
     let recorder = Recorder::new();
     let found = matched(&rt, rt.alloc(), 3, 1, &recorder)?;
-    assert_eq!(rt; recorder.count(), 9);
+    assert!(rt; recorder.count() == 9);
     for call in 0..9 {
-        assert_eq!(rt; recorder.call(call), (0, call % 3));
+        assert!(rt; recorder.call(call) == (0, call % 3));
     }
     for front in &found.fronts {
         assert!(rt; front.visits().iter().all(|visit| visit.worker == 0));
@@ -140,7 +140,7 @@ fn finish_goes_on_where_a_scan_ended(rt: HostRuntime) -> Result<(), Fail> {
     let scene = scene_of(rt.alloc())?;
     let (parcels, fronts) = finished(rt.alloc(), &scene)?;
     assert!(rt; parcels.iter().all(|parcel| has_sums(parcel)));
-    assert_eq!(rt; fronts.len(), 6);
+    assert!(rt; fronts.len() == 6);
     for front in &fronts {
         assert!(rt; went_through(front, if goes_down(front) { 0 } else { 2 }));
     }

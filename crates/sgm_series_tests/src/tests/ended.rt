@@ -54,7 +54,7 @@ pub fn assert_held(
             Ok(()) => Some(bytes.as_slice()),
             Err(_) => None,
         };
-        assert_eq!(rt; found, *wanted, "{name}");
+        assert!(rt; found == *wanted, "{name}");
     }
     Ok(())
 }

@@ -10,9 +10,9 @@ use std::test::Fail;
 fn each_entry_has_its_files_and_its_summary(rt: HostRuntime) -> Result<(), Fail> {
     for line in ["list", "list workers=1", "list workers=2"] {
         let mut ended = end_of(&rt, rt.alloc(), line, LIST, &OpenGate)?;
-        assert_eq!(rt; ended.outcome, SeriesOutcome::Done, "{line}");
-        assert_eq!(rt; ended.out.taken(), BOTH_SUMMARIES, "{line}");
-        assert_eq!(rt; ended.err.taken(), b"".as_slice(), "{line}");
+        assert!(rt; ended.outcome == SeriesOutcome::Done, "{line}");
+        assert!(rt; ended.out.taken() == BOTH_SUMMARIES, "{line}");
+        assert!(rt; ended.err.taken() == b"".as_slice(), "{line}");
         assert_held(
             &rt,
             rt.alloc(),
@@ -33,8 +33,8 @@ fn each_entry_has_its_files_and_its_summary(rt: HostRuntime) -> Result<(), Fail>
 #[test]
 fn an_empty_list_is_done_and_writes_nothing(rt: HostRuntime) -> Result<(), Fail> {
     let ended = end_of(&rt, rt.alloc(), "list", b"", &OpenGate)?;
-    assert_eq!(rt; ended.outcome, SeriesOutcome::Done);
-    assert_eq!(rt; ended.out.taken(), b"".as_slice());
-    assert_eq!(rt; ended.err.taken(), b"".as_slice());
+    assert!(rt; ended.outcome == SeriesOutcome::Done);
+    assert!(rt; ended.out.taken() == b"".as_slice());
+    assert!(rt; ended.err.taken() == b"".as_slice());
     Ok(())
 }

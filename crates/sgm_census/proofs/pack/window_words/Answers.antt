@@ -1,10 +1,37 @@
-use Rattle.std.proofs.Common.{◌≡◌, ℕ, ◌+◌, ◌-◌, ◌*◌, ◌/◌, ◌^◌, ◌≤◌, List, ap, ◌∙◌, arith, drop, length, slice_index, subst, sym, take}
+use Rattle.std.proofs.Common.{◌≡◌, ℕ, ◌+◌, ◌-◌, ◌*◌, ◌/◌, ◌^◌, ◌<◌, ◌≤◌, List, ap, ◌∙◌, arith, drop, length, slice_index, subst, sym, take}
+use Rattle.std.proofs.Math.Nat.{mul-le-mul_right}
 use Rattle.std.proofs.lemmas.List.{length-take}
 use Rattle.sgm_census.specs.Windows.{WindowSides}
 use Rattle.sgm_census.specs.Packed.{centre_in, lesser, pushed}
 use Rattle.sgm_census.proofs.CodeLists.{part_at}
 use Rattle.sgm_census.proofs.RowBits.{words_more, words_room, words_small}
 use Rattle.sgm_census.proofs.pack.window_words.Goals as goal
+
+-- a row of a window ends within the values
+ends_in : (top j high width len : ℕ) → j < high → (top + high) * width ≤ len → (top + j) * width + width ≤ len
+ends_in top j high width len h e =
+    let inside : top + j + 1 ≤ top + high = omega arith in
+    omega (arith, mul-le-mul_right width inside, e)
+
+pub overflow_mul-centre : goal.overflow_mul-centre
+overflow_mul-centre c =
+    let high : c.window.inside.height ≡ c.args.window.height = ap (λ (s : WindowSides). s.height) c.window.view_is in
+    omega (arith, ends_in c.args.top (c.window.inside.height / 2) c.args.window.height c.args.width (length c.args.values.now) (omega (arith, high, c.window.invariant.odd_height)) c.requires.rows)
+
+pub overflow_mul-from : goal.overflow_mul-from
+overflow_mul-from c =
+    let high : c.window.inside.height ≡ c.args.window.height = ap (λ (s : WindowSides). s.height) c.window.view_is in
+    omega (arith, ends_in c.args.top c.loop-j.j c.args.window.height c.args.width (length c.args.values.now) (omega (arith, high, c.loop-j-test.true)) c.requires.rows)
+
+pub overflow_add-row : goal.overflow_add-row
+overflow_add-row c =
+    let high : c.window.inside.height ≡ c.args.window.height = ap (λ (s : WindowSides). s.height) c.window.view_is in
+    omega (arith, ends_in c.args.top c.loop-j.j c.args.window.height c.args.width (length c.args.values.now) (omega (arith, high, c.loop-j-test.true)) c.requires.rows)
+
+pub slice_bounds-row-end : goal.slice_bounds-row-end
+slice_bounds-row-end c =
+    let high : c.window.inside.height ≡ c.args.window.height = ap (λ (s : WindowSides). s.height) c.window.view_is in
+    omega (arith, ends_in c.args.top c.loop-j.j c.args.window.height c.args.width (length c.args.values.now) (omega (arith, high, c.loop-j-test.true)) c.requires.rows)
 
 pub push_row-requires-clause-room : goal.push_row-requires-clause-room
 push_row-requires-clause-room c = λ k h.

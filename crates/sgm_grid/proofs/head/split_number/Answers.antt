@@ -1,6 +1,6 @@
-use Rattle.sgm_grid.proofs.HeadLaws.{some_capped, capped_fits}
+use Rattle.sgm_grid.proofs.HeadLaws.{some_capped, capped_fits, lacks_number, lacks_word}
 use Rattle.std.proofs.Common.{◌≡◌, ap, sym, ◌∙◌, to_z, of_z, w64, ℤ}
-use Rattle.sgm_grid.specs.Words.{number_of}
+use Rattle.sgm_grid.specs.Words.{number_of, words_of}
 use Rattle.sgm_grid.proofs.head.split_number.Goals as goal
 
 pub returns-clause-ok : goal.returns-clause-ok
@@ -13,3 +13,10 @@ returns-clause-ok c =
       writes = written.1;
       value_is = ap (λ (z : ℤ). to_z w64 (of_z w64 z)) written.2 ∙ capped_fits written.0;
     }
+
+pub returns-in_default-clause-err : goal.returns-in_default-clause-err
+returns-in_default-clause-err c = lacks_word c.args.at (words_of c.args.text.now) c.in_default.ensures.words
+
+pub returns-in_default-number-clause-err : goal.returns-in_default-number-clause-err
+returns-in_default-number-clause-err c =
+    lacks_number c.in-Some.word.now c.args.at (words_of c.args.text.now) (words_of c.in-Some.text.now) c.in-Some.ensures.words (sym c.number.ensures ∙ c.in_default-number.is)

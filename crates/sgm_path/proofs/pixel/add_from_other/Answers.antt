@@ -1,5 +1,5 @@
-use Rattle.std.proofs.Common.{◌+◌, ◌-◌, ◌<◌, sym, arith, slice_index, length, refl}
-use Rattle.sgm_path.proofs.Follow.{follows_part, mid_at, part_at}
+use Rattle.std.proofs.Common.{◌+◌, ◌-◌, ◌<◌, ◌∙◌, sym, ap, arith, slice_index, length, drop, refl}
+use Rattle.sgm_path.proofs.Follow.{follows_part, mid_at, mid_others, mid_was, part_at}
 use Rattle.sgm_path.proofs.pixel.add_from_other.Goals as goal
 
 pub returns-clause-each : goal.returns-clause-each
@@ -20,3 +20,34 @@ returns-clause-bound c d h =
     let back = c.split_at_mut-here.result.1.now in
     let lt : d < length c.add_follow.new.into = omega (arith, c.add_follow.auto.into, c.split_at_mut-here.ensures.front_len) in
     omega (arith, mid_at front c.add_follow.new.into back c.args.at d c.split_at_mut-rest.ensures.front_len lt, c.add_follow.ensures.bound d 0 lt)
+
+pub returns-clause-others : goal.returns-clause-others
+returns-clause-others c k h =
+    mid_others c.args.into.now c.split_at_mut-rest.result.0.now c.add_follow.new.into c.split_at_mut-here.result.1.now c.args.at (length c.args.prev.now) k
+    c.split_at_mut-rest.ensures.front
+    (c.split_at_mut-here.ensures.back ∙ ap (drop (length c.args.prev.now)) c.split_at_mut-rest.ensures.back)
+    c.split_at_mut-rest.ensures.front_len
+    (omega (arith, c.add_follow.auto.into, c.split_at_mut-here.ensures.front_len))
+    h
+
+pub returns-clause-other_sums : goal.returns-clause-other_sums
+returns-clause-other_sums c k h =
+    mid_others c.args.sums.now c.split_at_mut-more.result.0.now c.add_follow.new.sums c.split_at_mut-here_sums.result.1.now c.args.at (length c.args.prev.now) k
+    c.split_at_mut-more.ensures.front
+    (c.split_at_mut-here_sums.ensures.back ∙ ap (drop (length c.args.prev.now)) c.split_at_mut-more.ensures.back)
+    c.split_at_mut-more.ensures.front_len
+    (omega (arith, c.add_follow.auto.sums, c.split_at_mut-here_sums.ensures.front_len))
+    h
+
+pub returns-clause-added : goal.returns-clause-added
+returns-clause-added c d h =
+    let sums = c.add_follow.new.sums in
+    let long : d < length sums = omega (arith, c.add_follow.auto.sums, c.split_at_mut-here_sums.ensures.front_len) in
+    let far : d < length c.add_follow.new.into = omega (arith, c.add_follow.auto.into, c.split_at_mut-here.ensures.front_len) in
+    omega (
+      arith,
+      mid_at c.split_at_mut-more.result.0.now sums c.split_at_mut-here_sums.result.1.now c.args.at d c.split_at_mut-more.ensures.front_len long,
+      mid_at c.split_at_mut-rest.result.0.now c.add_follow.new.into c.split_at_mut-here.result.1.now c.args.at d c.split_at_mut-rest.ensures.front_len far,
+      c.add_follow.ensures.added d long,
+      mid_was c.args.sums.now c.split_at_mut-here_sums.result.0.now c.split_at_mut-more.result.1.now c.args.at (length c.args.prev.now) d c.split_at_mut-here_sums.ensures.front c.split_at_mut-more.ensures.back h,
+    )

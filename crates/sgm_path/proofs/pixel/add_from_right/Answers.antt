@@ -1,7 +1,7 @@
-use Rattle.std.proofs.Common.{ℕ, ◌+◌, ◌-◌, ◌<◌, ◌≤◌, ◌∙◌, sym, ap, arith, slice_index, length, take}
+use Rattle.std.proofs.Common.{ℕ, ◌+◌, ◌-◌, ◌<◌, ◌≤◌, ◌∙◌, sym, ap, arith, slice_index, length, take, drop}
 use Rattle.std.proofs.lemmas.List.Elements.{All-from_get_or}
 use Rattle.std.proofs.lemmas.List.{length-take, get_or-take, get_or-drop}
-use Rattle.sgm_path.proofs.Follow.{follows_part, mid_at, mid_at_left, part_at}
+use Rattle.sgm_path.proofs.Follow.{follows_part, mid_at, mid_at_left, mid_others, mid_others_left, mid_was, part_at}
 use Rattle.sgm_path.proofs.pixel.add_from_right.Goals as goal
 
 pub returns-clause-each : goal.returns-clause-each
@@ -58,8 +58,23 @@ returns-clause-added c d h =
       mid_at_left rest c.add_follow.new.into done c.args.at d c.split_at_mut-here.ensures.front_len
           (omega (arith, c.add_follow.auto.into, c.split_at_mut-here.ensures.back_len, c.split_at_mut-front.ensures.front_len)),
       c.add_follow.ensures.added d long,
-      ap (λ l. slice_index l d) c.split_at_mut-here_sums.ensures.front,
-      get_or-take c.args.count c.split_at_mut-more.result.1.now d 0 h,
-      ap (λ l. slice_index l d) c.split_at_mut-more.ensures.back,
-      get_or-drop c.args.at c.args.sums.now d 0,
+      mid_was c.args.sums.now c.split_at_mut-here_sums.result.0.now c.split_at_mut-more.result.1.now c.args.at c.args.count d c.split_at_mut-here_sums.ensures.front c.split_at_mut-more.ensures.back h,
     )
+
+pub returns-clause-others : goal.returns-clause-others
+returns-clause-others c k h =
+    mid_others_left c.args.into.now c.split_at_mut-here.result.0.now c.add_follow.new.into c.split_at_mut-front.result.1.now c.args.at c.args.count k
+    (c.split_at_mut-here.ensures.front ∙ ap (take c.args.at) c.split_at_mut-front.ensures.front)
+    c.split_at_mut-front.ensures.back
+    c.split_at_mut-here.ensures.front_len
+    (omega (arith, c.add_follow.auto.into, c.split_at_mut-here.ensures.back_len, c.split_at_mut-front.ensures.front_len))
+    h
+
+pub returns-clause-other_sums : goal.returns-clause-other_sums
+returns-clause-other_sums c k h =
+    mid_others c.args.sums.now c.split_at_mut-more.result.0.now c.add_follow.new.sums c.split_at_mut-here_sums.result.1.now c.args.at c.args.count k
+    c.split_at_mut-more.ensures.front
+    (c.split_at_mut-here_sums.ensures.back ∙ ap (drop c.args.count) c.split_at_mut-more.ensures.back)
+    c.split_at_mut-more.ensures.front_len
+    (omega (arith, c.add_follow.auto.sums, c.split_at_mut-here_sums.ensures.front_len))
+    h

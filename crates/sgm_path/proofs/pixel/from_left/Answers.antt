@@ -1,6 +1,6 @@
 use Rattle.std.proofs.Common.{ℕ, ◌+◌, ◌-◌, ◌<◌, ◌∙◌, sym, ap, arith, slice_index, length, take, drop}
 use Rattle.std.proofs.lemmas.List.{length-take, length-drop, get_or-take}
-use Rattle.sgm_path.proofs.Follow.{follows_part, mid_at, part_at}
+use Rattle.sgm_path.proofs.Follow.{follows_part, mid_at, mid_others, part_at}
 use Rattle.sgm_path.proofs.pixel.from_left.Goals as goal
 
 pub returns-clause-each : goal.returns-clause-each
@@ -26,3 +26,12 @@ returns-clause-bound c d h =
     let rest = c.split_at_mut-here.result.1.now in
     let lt : d < length c.follow.new.into = omega (arith, c.follow.auto.into, c.split_at_mut-here.ensures.front_len) in
     omega (arith, mid_at done c.follow.new.into rest c.args.at d c.split_at_mut-done.ensures.front_len lt, c.follow.ensures.bound d 0 lt)
+
+pub returns-clause-others : goal.returns-clause-others
+returns-clause-others c k h =
+    mid_others c.args.into.now c.split_at_mut-done.result.0.now c.follow.new.into c.split_at_mut-here.result.1.now c.args.at c.args.count k
+    c.split_at_mut-done.ensures.front
+    (c.split_at_mut-here.ensures.back ∙ ap (drop c.args.count) c.split_at_mut-done.ensures.back)
+    c.split_at_mut-done.ensures.front_len
+    (omega (arith, c.follow.auto.into, c.split_at_mut-here.ensures.front_len))
+    h

@@ -1,5 +1,5 @@
-use Rattle.std.proofs.Common.{◌+◌, ◌-◌, ◌<◌, sym, arith, slice_index, length, refl}
-use Rattle.sgm_path.proofs.Follow.{follows_part, mid_at, part_at}
+use Rattle.std.proofs.Common.{◌+◌, ◌-◌, ◌<◌, ◌∙◌, sym, ap, arith, slice_index, length, drop, refl}
+use Rattle.sgm_path.proofs.Follow.{follows_part, mid_at, mid_others, part_at}
 use Rattle.sgm_path.proofs.pixel.from_other.Goals as goal
 
 pub returns-clause-each : goal.returns-clause-each
@@ -20,3 +20,12 @@ returns-clause-bound c d h =
     let back = c.split_at_mut-here.result.1.now in
     let lt : d < length c.follow.new.into = omega (arith, c.follow.auto.into, c.split_at_mut-here.ensures.front_len) in
     omega (arith, mid_at front c.follow.new.into back c.args.at d c.split_at_mut-rest.ensures.front_len lt, c.follow.ensures.bound d 0 lt)
+
+pub returns-clause-others : goal.returns-clause-others
+returns-clause-others c k h =
+    mid_others c.args.into.now c.split_at_mut-rest.result.0.now c.follow.new.into c.split_at_mut-here.result.1.now c.args.at (length c.args.prev.now) k
+    c.split_at_mut-rest.ensures.front
+    (c.split_at_mut-here.ensures.back ∙ ap (drop (length c.args.prev.now)) c.split_at_mut-rest.ensures.back)
+    c.split_at_mut-rest.ensures.front_len
+    (omega (arith, c.follow.auto.into, c.split_at_mut-here.ensures.front_len))
+    h

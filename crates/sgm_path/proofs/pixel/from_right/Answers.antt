@@ -1,6 +1,6 @@
 use Rattle.std.proofs.Common.{ℕ, ◌+◌, ◌-◌, ◌<◌, ◌∙◌, sym, ap, arith, slice_index, length, take}
 use Rattle.std.proofs.lemmas.List.{length-take, get_or-take, get_or-drop}
-use Rattle.sgm_path.proofs.Follow.{follows_part, mid_at_left, part_at}
+use Rattle.sgm_path.proofs.Follow.{follows_part, mid_at_left, mid_others_left, part_at}
 use Rattle.sgm_path.proofs.pixel.from_right.Goals as goal
 
 pub returns-clause-each : goal.returns-clause-each
@@ -26,3 +26,12 @@ returns-clause-bound c d h =
     let rest = c.split_at_mut-here.result.0.now in
     let lt : d < length c.follow.new.into = omega (arith, c.follow.auto.into, c.split_at_mut-here.ensures.back_len, c.split_at_mut-front.ensures.front_len) in
     omega (arith, mid_at_left rest c.follow.new.into done c.args.at d c.split_at_mut-here.ensures.front_len lt, c.follow.ensures.bound d 0 lt)
+
+pub returns-clause-others : goal.returns-clause-others
+returns-clause-others c k h =
+    mid_others_left c.args.into.now c.split_at_mut-here.result.0.now c.follow.new.into c.split_at_mut-front.result.1.now c.args.at c.args.count k
+    (c.split_at_mut-here.ensures.front ∙ ap (take c.args.at) c.split_at_mut-front.ensures.front)
+    c.split_at_mut-front.ensures.back
+    c.split_at_mut-here.ensures.front_len
+    (omega (arith, c.follow.auto.into, c.split_at_mut-here.ensures.back_len, c.split_at_mut-front.ensures.front_len))
+    h

@@ -1,0 +1,128 @@
+//! Lists and their first faults.
+
+use sgm_list::{ListError, ListFault, MAX_LIST_BYTES, fault_line, read_list};
+use std::alloc::{AllocError, Global};
+use std::test::Fail;
+
+/// The first fault of a list under the name `list`; None where it has none.
+fn fault_of(alloc: Global, bytes: &[u8]) -> Result<Option<ListFault>, AllocError> {
+    if bytes.len() > MAX_LIST_BYTES {
+        return Ok(Some(ListFault::TooLong));
+    }
+    match read_list(alloc, bytes, "list.txt") {
+        Ok(_) => Ok(None),
+        Err(ListError::Fault(fault)) => Ok(Some(fault)),
+        Err(ListError::NoMemory) => Err(AllocError),
+    }
+}
+
+#[test]
+fn lines_with_four_words_are_entries(rt: HostRuntime) -> Result<(), Fail> {
+    let text = "l.pgm r.pgm - o1\r\n\n \t\r\n\tl.pgm  r\u{e9}.pgm\tc.json  o\u{c}2";
+    let entries = read_list(rt.alloc(), text.as_bytes(), "list")
+        .ok()
+        .ok_or("a list")?;
+    assert!(rt; entries.len() == 2);
+    assert!(rt; (entries[0].left.as_str(), entries[0].right.as_str()) == ("l.pgm", "r.pgm"));
+    assert!(rt; entries[0].calib.is_none());
+    assert!(rt; entries[0].out.as_str() == "o1");
+    assert!(rt; entries[1].right.as_str() == "r\u{e9}.pgm");
+    assert!(rt; entries[1].calib.as_ref().map(|calib| calib.as_str()) == Some("c.json"));
+    assert!(rt; entries[1].out.as_str() == "o\u{c}2");
+    Ok(())
+}
+
+#[test]
+fn each_fault_is_the_first_that_stands(rt: HostRuntime) -> Result<(), Fail> {
+    for (bytes, fault) in [
+        (b"".as_slice(), None),
+        (b"a b - o", None),
+        (b"a b\xff - o", Some(ListFault::NotText)),
+        (b"a b -\n\xff", Some(ListFault::NotText)),
+        (b"\na b - o p\na\n", Some(ListFault::Line { number: 2 })),
+        (b"a b - o\na b -\n", Some(ListFault::Line { number: 2 })),
+        (b"o.pgm b - o\na b -\n", Some(ListFault::Line { number: 2 })),
+        (
+            b"l.pgm r.pgm c.json o\nl.pgm o.pgm - p\n",
+            Some(ListFault::Clash { entry: 1 }),
+        ),
+        (
+            b"l.pgm r.pgm c.json o\nl.pgm r.pgm p\n",
+            Some(ListFault::Line { number: 2 }),
+        ),
+        (
+            b"a b - o\nc d - p\ne f - o",
+            Some(ListFault::Clash { entry: 2 }),
+        ),
+        (
+            b"a b - o\n\nc d - o\ne f - o",
+            Some(ListFault::Clash { entry: 1 }),
+        ),
+        (
+            b"a p.csv - o\nc d - p\n",
+            Some(ListFault::Clash { entry: 0 }),
+        ),
+        (
+            b"a b p.asc o\nc d - p\n",
+            Some(ListFault::Clash { entry: 0 }),
+        ),
+        (
+            b"a b - o\no.pgm d - p\n",
+            Some(ListFault::Clash { entry: 1 }),
+        ),
+        (b"a b - o\nc o.txt - p\n", None),
+        (b"a b o o\na b .pgm p\n", None),
+    ] {
+        assert!(rt; fault_of(rt.alloc(), bytes)? == fault, "{bytes:?}");
+    }
+    Ok(())
+}
+
+#[test]
+fn no_output_is_the_list(rt: HostRuntime) -> Result<(), Fail> {
+    for (list, fault) in [
+        ("o.csv", Some(ListFault::Clash { entry: 1 })),
+        ("o", None),
+        ("a", None),
+    ] {
+        let read = read_list(rt.alloc(), b"a b - p\na b - o", list);
+        assert!(rt; read.err() == fault.map(ListError::Fault), "{list}");
+    }
+    Ok(())
+}
+
+#[test]
+fn there_are_at_most_a_thousand_entries(rt: HostRuntime) -> Result<(), Fail> {
+    let mut text = String::new(rt.alloc());
+    for entry in 0..1000u32 {
+        write!(text, "l{entry}.pgm r{entry}.pgm - o{entry}\n")?;
+    }
+    assert!(rt; fault_of(rt.alloc(), text.as_bytes())? == None);
+    text.push_str("a b - c\n")?;
+    assert!(rt;
+        fault_of(rt.alloc(), text.as_bytes())? == Some(ListFault::TooMany { entries: 1001 })
+    );
+    Ok(())
+}
+
+#[test]
+fn each_fault_has_its_line(rt: HostRuntime) {
+    for (fault, line) in [
+        (ListFault::TooLong, "sgm_series: list is too long\n"),
+        (ListFault::NotText, "sgm_series: list is not text\n"),
+        (
+            ListFault::Line { number: 2 },
+            "sgm_series: line 2 does not have four words\n",
+        ),
+        (
+            ListFault::TooMany { entries: 1001 },
+            "sgm_series: too many entries\n",
+        ),
+        (
+            ListFault::Clash { entry: 1 },
+            "sgm_series: entry 1 clashes\n",
+        ),
+    ] {
+        assert!(rt; fault_line(fault).as_bytes() == line.as_bytes(), "{line}");
+    }
+}

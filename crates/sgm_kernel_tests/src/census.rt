@@ -1,0 +1,249 @@
+ghost use Rattle.std.specs.Prelude.{◌≡◌, ◌*◌, ◌<◌, ◌≤◌, length, IsTrue};
+
+use sgm_base::{Plane, Size, Span};
+use sgm_census::{CodePlane, Window, codes, cost_at, cost_row};
+use std::alloc::Global;
+use std::test::Fail;
+
+// Three equal rows each.
+const LEFT: [u16; 15] = [90, 10, 50, 20, 40, 90, 10, 50, 20, 40, 90, 10, 50, 20, 40];
+
+const RIGHT: [u16; 15] = [10, 50, 20, 40, 30, 10, 50, 20, 40, 30, 10, 50, 20, 40, 30];
+
+/// The codes of a plane with these entries, row by row.
+fn codes_of_entries(
+    alloc: Global,
+    sides: (u32, u32),
+    entries: Vec<Option<u16>>,
+    window: (u32, u32),
+) -> Result<CodePlane, Fail> {
+    let size = Size::make(sides.0, sides.1).ok_or("size")?;
+    let window = Window::make(window.0, window.1).ok_or("window")?;
+    let plane = Plane::make(size, entries).ok_or("entries")?;
+    Ok(codes(alloc, &plane, window)?)
+}
+
+/// The codes of a plane with these values, row by row, none of them void.
+fn codes_of(
+    alloc: Global,
+    sides: (u32, u32),
+    values: &[u16],
+    window: (u32, u32),
+) -> Result<CodePlane, Fail> {
+    let mut entries = Vec::new(alloc);
+    for value in values {
+        entries.push(Some(*value))?;
+    }
+    codes_of_entries(alloc, sides, entries, window)
+}
+
+/// Whether two planes have the same sides and the same window, and the row `y`.
+fn are_alike(one: &CodePlane, other: &CodePlane, y: u32) -> bool
+    ensures width { IsTrue result → one.now.width ≡ other.now.width }
+    ensures height { IsTrue result → one.now.height ≡ other.now.height }
+    ensures window { IsTrue result → one.now.window ≡ other.now.window }
+    ensures row { IsTrue result → y < one.now.height }
+{
+    one.size() == other.size() && one.window() == other.window() && y < one.size().height
+}
+
+/// Whether the row `y` of two planes has these costs, at most ten, with so many disparities from `first` on.
+fn have_costs(
+    left: &CodePlane,
+    right: &CodePlane,
+    (first, count): (i32, u32),
+    y: u32,
+    want: &[u8],
+) -> bool {
+    let Some(span) = Span::make(first, count) else {
+        return false;
+    };
+    let cells = left.size().width as usize * span.count as usize;
+    if !are_alike(left, right, y) || cells > 10 {
+        return false;
+    }
+    let mut room = [99; 10];
+    let costs = &mut room[..cells];
+    cost_row(left, right, span, y, costs);
+    &*costs == want
+}
+
+/// Whether the codes of two planes differ, pixel by pixel of the row `y`, in so many places, or in as many as a
+/// code has where one has none.
+fn differ_by(one: &CodePlane, other: &CodePlane, y: u32, want: &[u8]) -> bool {
+    have_costs(one, other, (0, 1), y, want)
+}
+
+#[test]
+fn windows_have_these_sides_alone(rt: HostRuntime) {
+    for width in 0..12 {
+        for height in 0..12 {
+            let allowed = [3, 5, 7, 9].contains(&width) && [3, 5, 7].contains(&height);
+            assert!(rt; Window::make(width, height).is_some() == allowed);
+        }
+    }
+}
+
+#[test]
+fn greatest_costs(rt: HostRuntime) -> Result<(), Fail> {
+    for (width, height, want) in [(3, 3, 8), (9, 7, 62), (9, 3, 26), (3, 7, 20)] {
+        let window = Window::make(width, height).ok_or("window")?;
+        assert!(rt; window.greatest() == want);
+    }
+    Ok(())
+}
+
+/// Whether the codes in the row 1 of two planes, with a window as large as they are, differ in so many places.
+fn planes_differ_by(
+    alloc: Global,
+    sides: (u32, u32),
+    values: &[u16],
+    others: &[u16],
+    want: &[u8],
+) -> Result<bool, Fail> {
+    let plane = codes_of(alloc, sides, values, sides)?;
+    let other = codes_of(alloc, sides, others, sides)?;
+    Ok(differ_by(&plane, &other, 1, want))
+}
+
+#[test]
+fn code_of_a_centre_and_eight_neighbours(rt: HostRuntime) -> Result<(), Fail> {
+    // The neighbours above and at the lower left are less than the centre.
+    let values = [5, 4, 6, 5, 5, 9, 1, 5, 5];
+    for (others, want) in [
+        ([7, 0, 7, 7, 7, 7, 0, 7, 7], 0),
+        ([7, 0, 7, 7, 7, 7, 7, 7, 7], 1),
+        ([7; 9], 2),
+        ([1, 5, 1, 1, 5, 1, 9, 1, 1], 8),
+    ] {
+        let want = [8, want, 8];
+        assert!(rt; planes_differ_by(rt.alloc(), (3, 3), &values, &others, &want)?);
+    }
+    Ok(())
+}
+
+/// The codes of both images of the pair.
+fn pair(alloc: Global) -> Result<(CodePlane, CodePlane), Fail> {
+    let left = codes_of(alloc, (5, 3), &LEFT, (3, 3))?;
+    Ok((left, codes_of(alloc, (5, 3), &RIGHT, (3, 3))?))
+}
+
+/// Whether the row `y` of the pair has these costs, with two disparities from `first` on.
+fn pair_has_costs(alloc: Global, first: i32, y: u32, want: &[u8; 10]) -> Result<bool, Fail> {
+    let (left, right) = pair(alloc)?;
+    Ok(have_costs(&left, &right, (first, 2), y, want))
+}
+
+#[test]
+fn costs_of_a_pair(rt: HostRuntime) -> Result<(), Fail> {
+    for (y, want) in [
+        (0, [8, 8, 8, 8, 8, 8, 8, 8, 8, 8]),
+        (1, [8, 8, 6, 8, 6, 0, 6, 0, 8, 8]),
+        (2, [8, 8, 8, 8, 8, 8, 8, 8, 8, 8]),
+    ] {
+        assert!(rt; pair_has_costs(rt.alloc(), 0, y, &want)?, "row {y}");
+    }
+    Ok(())
+}
+
+/// The cost of one place of the pair, with two disparities from `first` on; None where it is none.
+fn cost_of(
+    left: &CodePlane,
+    right: &CodePlane,
+    first: i32,
+    (x, y, d): (u32, u32, u32),
+) -> Option<u8> {
+    let span = Span::make(first, 2)?;
+    if are_alike(left, right, y) && x < left.size().width && d < span.count {
+        Some(cost_at(left, right, span, x, y, d))
+    } else {
+        None
+    }
+}
+
+#[test]
+fn costs_of_single_places(rt: HostRuntime) -> Result<(), Fail> {
+    let (left, right) = pair(rt.alloc())?;
+    for (first, place, want) in [
+        (0, (1, 1, 0), Some(6)),
+        (0, (1, 1, 1), Some(8)),
+        (0, (2, 1, 0), Some(6)),
+        (0, (2, 1, 1), Some(0)),
+        (0, (3, 1, 1), Some(0)),
+        (0, (2, 0, 1), Some(8)),
+        (1, (3, 1, 1), Some(6)),
+        (-1, (4, 1, 0), Some(8)),
+        (0, (5, 1, 0), None),
+    ] {
+        assert!(rt; cost_of(&left, &right, first, place) == want);
+    }
+    Ok(())
+}
+
+#[test]
+fn costs_of_negative_disparities(rt: HostRuntime) -> Result<(), Fail> {
+    // The same pair the other way round, with the disparities -1 and 0.
+    let (right, left) = pair(rt.alloc())?;
+    assert!(rt; have_costs(&left, &right, (-1, 2), 1, &[8, 8, 0, 6, 0, 6, 8, 6, 8, 8]));
+    Ok(())
+}
+
+#[test]
+fn columns_beyond_the_row_cost_the_most(rt: HostRuntime) -> Result<(), Fail> {
+    for first in [-1024, -6, -5, 4, 5, 1024] {
+        assert!(rt;
+            pair_has_costs(rt.alloc(), first, 1, &[8; 10])?,
+            "first {first}"
+        );
+    }
+    // Only x = 3 and q = 1 have codes and lie two columns apart: six neighbours of the latter are less.
+    assert!(rt; pair_has_costs(rt.alloc(), 2, 1, &[8, 8, 8, 8, 8, 8, 6, 8, 8, 8])?);
+    Ok(())
+}
+
+/// Whether the codes of a plane of equal values with these voids are there where the differences from
+/// themselves are 0.
+fn voids_give(alloc: Global, entries: &[Option<u16>; 15], want: &[u8; 5]) -> Result<bool, Fail> {
+    let plane = codes_of_entries(alloc, (5, 3), entries.to_vec(alloc)?, (3, 3))?;
+    Ok(differ_by(&plane, &plane, 1, want))
+}
+
+#[test]
+fn void_pixels_have_no_code(rt: HostRuntime) -> Result<(), Fail> {
+    let mut entries = [Some(7); 15];
+    assert!(rt; voids_give(rt.alloc(), &entries, &[8, 0, 0, 0, 8])?);
+    // In the window of (1, 1) alone.
+    entries[0] = None;
+    assert!(rt; voids_give(rt.alloc(), &entries, &[8, 8, 0, 0, 8])?);
+    // A void centre, in the windows of all three.
+    entries[0] = Some(7);
+    entries[7] = None;
+    assert!(rt; voids_give(rt.alloc(), &entries, &[8; 5])?);
+    Ok(())
+}
+
+#[test]
+fn a_window_larger_than_the_image(rt: HostRuntime) -> Result<(), Fail> {
+    for (window, most) in [((7, 3), 20), ((3, 5), 14), ((9, 7), 62)] {
+        let plane = codes_of(rt.alloc(), (5, 3), &[7; 15], window)?;
+        for y in 0..3 {
+            assert!(rt; differ_by(&plane, &plane, y, &[most; 5]));
+        }
+    }
+    Ok(())
+}
+
+#[test]
+fn a_window_wider_than_high(rt: HostRuntime) -> Result<(), Fail> {
+    // Only the middle pixel has a code of fourteen truth values, 10001 01 10 00100; its centre is 5.
+    let values = [1, 9, 9, 9, 1, 9, 1, 5, 1, 9, 5, 5, 1, 5, 5];
+    for (others, want) in [
+        ([0, 7, 7, 7, 0, 7, 0, 7, 0, 7, 7, 7, 0, 7, 7], 0),
+        ([7; 15], 5),
+        ([5, 1, 1, 1, 5, 1, 5, 3, 5, 1, 1, 1, 5, 1, 1], 14),
+    ] {
+        let want = [14, 14, want, 14, 14];
+        assert!(rt; planes_differ_by(rt.alloc(), (5, 3), &values, &others, &want)?);
+    }
+    Ok(())
+}

@@ -1,8 +1,0 @@
-//! The tests of `sgm_refine`, which call it from outside. They stand apart from it, since a crate that has
-//! tests is proved a second time with them.
-#![tactic(auto)]
-
-#[cfg(test)]
-mod filling;
-#[cfg(test)]
-mod tests;
