@@ -1,6 +1,6 @@
 //! What a trace prints, and how it ends else.
 
-use super::ended::{assert_ended, assert_held, end_on, shelf_of};
+use super::ended::{End, assert_end, shelf_of};
 use super::fixtures::{example, words_of};
 use sgm_app::run;
 use sgm_io::MemorySink;
@@ -11,18 +11,21 @@ use std::test::Fail;
 use std::thread::Threads;
 
 // That the run of a line over the worked example ends so, and writes no file.
-fn assert_traced<R: Abort + Threads + Sync>(
+fn assert_traced<'a, R: Abort + Threads + Sync>(
     rt: &R,
     alloc: Global,
     line: &str,
     status: u8,
-    out: &str,
-    err: &str,
+    out: &'a str,
+    err: &'a str,
 ) -> Result<(), Fail> {
-    let mut shelf = shelf_of(alloc, example(alloc)?)?;
-    let ended = end_on(rt, alloc, line, &mut shelf)?;
-    assert_ended(rt, &ended, status, out.as_bytes(), err.as_bytes(), line);
-    assert_held(rt, alloc, &mut shelf, [None; 3], line)
+    let end = End {
+        status,
+        out: out.as_bytes(),
+        err: err.as_bytes(),
+        outputs: [None; 3],
+    };
+    assert_end(rt, alloc, example(alloc)?, line, end)
 }
 
 // The row 1 of the pair has the costs (8,8), (6,8), (6,0), .. of the indices 0 and 1, and a change by one costs 1:

@@ -1,13 +1,11 @@
 //! What a change writes, and how it ends else.
 
-use super::ended::{assert_ended, assert_held, end_on, shelf_of};
+use super::ended::{End, assert_end, assert_end_on, assert_refused};
 use super::fixtures::{HEIGHTS, file};
 use super::trips::{Call, trips_of};
 use sgm_io::MemoryShelf;
 use std::alloc::{AllocError, Global};
-use std::process::Abort;
 use std::test::Fail;
-use std::thread::Threads;
 
 /// The heights of the worked example a month later: the first cell is 1 mm higher, the fourth has come and the fifth
 /// is gone.
@@ -34,31 +32,22 @@ fn grids(
     Ok(files)
 }
 
-// That the run of a line over these grids ends with this status and this line, and writes nothing.
-fn assert_refused<R: Abort + Threads + Sync>(
-    rt: &R,
-    alloc: Global,
-    earlier: &[u8],
-    later: &[u8],
-    line: &str,
-    status: u8,
-    err: &str,
-) -> Result<(), Fail> {
-    let mut shelf = shelf_of(alloc, grids(alloc, earlier, later)?)?;
-    let ended = end_on(rt, alloc, line, &mut shelf)?;
-    assert_ended(rt, &ended, status, b"", err.as_bytes(), line);
-    assert_held(rt, alloc, &mut shelf, [None; 3], line)
-}
-
 #[test]
 fn a_change_writes_the_difference_and_the_volumes(rt: HostRuntime) -> Result<(), Fail> {
     let alloc = rt.alloc();
-    let line = "change e.asc l.asc o";
-    let mut shelf = shelf_of(alloc, grids(alloc, HEIGHTS, LATER)?)?;
-    let ended = end_on(&rt, alloc, line, &mut shelf)?;
-    assert_ended(&rt, &ended, 0, b"compared 8 of 12\n", b"", line);
-    let outputs = [None, Some(DIFFERENCE), Some(VOLUMES)];
-    assert_held(&rt, alloc, &mut shelf, outputs, line)
+    let end = End {
+        status: 0,
+        out: b"compared 8 of 12\n",
+        err: b"",
+        outputs: [None, Some(DIFFERENCE), Some(VOLUMES)],
+    };
+    assert_end(
+        &rt,
+        alloc,
+        grids(alloc, HEIGHTS, LATER)?,
+        "change e.asc l.asc o",
+        end,
+    )
 }
 
 #[test]
@@ -66,25 +55,39 @@ fn grids_that_do_not_read_or_suit_are_refused(rt: HostRuntime) -> Result<(), Fai
     let alloc = rt.alloc();
     let line = "change e.asc l.asc o";
     let err = "sgm: earlier: word 0 is not as expected\n";
-    assert_refused(&rt, alloc, b"", b"", line, 3, err)?;
+    assert_refused(&rt, alloc, grids(alloc, b"", b"")?, line, 3, err)?;
 
     // Without the last value, of eleven bytes, and its line's end.
     let short = &HEIGHTS[..HEIGHTS.len() - 12];
     let err = "sgm: later: 11 heights, 12 needed\n";
-    assert_refused(&rt, alloc, HEIGHTS, short, line, 3, err)?;
+    assert_refused(&rt, alloc, grids(alloc, HEIGHTS, short)?, line, 3, err)?;
 
     // With cells of 2000.
     let err = "sgm: grids differ at word 9\n";
-    assert_refused(&rt, alloc, HEIGHTS, COARSE, line, 3, err)
+    assert_refused(&rt, alloc, grids(alloc, HEIGHTS, COARSE)?, line, 3, err)
 }
 
 #[test]
 fn words_and_absent_files_end_a_change(rt: HostRuntime) -> Result<(), Fail> {
     let alloc = rt.alloc();
     let err = "sgm: word 1 is also an output\n";
-    assert_refused(&rt, alloc, HEIGHTS, LATER, "change o.asc l.asc o", 2, err)?;
+    assert_refused(
+        &rt,
+        alloc,
+        grids(alloc, HEIGHTS, LATER)?,
+        "change o.asc l.asc o",
+        2,
+        err,
+    )?;
     let err = "sgm: cannot read later\n";
-    assert_refused(&rt, alloc, HEIGHTS, LATER, "change e.asc none o", 4, err)
+    assert_refused(
+        &rt,
+        alloc,
+        grids(alloc, HEIGHTS, LATER)?,
+        "change e.asc none o",
+        4,
+        err,
+    )
 }
 
 #[test]
@@ -92,9 +95,11 @@ fn volumes_that_cannot_be_written_leave_the_difference_whole(rt: HostRuntime) ->
     let alloc = rt.alloc();
     let trips = trips_of(alloc, &[("o.csv", Call::AppendAt(5))])?;
     let mut shelf = MemoryShelf::make(alloc, grids(alloc, HEIGHTS, LATER)?, trips)?;
-    let ended = end_on(&rt, alloc, "change e.asc l.asc o", &mut shelf)?;
-    let err = b"sgm: cannot write volumes\n";
-    assert_ended(&rt, &ended, 5, b"", err, "volumes");
-    let outputs = [None, Some(DIFFERENCE), Some(b"both,".as_slice())];
-    assert_held(&rt, alloc, &mut shelf, outputs, "volumes")
+    let end = End {
+        status: 5,
+        out: b"",
+        err: b"sgm: cannot write volumes\n",
+        outputs: [None, Some(DIFFERENCE), Some(b"both,".as_slice())],
+    };
+    assert_end_on(&rt, alloc, "change e.asc l.asc o", &mut shelf, end)
 }

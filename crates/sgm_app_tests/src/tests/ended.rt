@@ -41,18 +41,21 @@ pub fn shelf_of(alloc: Global, files: Vec<(String, Vec<u8>)>) -> Result<MemorySh
     MemoryShelf::make(alloc, files, trips)
 }
 
+/// How a run is to end: its status, what the two streams receive, and what o.pgm, o.asc and o.csv hold, where they are
+/// there.
+#[derive(Clone, Copy)]
+pub struct End<'a> {
+    pub status: u8,
+    pub out: &'a [u8],
+    pub err: &'a [u8],
+    pub outputs: [Option<&'a [u8]>; 3],
+}
+
 /// That the run ended with this status, and the sinks have received this.
-pub fn assert_ended(
-    rt: &impl Abort,
-    ended: &Ended,
-    status: u8,
-    out: &[u8],
-    err: &[u8],
-    case: &str,
-) {
-    assert!(rt; ended.err.taken() == err, "{case}");
-    assert!(rt; ended.out.taken() == out, "{case}");
-    assert!(rt; ended.status == status, "{case}");
+pub fn assert_ended(rt: &impl Abort, ended: &Ended, end: End, case: &str) {
+    assert!(rt; ended.err.taken() == end.err, "{case}");
+    assert!(rt; ended.out.taken() == end.out, "{case}");
+    assert!(rt; ended.status == end.status, "{case}");
 }
 
 /// What the shelf holds under the name.
@@ -87,4 +90,47 @@ pub fn assert_held<S: Shelf>(
         assert!(rt; found == wanted, "{case}: {name}");
     }
     Ok(())
+}
+
+/// That the run of a line over a shelf ends so.
+pub fn assert_end_on<R: Abort + Threads + Sync, S: Shelf>(
+    rt: &R,
+    alloc: Global,
+    line: &str,
+    shelf: &mut S,
+    end: End,
+) -> Result<(), Fail> {
+    let ended = end_on(rt, alloc, line, shelf)?;
+    assert_ended(rt, &ended, end, line);
+    assert_held(rt, alloc, shelf, end.outputs, line)
+}
+
+/// That the run of a line over these files ends so.
+pub fn assert_end<R: Abort + Threads + Sync>(
+    rt: &R,
+    alloc: Global,
+    files: Vec<(String, Vec<u8>)>,
+    line: &str,
+    end: End,
+) -> Result<(), Fail> {
+    let mut shelf = shelf_of(alloc, files)?;
+    assert_end_on(rt, alloc, line, &mut shelf, end)
+}
+
+/// That the run of a line over these files ends with this status and this line, and writes nothing.
+pub fn assert_refused<R: Abort + Threads + Sync>(
+    rt: &R,
+    alloc: Global,
+    files: Vec<(String, Vec<u8>)>,
+    line: &str,
+    status: u8,
+    err: &str,
+) -> Result<(), Fail> {
+    let end = End {
+        status,
+        out: b"",
+        err: err.as_bytes(),
+        outputs: [None; 3],
+    };
+    assert_end(rt, alloc, files, line, end)
 }

@@ -1,6 +1,6 @@
 //! What a match writes.
 
-use super::ended::{assert_ended, assert_held, end_on, shelf_of};
+use super::ended::{End, assert_end};
 use super::fixtures::{DISPARITIES, HEIGHTS, REPORT, SUMMARY, example, file, files_with};
 use sgm_app::{Refine, texts};
 use sgm_example::{CALIBRATION, CAMERA, END, GRID, LEFT, RIGHT, SETTINGS};
@@ -8,18 +8,25 @@ use sgm_work::OpenGate;
 use std::alloc::{AllocError, Global};
 use std::test::Fail;
 
+/// A run that is done, with these outputs.
+fn done(outputs: [Option<&[u8]>; 3]) -> End {
+    End {
+        status: 0,
+        out: SUMMARY,
+        err: b"",
+        outputs,
+    }
+}
+
 #[test]
 fn the_worked_example_is_written_whole(rt: HostRuntime) -> Result<(), Fail> {
     let alloc = rt.alloc();
-    let whole = [Some(DISPARITIES), Some(HEIGHTS), Some(REPORT)];
+    let end = done([Some(DISPARITIES), Some(HEIGHTS), Some(REPORT)]);
     for line in [
         "match l.pgm r.pgm c.json o strips=1",
         "match l.pgm r.pgm c.json o strips=3 workers=2",
     ] {
-        let mut shelf = shelf_of(alloc, example(alloc)?)?;
-        let ended = end_on(&rt, alloc, line, &mut shelf)?;
-        assert_ended(&rt, &ended, 0, SUMMARY, b"", line);
-        assert_held(&rt, alloc, &mut shelf, whole, line)?;
+        assert_end(&rt, alloc, example(alloc)?, line, end)?;
     }
     Ok(())
 }
@@ -59,12 +66,9 @@ fn the_texts_of_the_worked_example_are_those_that_are_written(rt: HostRuntime) -
 #[test]
 fn the_calibration_asks_for_the_files(rt: HostRuntime) -> Result<(), Fail> {
     let alloc = rt.alloc();
-    let line = "match l.pgm r.pgm c.json o";
-    let mut shelf = shelf_of(alloc, files_with(alloc, &[SETTINGS, END])?)?;
-    let ended = end_on(&rt, alloc, line, &mut shelf)?;
-    assert_ended(&rt, &ended, 0, SUMMARY, b"", "no grid");
-    let outputs = [Some(DISPARITIES), None, None];
-    assert_held(&rt, alloc, &mut shelf, outputs, "no grid")
+    let end = done([Some(DISPARITIES), None, None]);
+    let files = files_with(alloc, &[SETTINGS, END])?;
+    assert_end(&rt, alloc, files, "match l.pgm r.pgm c.json o", end)
 }
 
 // A calibration without regions, and a file under each name of an output.
@@ -79,27 +83,31 @@ fn files_that_stood(alloc: Global) -> Result<Vec<(String, Vec<u8>)>, AllocError>
 #[test]
 fn files_that_stood_are_replaced_where_they_are_asked_for(rt: HostRuntime) -> Result<(), Fail> {
     let alloc = rt.alloc();
-    let mut shelf = shelf_of(alloc, files_that_stood(alloc)?)?;
-    let ended = end_on(&rt, alloc, "match l.pgm r.pgm c.json o", &mut shelf)?;
-    assert_ended(&rt, &ended, 0, SUMMARY, b"", "no regions");
-    let outputs = [Some(DISPARITIES), Some(HEIGHTS), Some(LEFT)];
-    assert_held(&rt, alloc, &mut shelf, outputs, "no regions")
+    let end = done([Some(DISPARITIES), Some(HEIGHTS), Some(LEFT)]);
+    let files = files_that_stood(alloc)?;
+    assert_end(&rt, alloc, files, "match l.pgm r.pgm c.json o", end)
+}
+
+// A pair of two pixels.
+fn two_pixels(alloc: Global) -> Result<Vec<(String, Vec<u8>)>, AllocError> {
+    let mut files = Vec::new(alloc);
+    files.push(file(alloc, "two.pgm", b"P5\n2 1\n255\n\x00\xff")?)?;
+    Ok(files)
 }
 
 #[test]
 fn plain_settings_serve_a_pair_of_two_pixels(rt: HostRuntime) -> Result<(), Fail> {
     let alloc = rt.alloc();
-    let disparities = Some(b"P5\n2 1\n65535\n\x00\x10\x00\x10".as_slice());
+    let disparities = b"P5\n2 1\n65535\n\x00\x10\x00\x10".as_slice();
+    let end = End {
+        out: b"valid 2 of 2\n",
+        ..done([Some(disparities), None, None])
+    };
     for line in [
         "match two.pgm two.pgm - o",
         "match two.pgm two.pgm - o strips=64 workers=16",
     ] {
-        let mut files = Vec::new(alloc);
-        files.push(file(alloc, "two.pgm", b"P5\n2 1\n255\n\x00\xff")?)?;
-        let mut shelf = shelf_of(alloc, files)?;
-        let ended = end_on(&rt, alloc, line, &mut shelf)?;
-        assert_ended(&rt, &ended, 0, b"valid 2 of 2\n", b"", line);
-        assert_held(&rt, alloc, &mut shelf, [disparities, None, None], line)?;
+        assert_end(&rt, alloc, two_pixels(alloc)?, line, end)?;
     }
     Ok(())
 }

@@ -1,6 +1,6 @@
 //! The generated pair: a demo, and a whole run over a larger one.
 
-use super::ended::{assert_ended, assert_held, end_on, held, shelf_of};
+use super::ended::{End, assert_end, end_on, held, shelf_of};
 use super::fixtures::files_with;
 use sgm_app::pair;
 use sgm_base::{Image, Size};
@@ -13,12 +13,14 @@ use std::thread::Threads;
 #[test]
 fn a_demo_has_two_lines_and_no_file(rt: HostRuntime) -> Result<(), Fail> {
     let alloc = rt.alloc();
+    let end = End {
+        status: 0,
+        out: b"valid 45516 of 49152\nsum 11360085\n",
+        err: b"",
+        outputs: [None; 3],
+    };
     for line in ["demo 0", "demo 0 workers=3 strips=5"] {
-        let mut shelf = shelf_of(alloc, files_with(alloc, &[])?)?;
-        let ended = end_on(&rt, alloc, line, &mut shelf)?;
-        let lines = b"valid 45516 of 49152\nsum 11360085\n";
-        assert_ended(&rt, &ended, 0, lines, b"", line);
-        assert_held(&rt, alloc, &mut shelf, [None; 3], line)?;
+        assert_end(&rt, alloc, files_with(alloc, &[])?, line, end)?;
     }
     Ok(())
 }

@@ -1,27 +1,10 @@
 //! Inputs that are refused, and those that can't be read: one case of each.
 
-use super::ended::{assert_ended, assert_held, end_on, shelf_of};
+use super::ended::assert_refused;
 use super::fixtures::{example, file, files_with};
 use sgm_example::{END, GRID, SETTINGS};
 use std::alloc::{AllocError, Global};
-use std::process::Abort;
 use std::test::Fail;
-use std::thread::Threads;
-
-// That the run of a line over these files ends with this status and this line, and writes nothing.
-fn assert_refused<R: Abort + Threads + Sync>(
-    rt: &R,
-    alloc: Global,
-    files: Vec<(String, Vec<u8>)>,
-    line: &str,
-    status: u8,
-    err: &str,
-) -> Result<(), Fail> {
-    let mut shelf = shelf_of(alloc, files)?;
-    let ended = end_on(rt, alloc, line, &mut shelf)?;
-    assert_ended(rt, &ended, status, b"", err.as_bytes(), line);
-    assert_held(rt, alloc, &mut shelf, [None; 3], line)
-}
 
 // The worked example, and one file more.
 fn with_file(

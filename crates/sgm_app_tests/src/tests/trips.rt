@@ -1,6 +1,6 @@
 //! Devices that fail once.
 
-use super::ended::{assert_ended, assert_held, end_on};
+use super::ended::{End, assert_end_on};
 use super::fixtures::{DISPARITIES, example};
 use sgm_io::{MemoryShelf, Trip};
 use std::alloc::{AllocError, Global};
@@ -31,10 +31,12 @@ fn heights_that_stop_have_their_first_lines(rt: HostRuntime) -> Result<(), Fail>
     let alloc = rt.alloc();
     let trips = trips_of(alloc, &[("o.asc", Call::AppendAt(47))])?;
     let mut shelf = MemoryShelf::make(alloc, example(alloc)?, trips)?;
-    let ended = end_on(&rt, alloc, "match l.pgm r.pgm c.json o", &mut shelf)?;
-    let err = b"sgm: cannot write heights\n";
-    assert_ended(&rt, &ended, 5, b"", err, "heights");
     let lines = b"ncols 4\nnrows 3\nxllcorner 2000\nyllcorner -2000\n".as_slice();
-    let outputs = [Some(DISPARITIES), Some(lines), None];
-    assert_held(&rt, alloc, &mut shelf, outputs, "heights")
+    let end = End {
+        status: 5,
+        out: b"",
+        err: b"sgm: cannot write heights\n",
+        outputs: [Some(DISPARITIES), Some(lines), None],
+    };
+    assert_end_on(&rt, alloc, "match l.pgm r.pgm c.json o", &mut shelf, end)
 }
