@@ -1,7 +1,8 @@
 //! Lists and their first faults.
 
-use sgm_list::{ListError, ListFault, MAX_LIST_BYTES, fault_line, read_list};
+use sgm_list::{Entry, ListError, ListFault, MAX_LIST_BYTES, fault_line, read_list};
 use std::alloc::{AllocError, Global};
+use std::process::Abort;
 use std::test::Fail;
 
 /// The first fault of a list under the name `list`; None where it has none.
@@ -16,6 +17,18 @@ fn fault_of(alloc: Global, bytes: &[u8]) -> Result<Option<ListFault>, AllocError
     }
 }
 
+/// That the entry has these four words.
+fn assert_entry(rt: &impl Abort, entry: &Entry, words: [&str; 4]) {
+    let [left, right, calib, out] = words;
+    assert!(rt; entry.left.as_str() == left);
+    assert!(rt; entry.right.as_str() == right);
+    match &entry.calib {
+        Some(name) => assert!(rt; name.as_str() == calib),
+        None => assert!(rt; calib == "-"),
+    }
+    assert!(rt; entry.out.as_str() == out);
+}
+
 #[test]
 fn lines_with_four_words_are_entries(rt: HostRuntime) -> Result<(), Fail> {
     let text = "l.pgm r.pgm - o1\r\n\n \t\r\n\tl.pgm  r\u{e9}.pgm\tc.json  o\u{c}2";
@@ -23,64 +36,64 @@ fn lines_with_four_words_are_entries(rt: HostRuntime) -> Result<(), Fail> {
         .ok()
         .ok_or("a list")?;
     assert!(rt; entries.len() == 2);
-    assert!(rt; (entries[0].left.as_str(), entries[0].right.as_str()) == ("l.pgm", "r.pgm"));
-    assert!(rt; entries[0].calib.is_none());
-    assert!(rt; entries[0].out.as_str() == "o1");
-    assert!(rt; entries[1].right.as_str() == "r\u{e9}.pgm");
-    assert!(rt; entries[1].calib.as_ref().map(|calib| calib.as_str()) == Some("c.json"));
-    assert!(rt; entries[1].out.as_str() == "o\u{c}2");
+    assert_entry(&rt, &entries[0], ["l.pgm", "r.pgm", "-", "o1"]);
+    let second = ["l.pgm", "r\u{e9}.pgm", "c.json", "o\u{c}2"];
+    assert_entry(&rt, &entries[1], second);
     Ok(())
 }
 
+/// Lists and their first faults, or None.
+const FAULTS: [(&[u8], Option<ListFault>); 16] = [
+    (b"", None),
+    (b"a b - o", None),
+    (b"a b\xff - o", Some(ListFault::NotText)),
+    (b"a b -\n\xff", Some(ListFault::NotText)),
+    (b"\na b - o p\na\n", Some(ListFault::Line { number: 2 })),
+    (b"a b - o\na b -\n", Some(ListFault::Line { number: 2 })),
+    (b"o.pgm b - o\na b -\n", Some(ListFault::Line { number: 2 })),
+    (
+        b"l.pgm r.pgm c.json o\nl.pgm o.pgm - p\n",
+        Some(ListFault::Clash { entry: 1 }),
+    ),
+    (
+        b"l.pgm r.pgm c.json o\nl.pgm r.pgm p\n",
+        Some(ListFault::Line { number: 2 }),
+    ),
+    (
+        b"a b - o\nc d - p\ne f - o",
+        Some(ListFault::Clash { entry: 2 }),
+    ),
+    (
+        b"a b - o\n\nc d - o\ne f - o",
+        Some(ListFault::Clash { entry: 1 }),
+    ),
+    (
+        b"a p.csv - o\nc d - p\n",
+        Some(ListFault::Clash { entry: 0 }),
+    ),
+    (
+        b"a b p.asc o\nc d - p\n",
+        Some(ListFault::Clash { entry: 0 }),
+    ),
+    (
+        b"a b - o\no.pgm d - p\n",
+        Some(ListFault::Clash { entry: 1 }),
+    ),
+    (b"a b - o\nc o.txt - p\n", None),
+    (b"a b o o\na b .pgm p\n", None),
+];
+
 #[test]
 fn each_fault_is_the_first_that_stands(rt: HostRuntime) -> Result<(), Fail> {
-    for (bytes, fault) in [
-        (b"".as_slice(), None),
-        (b"a b - o", None),
-        (b"a b\xff - o", Some(ListFault::NotText)),
-        (b"a b -\n\xff", Some(ListFault::NotText)),
-        (b"\na b - o p\na\n", Some(ListFault::Line { number: 2 })),
-        (b"a b - o\na b -\n", Some(ListFault::Line { number: 2 })),
-        (b"o.pgm b - o\na b -\n", Some(ListFault::Line { number: 2 })),
-        (
-            b"l.pgm r.pgm c.json o\nl.pgm o.pgm - p\n",
-            Some(ListFault::Clash { entry: 1 }),
-        ),
-        (
-            b"l.pgm r.pgm c.json o\nl.pgm r.pgm p\n",
-            Some(ListFault::Line { number: 2 }),
-        ),
-        (
-            b"a b - o\nc d - p\ne f - o",
-            Some(ListFault::Clash { entry: 2 }),
-        ),
-        (
-            b"a b - o\n\nc d - o\ne f - o",
-            Some(ListFault::Clash { entry: 1 }),
-        ),
-        (
-            b"a p.csv - o\nc d - p\n",
-            Some(ListFault::Clash { entry: 0 }),
-        ),
-        (
-            b"a b p.asc o\nc d - p\n",
-            Some(ListFault::Clash { entry: 0 }),
-        ),
-        (
-            b"a b - o\no.pgm d - p\n",
-            Some(ListFault::Clash { entry: 1 }),
-        ),
-        (b"a b - o\nc o.txt - p\n", None),
-        (b"a b o o\na b .pgm p\n", None),
-    ] {
-        assert!(rt; fault_of(rt.alloc(), bytes)? == fault, "{bytes:?}");
+    for (bytes, fault) in &FAULTS {
+        assert!(rt; fault_of(rt.alloc(), bytes)? == *fault, "{bytes:?}");
     }
     Ok(())
 }
 
 #[test]
 fn no_output_is_the_list(rt: HostRuntime) -> Result<(), Fail> {
-    for (list, fault) in [
+    for (list, fault) in &[
         ("o.csv", Some(ListFault::Clash { entry: 1 })),
         ("o", None),
         ("a", None),
@@ -91,23 +104,29 @@ fn no_output_is_the_list(rt: HostRuntime) -> Result<(), Fail> {
     Ok(())
 }
 
-#[test]
-fn there_are_at_most_a_thousand_entries(rt: HostRuntime) -> Result<(), Fail> {
-    let mut text = String::new(rt.alloc());
-    for entry in 0..1000u32 {
+/// A list of so many entries.
+fn list_of(alloc: Global, entries: u32) -> Result<String, AllocError> {
+    let mut text = String::new(alloc);
+    for entry in 0..entries {
         write!(text, "l{entry}.pgm r{entry}.pgm - o{entry}\n")?;
     }
-    assert!(rt; fault_of(rt.alloc(), text.as_bytes())? == None);
-    text.push_str("a b - c\n")?;
-    assert!(rt;
-        fault_of(rt.alloc(), text.as_bytes())? == Some(ListFault::TooMany { entries: 1001 })
-    );
+    Ok(text)
+}
+
+#[test]
+fn there_are_at_most_a_thousand_entries(rt: HostRuntime) -> Result<(), Fail> {
+    let alloc = rt.alloc();
+    let most = list_of(alloc, 1000)?;
+    assert!(rt; fault_of(alloc, most.as_bytes())? == None);
+    let more = list_of(alloc, 1001)?;
+    let fault = Some(ListFault::TooMany { entries: 1001 });
+    assert!(rt; fault_of(alloc, more.as_bytes())? == fault);
     Ok(())
 }
 
 #[test]
 fn each_fault_has_its_line(rt: HostRuntime) {
-    for (fault, line) in [
+    for (fault, line) in &[
         (ListFault::TooLong, "sgm_series: list is too long\n"),
         (ListFault::NotText, "sgm_series: list is not text\n"),
         (
@@ -123,6 +142,6 @@ fn each_fault_has_its_line(rt: HostRuntime) {
             "sgm_series: entry 1 clashes\n",
         ),
     ] {
-        assert!(rt; fault_line(fault).as_bytes() == line.as_bytes(), "{line}");
+        assert!(rt; fault_line(*fault).as_bytes() == line.as_bytes(), "{line}");
     }
 }

@@ -19,7 +19,7 @@ fn words_of(alloc: Global, line: &str) -> Result<Vec<String>, AllocError> {
 fn each_fault_is_the_first_that_stands(rt: HostRuntime) -> Result<(), Fail> {
     let alloc = rt.alloc();
     assert!(rt; read_words(&[]) == Err(UsageFault::NoCommand));
-    for (line, fault) in [
+    for (line, fault) in &[
         ("stereo a b - o", UsageFault::UnknownCommand),
         ("match a b -", UsageFault::TooFew { have: 3, need: 4 }),
         ("demo", UsageFault::TooFew { have: 0, need: 1 }),
@@ -56,7 +56,7 @@ fn each_fault_is_the_first_that_stands(rt: HostRuntime) -> Result<(), Fail> {
             UsageFault::OutputIsInput { position: 2 },
         ),
     ] {
-        assert!(rt; read_words(&words_of(alloc, line)?) == Err(fault), "{line}");
+        assert!(rt; read_words(&words_of(alloc, line)?) == Err(*fault), "{line}");
     }
     Ok(())
 }
@@ -64,7 +64,7 @@ fn each_fault_is_the_first_that_stands(rt: HostRuntime) -> Result<(), Fail> {
 #[test]
 fn options_stand_in_any_order(rt: HostRuntime) -> Result<(), Fail> {
     let alloc = rt.alloc();
-    for (line, options) in [
+    for (line, options) in &[
         (
             "match a b - o fill=01 workers=16 peak=16777216 strips=064",
             Options::Match {
@@ -90,7 +90,7 @@ fn options_stand_in_any_order(rt: HostRuntime) -> Result<(), Fail> {
         ),
     ] {
         assert!(rt;
-            read_words(&words_of(alloc, line)?) == Ok(options),
+            read_words(&words_of(alloc, line)?) == Ok(*options),
             "{line}"
         );
     }
@@ -100,7 +100,7 @@ fn options_stand_in_any_order(rt: HostRuntime) -> Result<(), Fail> {
 #[test]
 fn trace_and_change_have_no_options(rt: HostRuntime) -> Result<(), Fail> {
     let alloc = rt.alloc();
-    for (line, options) in [
+    for (line, options) in &[
         (
             "trace a b - upleft 2 1 0",
             Options::Trace {
@@ -113,36 +113,54 @@ fn trace_and_change_have_no_options(rt: HostRuntime) -> Result<(), Fail> {
         ("change a b o", Options::Change),
     ] {
         assert!(rt;
-            read_words(&words_of(alloc, line)?) == Ok(options),
+            read_words(&words_of(alloc, line)?) == Ok(*options),
             "{line}"
         );
     }
     Ok(())
 }
 
+/// Whether these are the operands.
+fn are_operands(operands: &OperandWords<'_>, left: &str, right: &str, calib: &str, out: &str) -> bool {
+    operands.left() == left
+        && operands.right() == right
+        && operands.calib() == calib
+        && operands.out() == out
+        && !operands.is_plain()
+}
+
+fn are_of_match(words: &[String]) -> bool {
+    words.len() > 4 && are_operands(&OperandWords::of(words), "l", "r", "c", "o")
+}
+
+fn are_of_change(words: &[String]) -> bool {
+    if words.len() <= 3 {
+        return false;
+    }
+    let change = ChangeWords::of(words);
+    change.earlier() == "l" && change.later() == "r" && change.out() == "c"
+}
+
 #[test]
-fn operands_and_outputs_have_names(rt: HostRuntime) -> Result<(), Fail> {
-    let alloc = rt.alloc();
-    let words = words_of(alloc, "match l r c o")?;
-    assert!(rt; words.len() > 4);
-    let operands = OperandWords::of(&words);
-    assert!(rt; (operands.left(), operands.right(), operands.calib()) == ("l", "r", "c"));
-    assert!(rt; !operands.is_plain());
-    let change = ChangeWords::of(&words);
-    assert!(rt; (change.earlier(), change.later(), change.out()) == ("l", "r", "c"));
-    let name = Output::Heights.file_name(alloc, operands.out())?;
+fn operands_have_names(rt: HostRuntime) -> Result<(), Fail> {
+    let words = words_of(rt.alloc(), "match l r c o")?;
+    assert!(rt; are_of_match(&words));
+    assert!(rt; are_of_change(&words));
+    Ok(())
+}
+
+#[test]
+fn inputs_and_outputs_have_names(rt: HostRuntime) -> Result<(), Fail> {
+    let name = Output::Heights.file_name(rt.alloc(), "o")?;
     assert!(rt; name.as_str() == "o.asc");
-    assert!(rt; (Input::Right.word(), Output::Difference.word()) == ("right", "difference"));
+    assert!(rt; Input::Right.word() == "right");
+    assert!(rt; Output::Difference.word() == "difference");
     Ok(())
 }
 
 #[test]
 fn operands_by_name_have_each_name_in_its_place(rt: HostRuntime) -> Result<(), Fail> {
     let operands = OperandWords::named("west", "east", "survey", "mine");
-    assert!(rt; operands.left() == "west");
-    assert!(rt; operands.right() == "east");
-    assert!(rt; operands.calib() == "survey");
-    assert!(rt; operands.out() == "mine");
-    assert!(rt; !operands.is_plain());
+    assert!(rt; are_operands(&operands, "west", "east", "survey", "mine"));
     Ok(())
 }

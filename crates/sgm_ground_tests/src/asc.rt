@@ -46,20 +46,24 @@ fn a_height_is_missing(rt: HostRuntime) -> Result<(), Fail> {
     Ok(())
 }
 
-#[test]
-fn no_word(rt: HostRuntime) {
-    assert!(rt; fault_of(rt.alloc(), b"") == Some(AscFault::Word { at: 0 }));
-}
+/// Texts and their first faults.
+const FAULTS: [(&[u8], AscFault); 3] = [
+    (b"", AscFault::Word { at: 0 }),
+    // No columns.
+    (
+        b"ncols 0 nrows 1 xllcorner 0 yllcorner 0 cellsize 1 nodata_value -2147483648",
+        AscFault::Range { at: 1 },
+    ),
+    // A height too high.
+    (
+        b"ncols 1 nrows 1 xllcorner 0 yllcorner 0 cellsize 1 nodata_value -2147483648 2000000001",
+        AscFault::Height { index: 0 },
+    ),
+];
 
 #[test]
-fn no_columns(rt: HostRuntime) {
-    let text = b"ncols 0 nrows 1 xllcorner 0 yllcorner 0 cellsize 1 nodata_value -2147483648";
-    assert!(rt; fault_of(rt.alloc(), text) == Some(AscFault::Range { at: 1 }));
-}
-
-#[test]
-fn too_high(rt: HostRuntime) {
-    let text =
-        b"ncols 1 nrows 1 xllcorner 0 yllcorner 0 cellsize 1 nodata_value -2147483648 2000000001";
-    assert!(rt; fault_of(rt.alloc(), text) == Some(AscFault::Height { index: 0 }));
+fn texts_have_their_first_faults(rt: HostRuntime) {
+    for (text, fault) in &FAULTS {
+        assert!(rt; fault_of(rt.alloc(), text) == Some(*fault), "{text:?}");
+    }
 }

@@ -64,15 +64,30 @@ const CHANGED: Changed = Changed {
     cut: 0,
 };
 
+/// That the text of what changed between two grids, after a line that stood before it, ends so.
+fn assert_ends(
+    rt: &impl Abort,
+    alloc: Global,
+    earlier: &Grid,
+    later: &Grid,
+    end: &[u8],
+) -> Result<(), AllocError> {
+    let text = difference(rt, alloc, earlier, later, b"before\n")?;
+    assert!(rt; text.as_slice().ends_with(end));
+    Ok(())
+}
+
+/// The whole text of the worked example, after that line.
+const DIFFERENCE: &[u8] =
+    b"before\nncols 4\nnrows 3\nxllcorner 2000\nyllcorner -2000\ncellsize 1000\nNODATA_value -9999999999\n1000 0 0 -9999999999\n-9999999999 0 0 -9999999999\n0 0 0 -9999999999\n";
+
 #[test]
 fn worked_example(rt: HostRuntime) -> Result<(), Fail> {
-    let (earlier, later) = (example_grid(&rt, rt.alloc())?, later_grid(&rt, rt.alloc())?);
+    let earlier = example_grid(&rt, rt.alloc())?;
+    let later = later_grid(&rt, rt.alloc())?;
     assert!(rt; changed(&rt, &earlier, &later) == CHANGED);
     let text = difference(&rt, rt.alloc(), &earlier, &later, b"before\n")?;
-    assert!(rt;
-        text.as_slice()
-            == b"before\nncols 4\nnrows 3\nxllcorner 2000\nyllcorner -2000\ncellsize 1000\nNODATA_value -9999999999\n1000 0 0 -9999999999\n-9999999999 0 0 -9999999999\n0 0 0 -9999999999\n".as_slice()
-    );
+    assert!(rt; text.as_slice() == DIFFERENCE);
     Ok(())
 }
 
@@ -91,7 +106,8 @@ fn volumes_of_the_example(rt: HostRuntime) -> Result<(), Fail> {
 /// The same two grids the other way round.
 #[test]
 fn turned_round(rt: HostRuntime) -> Result<(), Fail> {
-    let (earlier, later) = (later_grid(&rt, rt.alloc())?, example_grid(&rt, rt.alloc())?);
+    let earlier = later_grid(&rt, rt.alloc())?;
+    let later = example_grid(&rt, rt.alloc())?;
     let want = Changed {
         both: 8,
         come: 1,
@@ -101,12 +117,8 @@ fn turned_round(rt: HostRuntime) -> Result<(), Fail> {
         cut: 1_000_000_000,
     };
     assert!(rt; changed(&rt, &earlier, &later) == want);
-    let text = difference(&rt, rt.alloc(), &earlier, &later, b"")?;
-    assert!(rt;
-        text.as_slice().ends_with(
-            b"\n-1000 0 0 -9999999999\n-9999999999 0 0 -9999999999\n0 0 0 -9999999999\n"
-        )
-    );
+    let end = b"\n-1000 0 0 -9999999999\n-9999999999 0 0 -9999999999\n0 0 0 -9999999999\n";
+    assert_ends(&rt, rt.alloc(), &earlier, &later, end)?;
     Ok(())
 }
 
@@ -128,9 +140,16 @@ fn greatest_changes(rt: HostRuntime) -> Result<(), Fail> {
     let earlier = column(&rt, rt.alloc(), 2_000_000_000, -2_000_000_000)?;
     let later = column(&rt, rt.alloc(), -2_000_000_000, 2_000_000_000)?;
     let whole: u128 = 4_000_000_000_000_000_000_000_000_000;
-    let changed = changed(&rt, &earlier, &later);
-    assert!(rt; (changed.both, changed.fill, changed.cut) == (2, whole, whole));
-    let text = difference(&rt, rt.alloc(), &earlier, &later, b"")?;
-    assert!(rt; text.as_slice().ends_with(b"\n-4000000000\n4000000000\n"));
+    let want = Changed {
+        both: 2,
+        come: 0,
+        gone: 0,
+        empty: 0,
+        fill: whole,
+        cut: whole,
+    };
+    assert!(rt; changed(&rt, &earlier, &later) == want);
+    let end = b"\n-4000000000\n4000000000\n";
+    assert_ends(&rt, rt.alloc(), &earlier, &later, end)?;
     Ok(())
 }

@@ -112,21 +112,21 @@ fn a_new_grid_is_empty(rt: HostRuntime) -> Result<(), Fail> {
 /// grid is outside.
 #[test]
 fn sides_of_cells(rt: HostRuntime) -> Result<(), Fail> {
-    let points = [
+    let points = &[
         (100, -20, 1),
         (110, -20, 2),
         (129, -11, 3),
         (100, -10, 4),
         (119, -1, 5),
     ];
-    let grid = grid_with(&rt, rt.alloc(), SMALL, &points)?;
+    let grid = grid_with(&rt, rt.alloc(), SMALL, points)?;
     assert!(rt; is_small_with(&grid, (Some(4), Some(5), None), (Some(1), Some(2), Some(3))));
     Ok(())
 }
 
 #[test]
 fn points_outside_change_nothing(rt: HostRuntime) -> Result<(), Fail> {
-    let points = [
+    let points = &[
         (99, -15, 1),
         (130, -15, 1),
         (115, -21, 1),
@@ -134,7 +134,7 @@ fn points_outside_change_nothing(rt: HostRuntime) -> Result<(), Fail> {
         (-FARTHEST, -15, 1),
         (FARTHEST, FARTHEST, 1),
     ];
-    let grid = grid_with(&rt, rt.alloc(), SMALL, &points)?;
+    let grid = grid_with(&rt, rt.alloc(), SMALL, points)?;
     assert!(rt; is_small_with(&grid, (None, None, None), (None, None, None)));
     Ok(())
 }
@@ -142,7 +142,7 @@ fn points_outside_change_nothing(rt: HostRuntime) -> Result<(), Fail> {
 /// Two points in one cell, in each order, and heights of both signs.
 #[test]
 fn cells_keep_the_highest(rt: HostRuntime) -> Result<(), Fail> {
-    let points = [
+    let points = &[
         (101, -19, 7),
         (102, -18, 5),
         (111, -19, 5),
@@ -151,7 +151,7 @@ fn cells_keep_the_highest(rt: HostRuntime) -> Result<(), Fail> {
         (122, -19, -1_999_999_999),
         (101, -9, 2_000_000_000),
     ];
-    let grid = grid_with(&rt, rt.alloc(), SMALL, &points)?;
+    let grid = grid_with(&rt, rt.alloc(), SMALL, points)?;
     let north = (Some(2_000_000_000), None, None);
     assert!(rt; is_small_with(&grid, north, (Some(7), Some(7), Some(-1_999_999_999))));
     Ok(())
@@ -179,11 +179,11 @@ fn text_of_a_column(rt: HostRuntime) -> Result<(), Fail> {
         cols: 1,
         rows: 3,
     };
-    let points = [
+    let points = &[
         (-2_000_000_000, 2_000_000_000, -7),
         (-1_000_000_001, 4_999_999_999, 0),
     ];
-    let grid = grid_with(&rt, rt.alloc(), spec, &points)?;
+    let grid = grid_with(&rt, rt.alloc(), spec, points)?;
     let text = text_of(rt.alloc(), &grid, b"")?;
     assert!(rt;
         text.as_slice()

@@ -7,6 +7,7 @@ use sgm_io::{
 };
 use std::alloc::{AllocError, Global};
 use std::io::{ErrorKind, Read, Write};
+use std::process::Abort;
 use std::test::Fail;
 use std::{env, fs, io, process};
 
@@ -53,33 +54,39 @@ fn keep<S: Shelf>(shelf: &mut S, name: &str, bytes: &[u8]) -> Result<(), KeepErr
     Ok(())
 }
 
+const FETCHES: [(&str, usize, Result<&[u8], FetchError>); 3] = [
+    ("a", 3, Ok(b"abc")),
+    ("a", 2, Err(FetchError::TooLong)),
+    ("b", 3, Err(FetchError::Failed)),
+];
+
 #[test]
 fn a_fetch_gives_what_is_held(rt: HostRuntime) -> Result<(), Fail> {
     let alloc = rt.alloc();
     let mut shelf = shelf_with(alloc, Vec::new(alloc))?;
-    for (name, most, want) in [
-        ("a", 3, Ok(b"abc".as_slice())),
-        ("a", 2, Err(FetchError::TooLong)),
-        ("b", 3, Err(FetchError::Failed)),
-    ] {
+    for (name, most, want) in &FETCHES {
         assert!(rt;
-            gives(alloc, &mut shelf, name, most, want),
+            gives(alloc, &mut shelf, name, *most, *want),
             "{most} bytes of {name}"
         );
     }
     Ok(())
 }
 
+fn assert_pieces(rt: &impl Abort, shelf: &mut MemoryShelf) {
+    assert!(rt; shelf.create("b") == Ok(()));
+    assert!(rt; shelf.is_writing());
+    assert!(rt; shelf.append(b"12") == Ok(2));
+    assert!(rt; append_whole(shelf, b"345") == Ok(()));
+    assert!(rt; shelf.finish() == Ok(()));
+    assert!(rt; !shelf.is_writing());
+}
+
 #[test]
 fn a_file_is_written_in_pieces(rt: HostRuntime) -> Result<(), Fail> {
     let alloc = rt.alloc();
     let mut shelf = shelf_with(alloc, Vec::new(alloc))?;
-    assert!(rt; shelf.create("b") == Ok(()));
-    assert!(rt; shelf.is_writing());
-    assert!(rt; shelf.append(b"12") == Ok(2));
-    assert!(rt; append_whole(&mut shelf, b"345") == Ok(()));
-    assert!(rt; shelf.finish() == Ok(()));
-    assert!(rt; !shelf.is_writing());
+    assert_pieces(&rt, &mut shelf);
     assert!(rt; gives(alloc, &mut shelf, "b", 100, Ok(b"12345")));
     assert!(rt; gives(alloc, &mut shelf, "a", 100, Ok(b"abc")));
     Ok(())
@@ -109,16 +116,20 @@ fn three_trips(alloc: Global) -> Result<Vec<Trip>, AllocError> {
     Ok(trips)
 }
 
+fn assert_trips(rt: &impl Abort, alloc: Global, shelf: &mut MemoryShelf) {
+    assert!(rt; gives(alloc, shelf, "a", 3, Err(FetchError::Failed)));
+    assert!(rt; gives(alloc, shelf, "a", 100, Ok(b"abc")));
+    assert!(rt; keep(shelf, "b", b"12") == Err(KeepError::Failed));
+    assert!(rt; keep(shelf, "b", b"12") == Err(KeepError::Failed));
+    assert!(rt; !shelf.is_writing());
+    assert!(rt; keep(shelf, "b", b"12") == Ok(()));
+}
+
 #[test]
 fn each_trip_fails_one_call(rt: HostRuntime) -> Result<(), Fail> {
     let alloc = rt.alloc();
     let mut shelf = shelf_with(alloc, three_trips(alloc)?)?;
-    assert!(rt; gives(alloc, &mut shelf, "a", 3, Err(FetchError::Failed)));
-    assert!(rt; gives(alloc, &mut shelf, "a", 100, Ok(b"abc")));
-    assert!(rt; keep(&mut shelf, "b", b"12") == Err(KeepError::Failed));
-    assert!(rt; keep(&mut shelf, "b", b"12") == Err(KeepError::Failed));
-    assert!(rt; !shelf.is_writing());
-    assert!(rt; keep(&mut shelf, "b", b"12") == Ok(()));
+    assert_trips(&rt, alloc, &mut shelf);
     Ok(())
 }
 
@@ -130,45 +141,52 @@ fn append_trip(alloc: Global, length: usize) -> Result<Vec<Trip>, AllocError> {
     Ok(trips)
 }
 
+fn assert_append_stops(rt: &impl Abort, alloc: Global, shelf: &mut MemoryShelf) {
+    assert!(rt; keep(shelf, "b", b"123456789") == Err(KeepError::Failed));
+    assert!(rt; gives(alloc, shelf, "b", 100, Ok(b"1234")));
+    assert!(rt; shelf.is_writing());
+    assert!(rt; shelf.append(b"56789") == Ok(5));
+    assert!(rt; gives(alloc, shelf, "b", 100, Ok(b"123456789")));
+}
+
 #[test]
 fn an_append_stops_at_its_trip(rt: HostRuntime) -> Result<(), Fail> {
     let alloc = rt.alloc();
     let mut shelf = shelf_with(alloc, append_trip(alloc, 4)?)?;
-    assert!(rt; keep(&mut shelf, "b", b"123456789") == Err(KeepError::Failed));
-    assert!(rt; gives(alloc, &mut shelf, "b", 100, Ok(b"1234")));
-    assert!(rt; shelf.is_writing());
-    assert!(rt; shelf.append(b"56789") == Ok(5));
-    assert!(rt; gives(alloc, &mut shelf, "b", 100, Ok(b"123456789")));
+    assert_append_stops(&rt, alloc, &mut shelf);
     Ok(())
+}
+
+fn assert_sure(rt: &impl Abort, alloc: Global, shelf: &mut SureShelf) {
+    assert!(rt; gives(alloc, shelf, "a", 100, Ok(b"abc")));
+    assert!(rt; gives(alloc, shelf, "b", 100, Ok(b"")));
+    assert!(rt; keep(shelf, "b", b"12") == Ok(()));
+    assert!(rt; !shelf.is_writing());
+    assert!(rt; gives(alloc, shelf, "b", 100, Ok(b"12")));
 }
 
 #[test]
 fn a_sure_shelf_holds_every_name(rt: HostRuntime) -> Result<(), Fail> {
     let alloc = rt.alloc();
     let mut shelf = SureShelf::make(alloc, one_file(alloc)?)?;
-    assert!(rt; gives(alloc, &mut shelf, "a", 100, Ok(b"abc")));
-    assert!(rt; gives(alloc, &mut shelf, "b", 100, Ok(b"")));
-    assert!(rt; keep(&mut shelf, "b", b"12") == Ok(()));
-    assert!(rt; !shelf.is_writing());
-    assert!(rt; gives(alloc, &mut shelf, "b", 100, Ok(b"12")));
+    assert_sure(&rt, alloc, &mut shelf);
     Ok(())
+}
+
+fn assert_sink_stops(rt: &impl Abort, sink: &mut MemorySink) {
+    assert!(rt; write_whole(sink, b"valid 15 of 15\n") == Err(SinkError::Failed));
+    assert!(rt; sink.taken() == b"valid ".as_slice());
+    assert!(rt; sink.write(b"") == Ok(0));
+    assert!(rt; sink.write(b"15 of 15\n") == Ok(2));
+    assert!(rt; sink.write(b" ") == Err(SinkError::Failed));
+    assert!(rt; sink.write(b" ") == Err(SinkError::Failed));
+    assert!(rt; sink.taken() == b"valid 15".as_slice());
 }
 
 #[test]
 fn a_sink_fails_at_its_trip_and_where_it_is_full(rt: HostRuntime) -> Result<(), Fail> {
-    let alloc = rt.alloc();
-    let mut sink = MemorySink::make(alloc, 8, Some(6))?;
-    assert!(rt; write_whole(&mut sink, b"valid 15 of 15\n") == Err(SinkError::Failed));
-    assert!(rt; sink.taken() == b"valid ".as_slice());
-    for (piece, want) in [
-        (b"".as_slice(), Ok(0)),
-        (b"15 of 15\n", Ok(2)),
-        (b" ", Err(SinkError::Failed)),
-        (b" ", Err(SinkError::Failed)),
-    ] {
-        assert!(rt; sink.write(piece) == want);
-    }
-    assert!(rt; sink.taken() == b"valid 15".as_slice());
+    let mut sink = MemorySink::make(rt.alloc(), 8, Some(6))?;
+    assert_sink_stops(&rt, &mut sink);
     Ok(())
 }
 
@@ -211,13 +229,18 @@ fn is_read_whole<S: Shelf>(alloc: Global, shelf: &mut S, name: &str, bytes: &[u8
         && gives(alloc, shelf, name, less, Err(FetchError::TooLong))
 }
 
+// Whether a real file of so many bytes is read so.
+fn reads_whole(rt: &HostRuntime, name: &str, length: usize) -> Result<bool, Fail> {
+    let bytes = written(rt, name, length)?;
+    let mut shelf = DiskShelf::make(rt, rt.alloc());
+    Ok(is_read_whole(rt.alloc(), &mut shelf, name, &bytes))
+}
+
 #[test]
 fn a_real_file_is_read_whole_at_every_length(rt: HostRuntime) -> Result<(), Fail> {
     let name = scratch(&rt)?;
-    let mut shelf = DiskShelf::make(&rt, rt.alloc());
-    for length in [1, 65535, 65536, 65537, 131072, 131073] {
-        let bytes = written(&rt, name.as_str(), length)?;
-        let is_whole = is_read_whole(rt.alloc(), &mut shelf, name.as_str(), &bytes);
+    for length in &[1, 65535, 65536, 65537, 131072, 131073] {
+        let is_whole = reads_whole(&rt, name.as_str(), *length)?;
         assert!(rt; is_whole, "{length} bytes");
     }
     fs::remove_file(&rt, name.as_str())?;
@@ -235,13 +258,17 @@ fn is_kept<S: Shelf>(
     Ok(is_done && fs::read(rt, name)?.as_slice() == bytes)
 }
 
+// Whether a shorter file under the name of a longer one is kept.
+fn is_begun_anew(rt: &HostRuntime, name: &str) -> Result<bool, Fail> {
+    let long = unlike(rt.alloc(), 70000)?;
+    let mut shelf = DiskShelf::make(rt, rt.alloc());
+    Ok(is_kept(rt, &mut shelf, name, &long)? && is_kept(rt, &mut shelf, name, b"short")?)
+}
+
 #[test]
 fn a_real_file_is_begun_anew(rt: HostRuntime) -> Result<(), Fail> {
     let name = scratch(&rt)?;
-    let mut shelf = DiskShelf::make(&rt, rt.alloc());
-    let long = unlike(rt.alloc(), 70000)?;
-    assert!(rt; is_kept(&rt, &mut shelf, name.as_str(), &long)?);
-    assert!(rt; is_kept(&rt, &mut shelf, name.as_str(), b"short")?);
+    assert!(rt; is_begun_anew(&rt, name.as_str())?);
     fs::remove_file(&rt, name.as_str())?;
     Ok(())
 }

@@ -1,7 +1,6 @@
 use sgm_base::Size;
 use sgm_pgm::{PgmError, PgmFault, read, write16};
 use std::alloc::{AllocError, Global};
-use std::process::Abort;
 use std::test::Fail;
 
 fn fault_of(alloc: Global, text: &[u8]) -> Option<PgmFault> {
@@ -10,6 +9,45 @@ fn fault_of(alloc: Global, text: &[u8]) -> Option<PgmFault> {
         _ => None,
     }
 }
+
+/// A text, and the width, the height, the greatest value and the samples that are read from it.
+type Read<'a> = (&'a [u8], (u32, u32), u16, &'a [u16]);
+
+const READ: [Read<'static>; 10] = [
+    (b"P5\n2 1\n255\n\x00\xff", (2, 1), 255, &[0, 255]),
+    (
+        b"P5\n# Created by GIMP\n2 1\n65535\n\x00\x01\xff\xff",
+        (2, 1),
+        65535,
+        &[1, 65535],
+    ),
+    // A rest.
+    (b"P5 1 1 255\n\x07P5", (1, 1), 255, &[7]),
+    // One white byte alone.
+    (b"P5 1 1 255\n\n", (1, 1), 255, &[10]),
+    // Leading zeros.
+    (b"P5 002 01 0255 \x01\x02", (2, 1), 255, &[1, 2]),
+    // The least maxval.
+    (b"P5 1 2 1\n\x01\x00", (1, 2), 1, &[1, 0]),
+    // Two bytes.
+    (b"P5 1 1 256\n\x01\x00", (1, 1), 256, &[256]),
+    // White bytes.
+    (
+        b"P5 \t\n\x0b\x0c\r2\x0b1\x0c9\x0c\x01\x02",
+        (2, 1),
+        9,
+        &[1, 2],
+    ),
+    // Comments for white bytes.
+    (b"P5#a\n2#b\n1#c\n9\n\x01\x02", (2, 1), 9, &[1, 2]),
+    // Comments ended by CR.
+    (
+        b"P5 # 7 # 8\r2\n#\r#\n 1 9 \x01\x02",
+        (2, 1),
+        9,
+        &[1, 2],
+    ),
+];
 
 fn is_read(alloc: Global, text: &[u8], sides: (u32, u32), maxval: u16, samples: &[u16]) -> bool {
     match read(alloc, text) {
@@ -25,140 +63,72 @@ fn is_read(alloc: Global, text: &[u8], sides: (u32, u32), maxval: u16, samples: 
 
 #[test]
 fn texts_are_read(rt: HostRuntime) {
-    let alloc = rt.alloc();
-    assert!(rt; is_read(alloc, b"P5\n2 1\n255\n\x00\xff", (2, 1), 255, &[0, 255]));
-    let gimp = b"P5\n# Created by GIMP\n2 1\n65535\n\x00\x01\xff\xff";
-    assert!(rt; is_read(alloc, gimp, (2, 1), 65535, &[1, 65535]));
-    assert!(rt;
-        is_read(alloc, b"P5 1 1 255\n\x07P5", (1, 1), 255, &[7]),
-        "a rest"
-    );
-    assert!(rt;
-        is_read(alloc, b"P5 1 1 255\n\n", (1, 1), 255, &[10]),
-        "one white byte alone"
-    );
-    assert!(rt;
-        is_read(alloc, b"P5 002 01 0255 \x01\x02", (2, 1), 255, &[1, 2]),
-        "leading zeros"
-    );
-    assert!(rt;
-        is_read(alloc, b"P5 1 2 1\n\x01\x00", (1, 2), 1, &[1, 0]),
-        "least maxval"
-    );
-    assert!(rt;
-        is_read(alloc, b"P5 1 1 256\n\x01\x00", (1, 1), 256, &[256]),
-        "two bytes"
-    );
-}
-
-#[test]
-fn gaps_are_passed(rt: HostRuntime) {
-    let alloc = rt.alloc();
-    let white = b"P5 \t\n\x0b\x0c\r2\x0b1\x0c9\x0c\x01\x02";
-    assert!(rt; is_read(alloc, white, (2, 1), 9, &[1, 2]), "white bytes");
-    let comments = b"P5#a\n2#b\n1#c\n9\n\x01\x02";
-    assert!(rt;
-        is_read(alloc, comments, (2, 1), 9, &[1, 2]),
-        "comments for white bytes"
-    );
-    let by_return = b"P5 # 7 # 8\r2\n#\r#\n 1 9 \x01\x02";
-    assert!(rt;
-        is_read(alloc, by_return, (2, 1), 9, &[1, 2]),
-        "comments ended by CR"
-    );
-}
-
-// That reading each text gives its fault.
-fn assert_faults(rt: &impl Abort, alloc: Global, table: &[(&[u8], PgmFault)]) {
-    for (text, fault) in table {
-        assert!(rt; fault_of(alloc, text) == Some(*fault), "in {text:?}");
+    for (text, sides, maxval, samples) in &READ {
+        let as_written = is_read(rt.alloc(), text, *sides, *maxval, samples);
+        assert!(rt; as_written, "{text:?}");
     }
 }
 
-#[test]
-fn no_pgm(rt: HostRuntime) {
-    let table = [
-        (b"".as_slice(), PgmFault::NotPgm),
-        (b"P", PgmFault::NotPgm),
-        (b"P6 1 1 255\n\x01", PgmFault::NotPgm),
-        (b"P2\n1 1\n255\n7", PgmFault::NotPgm),
-        (b"p5 1 1 255\n\x01", PgmFault::NotPgm),
-    ];
-    assert_faults(&rt, rt.alloc(), &table);
-}
+const FAULTS: [(&[u8], PgmFault); 35] = [
+    // No PGM.
+    (b"", PgmFault::NotPgm),
+    (b"P", PgmFault::NotPgm),
+    (b"P6 1 1 255\n\x01", PgmFault::NotPgm),
+    (b"P2\n1 1\n255\n7", PgmFault::NotPgm),
+    (b"p5 1 1 255\n\x01", PgmFault::NotPgm),
+    // The header.
+    (b"P5", PgmFault::HeaderShort),
+    (b"P5\n2 1", PgmFault::HeaderShort),
+    (b"P5 1 1 255", PgmFault::HeaderShort),
+    (b"P5 # no end 1 1 255 ", PgmFault::HeaderShort),
+    (b"P5 1 1 #", PgmFault::HeaderShort),
+    (b"P5\n2 x1\n", PgmFault::HeaderByte { at: 5 }),
+    (b"P5 1 1 255#", PgmFault::HeaderByte { at: 10 }),
+    (b"P5 1 1 255\x00", PgmFault::HeaderByte { at: 10 }),
+    (b"P51 1 255\n", PgmFault::HeaderByte { at: 2 }),
+    (b"P5 x", PgmFault::HeaderByte { at: 3 }),
+    (b"P5 1-1", PgmFault::HeaderByte { at: 4 }),
+    (b"P5 1 1 +", PgmFault::HeaderByte { at: 7 }),
+    (b"P5 0 99999 x", PgmFault::HeaderByte { at: 11 }),
+    // Its numbers.
+    (b"P5 4097 1 255\n", PgmFault::SizeRange),
+    (b"P5 1 4097 255\n", PgmFault::SizeRange),
+    (b"P5 1 0 255\n", PgmFault::SizeRange),
+    (b"P5 0 1 0\n", PgmFault::SizeRange),
+    (
+        b"P5 9999999999999999999999999999999999999999 1 255\n",
+        PgmFault::SizeRange,
+    ),
+    (b"P5 4294967297 1 255\n\x01", PgmFault::SizeRange),
+    (b"P5 1 1 65536\n\x00", PgmFault::MaxvalRange),
+    (b"P5 1 1 0\n", PgmFault::MaxvalRange),
+    (b"P5 1 1 65537\n\x00\x01", PgmFault::MaxvalRange),
+    // The raster.
+    (b"P5 2 2 255\n\x01\x02\x03", PgmFault::RasterShort { have: 3, need: 4 }),
+    (b"P5 2 1 256\n\x00\x01\x00", PgmFault::RasterShort { have: 3, need: 4 }),
+    (b"P5 4096 4096 65535\n", PgmFault::RasterShort { have: 0, need: 33_554_432 }),
+    (b"P5 2 1 1\n\x09", PgmFault::RasterShort { have: 1, need: 2 }),
+    // Its samples.
+    (
+        b"P5 2 1 15\n\x0f\x10",
+        PgmFault::SampleAbove { index: 1 },
+    ),
+    (
+        b"P5 3 1 9\n\x01\x0a\x0b",
+        PgmFault::SampleAbove { index: 1 },
+    ),
+    (b"P5 1 1 256\n\x01\x01", PgmFault::SampleAbove { index: 0 }),
+    (
+        b"P5 2 1 300\n\x01\x2c\x01\x2d",
+        PgmFault::SampleAbove { index: 1 },
+    ),
+];
 
 #[test]
-fn faults_of_the_header(rt: HostRuntime) {
-    let table = [
-        (b"P5".as_slice(), PgmFault::HeaderShort),
-        (b"P5\n2 1", PgmFault::HeaderShort),
-        (b"P5 1 1 255", PgmFault::HeaderShort),
-        (b"P5 # no end 1 1 255 ", PgmFault::HeaderShort),
-        (b"P5 1 1 #", PgmFault::HeaderShort),
-        (b"P5\n2 x1\n", PgmFault::HeaderByte { at: 5 }),
-        (b"P5 1 1 255#", PgmFault::HeaderByte { at: 10 }),
-        (b"P5 1 1 255\x00", PgmFault::HeaderByte { at: 10 }),
-        (b"P51 1 255\n", PgmFault::HeaderByte { at: 2 }),
-        (b"P5 x", PgmFault::HeaderByte { at: 3 }),
-        (b"P5 1-1", PgmFault::HeaderByte { at: 4 }),
-        (b"P5 1 1 +", PgmFault::HeaderByte { at: 7 }),
-        (b"P5 0 99999 x", PgmFault::HeaderByte { at: 11 }),
-    ];
-    assert_faults(&rt, rt.alloc(), &table);
-}
-
-#[test]
-fn faults_of_the_numbers(rt: HostRuntime) {
-    let table = [
-        (b"P5 4097 1 255\n".as_slice(), PgmFault::SizeRange),
-        (b"P5 1 4097 255\n", PgmFault::SizeRange),
-        (b"P5 1 0 255\n", PgmFault::SizeRange),
-        (b"P5 0 1 0\n", PgmFault::SizeRange),
-        (
-            b"P5 9999999999999999999999999999999999999999 1 255\n",
-            PgmFault::SizeRange,
-        ),
-        (b"P5 4294967297 1 255\n\x01", PgmFault::SizeRange),
-        (b"P5 1 1 65536\n\x00", PgmFault::MaxvalRange),
-        (b"P5 1 1 0\n", PgmFault::MaxvalRange),
-        (b"P5 1 1 65537\n\x00\x01", PgmFault::MaxvalRange),
-    ];
-    assert_faults(&rt, rt.alloc(), &table);
-}
-
-fn short(have: usize, need: usize) -> PgmFault {
-    PgmFault::RasterShort { have, need }
-}
-
-#[test]
-fn faults_of_the_raster(rt: HostRuntime) {
-    let table = [
-        (b"P5 2 2 255\n\x01\x02\x03".as_slice(), short(3, 4)),
-        (b"P5 2 1 256\n\x00\x01\x00", short(3, 4)),
-        (b"P5 4096 4096 65535\n", short(0, 33_554_432)),
-        (b"P5 2 1 1\n\x09", short(1, 2)),
-    ];
-    assert_faults(&rt, rt.alloc(), &table);
-}
-
-#[test]
-fn faults_of_the_samples(rt: HostRuntime) {
-    let table = [
-        (
-            b"P5 2 1 15\n\x0f\x10".as_slice(),
-            PgmFault::SampleAbove { index: 1 },
-        ),
-        (
-            b"P5 3 1 9\n\x01\x0a\x0b",
-            PgmFault::SampleAbove { index: 1 },
-        ),
-        (b"P5 1 1 256\n\x01\x01", PgmFault::SampleAbove { index: 0 }),
-        (
-            b"P5 2 1 300\n\x01\x2c\x01\x2d",
-            PgmFault::SampleAbove { index: 1 },
-        ),
-    ];
-    assert_faults(&rt, rt.alloc(), &table);
+fn texts_have_their_first_faults(rt: HostRuntime) {
+    for (text, fault) in &FAULTS {
+        assert!(rt; fault_of(rt.alloc(), text) == Some(*fault), "in {text:?}");
+    }
 }
 
 // An image of 5 x 3.

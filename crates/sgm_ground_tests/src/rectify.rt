@@ -155,31 +155,36 @@ fn is_rectified(
     Ok(plane.entries() == values && plane.size() == image.size())
 }
 
-/// Writes a row of an image by a warp.
-fn write_row(rt: &impl Abort, image: &Image, warp: &Warp, y: u32, into: &mut [Option<u16>]) {
+/// A row of an image of three columns by a warp.
+fn row_of(rt: &impl Abort, image: &Image, warp: &Warp, y: u32) -> [Option<u16>; 3] {
     let size = image.size();
-    assert!(rt; suits(warp, size) && y < size.height && into.len() == size.width as usize);
-    rectify_row(image, warp, y, into);
+    assert!(rt; suits(warp, size) && y < size.height && size.width == 3);
+    let mut row = [None; 3];
+    rectify_row(image, warp, y, &mut row);
+    row
 }
+
+const HALF: [i64; 9] = [1, 0, 0, 0, 1, 0, 0, 0, 2];
+
+const LEFT: [i64; 9] = [1, 0, -2, 0, 1, -1, 0, 0, 3];
+
+const SLANTED: [i64; 9] = [3, 1, -7, -2, 1, 5, 1, 2, 3];
 
 #[test]
 fn places_of_projective_maps(rt: HostRuntime) -> Result<(), Fail> {
-    let half = [1, 0, 0, 0, 1, 0, 0, 0, 2];
-    let left = [1, 0, -2, 0, 1, -1, 0, 0, 3];
-    let slanted = [3, 1, -7, -2, 1, 5, 1, 2, 3];
     let small = size_of(5, 3)?;
-    for (matrix, pixel, place) in [
-        (half, (3, 0), (384, 0)),
-        (half, (4, 1), (512, 128)),
-        (left, (0, 0), (-171, -86)),
-        (left, (2, 1), (0, 0)),
-        (left, (3, 2), (85, 85)),
-        (slanted, (0, 0), (-598, 426)),
-        (slanted, (2, 1), (0, 73)),
-        (slanted, (4, 2), (162, -24)),
+    for (matrix, pixel, place) in &[
+        (HALF, (3, 0), (384, 0)),
+        (HALF, (4, 1), (512, 128)),
+        (LEFT, (0, 0), (-171, -86)),
+        (LEFT, (2, 1), (0, 0)),
+        (LEFT, (3, 2), (85, 85)),
+        (SLANTED, (0, 0), (-598, 426)),
+        (SLANTED, (2, 1), (0, 73)),
+        (SLANTED, (4, 2), (162, -24)),
     ] {
-        let warp = Warp::Projective(matrix);
-        assert!(rt; place_in(&rt, &warp, small, pixel) == place);
+        let warp = Warp::Projective(*matrix);
+        assert!(rt; place_in(&rt, &warp, small, *pixel) == *place);
     }
     Ok(())
 }
@@ -204,44 +209,44 @@ fn identity_keeps_places(rt: HostRuntime) -> Result<(), Fail> {
 
 #[test]
 fn places_of_meshes(rt: HostRuntime) -> Result<(), Fail> {
-    let nodes = [(0, 0), (511, 0), (0, 512), (511, 512)];
-    let row = mesh_of(rt.alloc(), 2, 2, 2, &nodes)?;
+    let nodes = &[(0, 0), (511, 0), (0, 512), (511, 512)];
+    let row = mesh_of(rt.alloc(), 2, 2, 2, nodes)?;
     assert_places(&rt, &row, size_of(2, 1)?, &[((1, 0), (255, 0))]);
     Ok(())
 }
 
 #[test]
 fn places_below_zero(rt: HostRuntime) -> Result<(), Fail> {
-    let nodes = [(-1, 0), (0, 0), (0, 0), (0, -5)];
-    let low = mesh_of(rt.alloc(), 2, 2, 2, &nodes)?;
+    let nodes = &[(-1, 0), (0, 0), (0, 0), (0, -5)];
+    let low = mesh_of(rt.alloc(), 2, 2, 2, nodes)?;
     assert_places(&rt, &low, size_of(2, 2)?, &[((1, 1), (-1, -2))]);
     Ok(())
 }
 
 #[test]
 fn places_in_two_meshes(rt: HostRuntime) -> Result<(), Fail> {
-    let nodes = [(0, 0), (300, 3), (600, 6), (9, 300), (309, 303), (609, 306)];
-    let wide = mesh_of(rt.alloc(), 3, 3, 2, &nodes)?;
-    let table = [((1, 0), (100, 1)), ((0, 1), (3, 100)), ((4, 1), (403, 104))];
-    assert_places(&rt, &wide, size_of(5, 3)?, &table);
+    let nodes = &[(0, 0), (300, 3), (600, 6), (9, 300), (309, 303), (609, 306)];
+    let wide = mesh_of(rt.alloc(), 3, 3, 2, nodes)?;
+    let table = &[((1, 0), (100, 1)), ((0, 1), (3, 100)), ((4, 1), (403, 104))];
+    assert_places(&rt, &wide, size_of(5, 3)?, table);
     Ok(())
 }
 
 #[test]
 fn first_corner_without_a_positive_denominator(rt: HostRuntime) -> Result<(), Fail> {
     let size = size_of(5, 3)?;
-    for (line, corner) in [
+    for (line, corner) in &[
         ([0, 0, 0], Some(0)),
         ([-1, 0, 4], Some(1)),
         ([1, -1, 2], Some(2)),
         ([-1, -1, 6], Some(3)),
         ([-1, -1, 7], None),
     ] {
-        let [a, b, c] = line;
+        let [a, b, c] = *line;
         let warp = Warp::Projective([1, 0, 0, 0, 1, 0, a, b, c]);
         assert!(rt; is_in_range(&warp));
         let want = match corner {
-            Some(corner) => Err(WarpFault::Denominator { corner }),
+            Some(corner) => Err(WarpFault::Denominator { corner: *corner }),
             None => Ok(()),
         };
         assert!(rt; warp.check(size) == want);
@@ -252,7 +257,7 @@ fn first_corner_without_a_positive_denominator(rt: HostRuntime) -> Result<(), Fa
 #[test]
 fn counts_of_meshes(rt: HostRuntime) -> Result<(), Fail> {
     let alloc = rt.alloc();
-    for (sides, step, counts, needed) in [
+    for (sides, step, counts, needed) in &[
         ((2, 1), 2, (2, 2), (2, 2)),
         ((2, 1), 2, (3, 2), (2, 2)),
         ((5, 3), 3, (3, 2), (3, 2)),
@@ -265,10 +270,10 @@ fn counts_of_meshes(rt: HostRuntime) -> Result<(), Fail> {
         ((3, 6), 3, (2, 3), (2, 3)),
         ((4096, 1), 2, (2049, 2), (2049, 2)),
     ] {
-        let (cols, rows) = counts;
-        let mesh = flat_mesh(alloc, step, cols, rows)?;
+        let (cols, rows) = *counts;
+        let mesh = flat_mesh(alloc, *step, cols, rows)?;
         assert!(rt; is_in_range(&mesh));
-        let (need_cols, need_rows) = needed;
+        let (need_cols, need_rows) = *needed;
         let want = if counts == needed {
             Ok(())
         } else {
@@ -287,20 +292,20 @@ fn counts_of_meshes(rt: HostRuntime) -> Result<(), Fail> {
 #[test]
 fn values_between_two_samples(rt: HostRuntime) -> Result<(), Fail> {
     let image = image_of(rt.alloc(), size_of(2, 1)?, &[0, 255])?;
-    let table = [
+    let table = &[
         ((0, 0), 1, 0, Some(1)),
         ((0, 0), 128, 0, Some(128)),
         ((0, 0), 256, 0, Some(255)),
         ((0, 0), 257, 0, None),
         ((0, 0), -1, 0, None),
     ];
-    assert_values(&rt, rt.alloc(), &image, &table)
+    assert_values(&rt, rt.alloc(), &image, table)
 }
 
 #[test]
 fn values_inside_and_outside(rt: HostRuntime) -> Result<(), Fail> {
     let image = image_of(rt.alloc(), size_of(3, 2)?, &[10, 20, 30, 40, 50, 60])?;
-    let table = [
+    let table = &[
         ((0, 0), 128, 128, Some(30)),
         ((1, 0), 64, 192, Some(45)),
         ((2, 0), 1, 0, None),
@@ -311,20 +316,19 @@ fn values_inside_and_outside(rt: HostRuntime) -> Result<(), Fail> {
         ((0, 0), 512, 256, Some(60)),
         ((0, 0), MAX_ENTRY, 0, None),
     ];
-    assert_values(&rt, rt.alloc(), &image, &table)
+    assert_values(&rt, rt.alloc(), &image, table)
 }
 
 #[test]
 fn greatest_values(rt: HostRuntime) -> Result<(), Fail> {
     let image = image_of(rt.alloc(), size_of(2, 2)?, &[65535; 4])?;
-    let most = Some(65535);
-    let table = [
-        ((0, 0), 0, 0, most),
-        ((0, 0), 1, 255, most),
-        ((0, 0), 128, 128, most),
-        ((0, 0), 255, 255, most),
+    let table = &[
+        ((0, 0), 0, 0, Some(65535)),
+        ((0, 0), 1, 255, Some(65535)),
+        ((0, 0), 128, 128, Some(65535)),
+        ((0, 0), 255, 255, Some(65535)),
     ];
-    assert_values(&rt, rt.alloc(), &image, &table)
+    assert_values(&rt, rt.alloc(), &image, table)
 }
 
 #[test]
@@ -339,7 +343,7 @@ fn a_row_moved_by_one_column(rt: HostRuntime) -> Result<(), Fail> {
 /// The mesh that turns an image of 3 x 2 upside down: the row 0 from the row 1, and the row 2 of the mesh from
 /// the row -1.
 fn upside_down(alloc: Global) -> Result<Warp, AllocError> {
-    let nodes = [
+    let nodes = &[
         (0, 256),
         (512, 256),
         (1024, 256),
@@ -347,7 +351,7 @@ fn upside_down(alloc: Global) -> Result<Warp, AllocError> {
         (512, -256),
         (1024, -256),
     ];
-    mesh_of(alloc, 2, 3, 2, &nodes)
+    mesh_of(alloc, 2, 3, 2, nodes)
 }
 
 #[test]
@@ -363,13 +367,10 @@ fn rectified_by_a_mesh(rt: HostRuntime) -> Result<(), Fail> {
 fn rows_one_by_one(rt: HostRuntime) -> Result<(), Fail> {
     let image = image_of(rt.alloc(), size_of(3, 2)?, &[10, 20, 30, 40, 50, 60])?;
     let warp = shift(128, 0);
-    let mut row = [None; 3];
-    write_row(&rt, &image, &warp, 0, &mut row);
-    assert!(rt; row == [Some(15), Some(25), None]);
-    write_row(&rt, &image, &warp, 1, &mut row);
-    assert!(rt; row == [Some(45), Some(55), None]);
-    write_row(&rt, &image, &Warp::Identity, 1, &mut row);
-    assert!(rt; row == [Some(40), Some(50), Some(60)]);
+    assert!(rt; row_of(&rt, &image, &warp, 0) == [Some(15), Some(25), None]);
+    assert!(rt; row_of(&rt, &image, &warp, 1) == [Some(45), Some(55), None]);
+    let same = row_of(&rt, &image, &Warp::Identity, 1);
+    assert!(rt; same == [Some(40), Some(50), Some(60)]);
     Ok(())
 }
 

@@ -4,17 +4,18 @@ ghost use Rattle.sgm_base.specs.Values.{AtMost};
 ghost use Rattle.sgm_base.specs.declared.limits.TheConstants.{MAX_DISPARITY, MAX_STRIPS, MAX_WORKERS};
 ghost use Rattle.sgm_census.specs.Matching.{matching_problem};
 ghost use Rattle.sgm_energy.specs.Pens.{guide_of};
+ghost use Rattle.sgm_strip.specs.Scenes.{problem_of};
 ghost use Rattle.sgm_refine.specs.Refining.{plain};
 ghost use Rattle.sgm_job.specs.Survey.{pair_fault, prepared, refined_disparities, side_fault, surveyed};
 ghost use Rattle.sgm_job.specs.Answers.{Answers, Prepares};
 
 use crate::heights::heights;
 use crate::matching::complete_parcels;
-use crate::planes::{Coded, coded_image, guided_scene, prepare_both};
+use crate::planes::{Coded, guided_scene, prepare_both, prepare_each};
 use crate::refining::refined_map;
 use crate::selecting::select_all;
 use crate::tallies::tallies;
-use sgm_base::{DispMap, Image, MAX_VOLUME, Side, Size};
+use sgm_base::{DispMap, Image, MAX_VOLUME, Plane, Side, Size};
 use sgm_calib::Calib;
 use sgm_grid::Grid;
 use sgm_rectify::{Warp, WarpFault};
@@ -103,6 +104,31 @@ fn pair_fault(left: Size, right: Size, calib: &Calib) -> Option<SurveyFault>
     }
 }
 
+/// The refined disparity of each pixel of the left plane of a scene.
+fn scene_map<R: Threads + Sync, G: Gate + Sync>(
+    rt: &R,
+    alloc: Global,
+    scene: &Scene,
+    left: &Plane,
+    right: &Plane,
+    strips: u32,
+    workers: u32,
+    refine: Refine,
+    gate: &G,
+) -> Result<DispMap, AllocError>
+    requires left_width { left.now.width ≡ scene.now.left.width }
+    requires left_height { left.now.height ≡ scene.now.left.height }
+    requires right_width { right.now.width ≡ scene.now.left.width }
+    requires right_height { right.now.height ≡ scene.now.left.height }
+    requires strips { (1 ≤ strips) × (strips ≤ MAX_STRIPS) }
+    requires workers { (1 ≤ workers) × (workers ≤ MAX_WORKERS) }
+    ensures { IfOk result (λ m. m ≡ refined_disparities (problem_of scene.now) left.now right.now scene.now.span refine) }
+{
+    let parcels = complete_parcels(rt, alloc, scene, strips, workers, gate)?;
+    let map = select_all(rt, alloc, left, right, &parcels, workers as usize)?;
+    refined_map(alloc, scene, &parcels, left, map, refine)
+}
+
 /// The refined disparity of each pixel of the left plane, whose values go up to `maxval`.
 fn disparity_map<R: Threads + Sync, G: Gate + Sync>(
     rt: &R,
@@ -135,16 +161,17 @@ fn disparity_map<R: Threads + Sync, G: Gate + Sync>(
     // Known from here on: the range of the span.
     let _ = &span.count;
     let scene = guided_scene(alloc, left.codes, right.codes, calib, &left.plane, maxval)?;
-    let parcels = complete_parcels(rt, alloc, &scene, strips, workers, gate)?;
-    let map = select_all(
+    scene_map(
         rt,
         alloc,
+        &scene,
         &left.plane,
         &right.plane,
-        &parcels,
-        workers as usize,
-    )?;
-    refined_map(alloc, &scene, &parcels, &left.plane, map, refine)
+        strips,
+        workers,
+        refine,
+        gate,
+    )
 }
 
 /// Surveys a pair of images: rectifies them, matches them, and gives for each pixel of the left one its
@@ -239,8 +266,13 @@ pub fn prepare(
     let maxval = left.maxval();
     // Known from here on: that no sample of the left image is above it.
     let _samples = left.samples();
-    let window = calib.window();
-    let left = coded_image(alloc, left, calib.left(), window)?;
-    let right = coded_image(alloc, right, calib.right(), window)?;
+    let (left, right) = prepare_each(
+        alloc,
+        left,
+        calib.left(),
+        right,
+        calib.right(),
+        calib.window(),
+    )?;
     Ok(guided_scene(alloc, left.codes, right.codes, calib, &left.plane, maxval)?)
 }

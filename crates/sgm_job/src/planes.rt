@@ -38,6 +38,25 @@ pub(crate) fn coded_image(
     Ok(Coded { plane, codes })
 }
 
+/// Both images, each by its warp, one after the other.
+pub(crate) fn prepare_each(
+    alloc: Global,
+    left: &Image,
+    left_warp: &Warp,
+    right: &Image,
+    right_warp: &Warp,
+    window: Window,
+) -> Result<(Coded, Coded), AllocError>
+    requires left { Suits left_warp.now (sides_of left.now) }
+    requires right { Suits right_warp.now (sides_of right.now) }
+    ensures left { IfOk result (λ made. IsMade left.now left_warp.now window made.0.plane made.0.codes) }
+    ensures right { IfOk result (λ made. IsMade right.now right_warp.now window made.1.plane made.1.codes) }
+{
+    let left = coded_image(alloc, left, left_warp, window)?;
+    let right = coded_image(alloc, right, right_warp, window)?;
+    Ok((left, right))
+}
+
 /// Both images, each by its warp, side by side where there is a thread for it.
 pub(crate) fn prepare_both<R: Threads>(
     rt: &R,

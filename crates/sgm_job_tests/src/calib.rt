@@ -1,6 +1,7 @@
 use sgm_calib::{Calib, CalibError, CalibFault, Key, read};
 use sgm_example::CALIBRATION;
 use std::alloc::Global;
+use std::process::Abort;
 use std::test::Fail;
 
 fn fault_of(alloc: Global, text: &str) -> Option<CalibFault> {
@@ -14,24 +15,26 @@ fn numbered(number: u8) -> Key {
     Key { number, index: 0 }
 }
 
+const FAULTS: [(&str, CalibFault); 7] = [
+    ("{", CalibFault::Json),
+    ("[]", CalibFault::Type_(Key { number: 1, index: 0 })),
+    ("{}", CalibFault::Missing(Key { number: 2, index: 0 })),
+    ("{\"version\":3}", CalibFault::Version),
+    ("{\"version\":1,\"x\":0}", CalibFault::Unknown(Key { number: 1, index: 0 })),
+    (
+        "{\"version\":1,\"disparities\":{\"first\":0,\"count\":0}}",
+        CalibFault::Range(Key { number: 5, index: 0 }),
+    ),
+    (
+        "{\"version\":1,\"disparities\":{\"first\":0,\"count\":1.5}}",
+        CalibFault::Type_(Key { number: 5, index: 0 }),
+    ),
+];
+
 #[test]
 fn one_text_of_each_fault(rt: HostRuntime) {
-    for (text, fault) in [
-        ("{", CalibFault::Json),
-        ("[]", CalibFault::Type_(numbered(1))),
-        ("{}", CalibFault::Missing(numbered(2))),
-        ("{\"version\":3}", CalibFault::Version),
-        ("{\"version\":1,\"x\":0}", CalibFault::Unknown(numbered(1))),
-        (
-            "{\"version\":1,\"disparities\":{\"first\":0,\"count\":0}}",
-            CalibFault::Range(numbered(5)),
-        ),
-        (
-            "{\"version\":1,\"disparities\":{\"first\":0,\"count\":1.5}}",
-            CalibFault::Type_(numbered(5)),
-        ),
-    ] {
-        assert!(rt; fault_of(rt.alloc(), text) == Some(fault), "{text}");
+    for (text, fault) in &FAULTS {
+        assert!(rt; fault_of(rt.alloc(), text) == Some(*fault), "{text}");
     }
 }
 
@@ -71,35 +74,33 @@ fn worked(alloc: Global) -> Result<Calib, Fail> {
     Ok(read(alloc, text.as_bytes()).ok().ok_or("no calibration")?)
 }
 
-#[test]
-fn settings_of_a_whole_calibration(rt: HostRuntime) -> Result<(), Fail> {
-    let calib = worked(rt.alloc())?;
+fn assert_settings(rt: &impl Abort, calib: &Calib) {
     assert!(rt; calib.span().count == 2);
     assert!(rt; calib.window().width == 3);
     assert!(rt; calib.pen().p2() == 3);
-    Ok(())
 }
 
-#[test]
-fn grid_of_a_whole_calibration(rt: HostRuntime) -> Result<(), Fail> {
-    let calib = worked(rt.alloc())?;
+fn assert_ground(rt: &impl Abort, calib: &Calib) -> Result<(), Fail> {
     let grid = calib.grid().ok_or("no grid")?;
-    assert!(rt; (grid.west, grid.cell) == (2000, 1000));
-    assert!(rt; (grid.cols, grid.rows) == (4, 3));
-    Ok(())
-}
-
-#[test]
-fn regions_of_a_whole_calibration(rt: HostRuntime) -> Result<(), Fail> {
-    let calib = worked(rt.alloc())?;
+    assert!(rt; grid.west == 2000);
+    assert!(rt; grid.cell == 1000);
+    assert!(rt; grid.cols == 4);
+    assert!(rt; grid.rows == 3);
     let regions = calib.regions().ok_or("no regions")?;
     assert!(rt; regions.len() == 2);
     Ok(())
 }
 
 #[test]
+fn a_whole_calibration(rt: HostRuntime) -> Result<(), Fail> {
+    let calib = worked(rt.alloc())?;
+    assert_settings(&rt, &calib);
+    assert_ground(&rt, &calib)
+}
+
+#[test]
 fn paths_of_keys(rt: HostRuntime) {
-    for (number, front, back) in [
+    for (number, front, back) in &[
         (5, "disparities.count", ""),
         (26, "warp.right.nodes", ""),
         (43, "regions[", "]"),
@@ -107,7 +108,7 @@ fn paths_of_keys(rt: HostRuntime) {
         (50, "penalties.adapt", ""),
         (255, "", ""),
     ] {
-        let key = numbered(number);
-        assert!(rt; (key.front(), key.back()) == (front, back), "{number}");
+        let key = numbered(*number);
+        assert!(rt; key.front() == *front && key.back() == *back, "{number}");
     }
 }

@@ -55,35 +55,62 @@ fn filled(
     entries_of(alloc, &map, &matched, &left)
 }
 
+/// Whether the map with these entries becomes the wanted one.
+fn fills(
+    alloc: Global,
+    width: u32,
+    height: u32,
+    entries: &[Option<u16>],
+    matched: &[Option<u16>],
+    left: &[Option<u16>],
+    wanted: &[Option<u16>],
+) -> Result<bool, Fail> {
+    let made = filled(alloc, width, height, entries, matched, left)?;
+    Ok(made.as_slice() == wanted)
+}
+
 const GAP: [Option<u16>; 3] = [Some(32), None, Some(96)];
+
+const THERE: [Option<u16>; 3] = [Some(5); 3];
+
+/// Whether a gap of one pixel with these matches is filled by this value.
+fn fills_gap(alloc: Global, matched: [Option<u16>; 3], value: u16) -> Result<bool, Fail> {
+    let wanted = [Some(32), Some(value), Some(96)];
+    fills(alloc, 3, 1, &GAP, &matched, &THERE, &wanted)
+}
 
 #[test]
 fn one_pixel(rt: HostRuntime) -> Result<(), Fail> {
     let alloc = rt.alloc();
-    let there = [Some(5); 3];
-    let occluded = filled(alloc, 3, 1, &GAP, &[None; 3], &there)?;
-    assert!(rt; occluded.as_slice() == [Some(32), Some(96), Some(96)].as_slice());
-    let mismatched = filled(alloc, 3, 1, &GAP, &[None, Some(0), None], &there)?;
-    assert!(rt; mismatched.as_slice() == [Some(32), Some(32), Some(96)].as_slice());
+    assert!(rt; fills_gap(alloc, [None; 3], 96)?);
+    assert!(rt; fills_gap(alloc, [None, Some(0), None], 32)?);
     // A match whose index gives another pixel.
-    let other = filled(alloc, 3, 1, &GAP, &[None, Some(16), None], &there)?;
-    assert!(rt; other.as_slice() == [Some(32), Some(96), Some(96)].as_slice());
-    let from_left = filled(alloc, 3, 1, &GAP, &[Some(16), None, None], &there)?;
-    assert!(rt; from_left.as_slice() == [Some(32), Some(32), Some(96)].as_slice());
+    assert!(rt; fills_gap(alloc, [None, Some(16), None], 96)?);
+    assert!(rt; fills_gap(alloc, [Some(16), None, None], 32)?);
     Ok(())
 }
 
 #[test]
 fn one_value(rt: HostRuntime) -> Result<(), Fail> {
     let alloc = rt.alloc();
-    let there = [Some(5); 3];
-    let one = filled(alloc, 3, 1, &[Some(32), None, None], &[None; 3], &there)?;
-    assert!(rt; one.as_slice() == [Some(32); 3].as_slice());
-    let none = filled(alloc, 3, 1, &[None; 3], &[None; 3], &there)?;
-    assert!(rt; none.as_slice() == [None; 3].as_slice());
-    let void = filled(alloc, 3, 1, &GAP, &[None; 3], &[Some(5), None, Some(5)])?;
-    assert!(rt; void.as_slice() == GAP.as_slice());
+    let none = [None; 3];
+    let one = [Some(32), None, None];
+    assert!(rt; fills(alloc, 3, 1, &one, &none, &THERE, &[Some(32); 3])?);
+    assert!(rt; fills(alloc, 3, 1, &none, &none, &THERE, &none)?);
+    let void = [Some(5), None, Some(5)];
+    assert!(rt; fills(alloc, 3, 1, &GAP, &none, &void, &GAP)?);
     Ok(())
+}
+
+/// The value that the pixel of this number gets in the map of 5 x 5 pixels with these entries.
+fn value_at(
+    alloc: Global,
+    entries: &[Option<u16>; 25],
+    matched: &[Option<u16>; 25],
+    at: usize,
+) -> Result<Option<u16>, Fail> {
+    let made = filled(alloc, 5, 5, entries, matched, &[Some(5); 25])?;
+    Ok(made.get(at).copied().ok_or("pixel")?)
 }
 
 #[test]
@@ -99,14 +126,11 @@ fn all_around(rt: HostRuntime) -> Result<(), Fail> {
     entries[8] = Some(30);
     entries[16] = Some(50);
     entries[24] = Some(40);
-    let there = [Some(5); 25];
     let mut matched = [None; 25];
-    let occluded = filled(alloc, 5, 5, &entries, &matched, &there)?;
-    assert!(rt; occluded.get(12).copied() == Some(Some(20)));
-    matched[11] = Some(16);
-    let mismatched = filled(alloc, 5, 5, &entries, &matched, &there)?;
-    assert!(rt; mismatched.get(12).copied() == Some(Some(40)));
+    assert!(rt; value_at(alloc, &entries, &matched, 12)? == Some(20));
     // The one of 3 that is in the middle of the last row's end.
-    assert!(rt; occluded.get(4).copied() == Some(Some(40)));
+    assert!(rt; value_at(alloc, &entries, &matched, 4)? == Some(40));
+    matched[11] = Some(16);
+    assert!(rt; value_at(alloc, &entries, &matched, 12)? == Some(40));
     Ok(())
 }

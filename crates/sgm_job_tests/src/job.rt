@@ -15,6 +15,7 @@ use sgm_report::RegionTally;
 use sgm_strip::Scene;
 use sgm_work::OpenGate;
 use std::alloc::Global;
+use std::process::Abort;
 use std::test::Fail;
 use std::thread::Threads;
 
@@ -116,12 +117,28 @@ fn is_example(found: &Surveyed) -> bool {
         && has_tallies(found, &TALLIES)
 }
 
+/// Whether the survey of its images over so many strips is that.
+fn gives_example<R: Threads + Sync>(
+    rt: &R,
+    alloc: Global,
+    calib: &Calib,
+    strips: u32,
+    workers: u32,
+) -> Result<bool, Fail>
+    requires strips { (1 ≤ strips) × (strips ≤ MAX_STRIPS) }
+    requires workers { (1 ≤ workers) × (workers ≤ MAX_WORKERS) }
+{
+    let found = example(rt, alloc, calib, strips, workers)?;
+    Ok(is_example(&found))
+}
+
 #[test]
 fn the_worked_example(rt: HostRuntime) -> Result<(), Fail> {
-    let calib = calib(rt.alloc(), &[SETTINGS, CAMERA, GRID, REGIONS])?;
+    let alloc = rt.alloc();
+    let calib = calib(alloc, &[SETTINGS, CAMERA, GRID, REGIONS])?;
     for (strips, workers) in [(1, 1), (2, 2), (3, 2), (64, 1), (64, 16), (1, 16)] {
-        let found = example(&rt, rt.alloc(), &calib, strips, workers)?;
-        assert!(rt; is_example(&found), "{strips} {workers}");
+        let is_right = gives_example(&rt, alloc, &calib, strips, workers)?;
+        assert!(rt; is_right, "{strips} {workers}");
     }
     Ok(())
 }
@@ -136,8 +153,8 @@ fn by_version_2<R: Threads + Sync>(rt: &R, alloc: Global, adapt: bool) -> Result
 // Two indices never differ by more than 1, so it doesn't matter what a greater change costs.
 #[test]
 fn penalties_that_follow_the_image(rt: HostRuntime) -> Result<(), Fail> {
-    for adapt in [false, true] {
-        let found = by_version_2(&rt, rt.alloc(), adapt)?;
+    for adapt in &[false, true] {
+        let found = by_version_2(&rt, rt.alloc(), *adapt)?;
         assert!(rt; is_example(&found), "{adapt}");
     }
     Ok(())
@@ -216,33 +233,34 @@ fn scene_of(alloc: Global) -> Result<Scene, Fail> {
     scene_by(alloc, &calib)
 }
 
-#[test]
-fn costs_of_the_scene(rt: HostRuntime) -> Result<(), Fail> {
-    let scene = scene_of(rt.alloc())?;
-    assert!(rt; cost(&scene, 1, 1, 0) == Some(6));
-    assert!(rt; cost(&scene, 2, 1, 1) == Some(0));
-    assert!(rt; cost(&scene, 2, 0, 1) == Some(8));
-    assert!(rt; cost(&scene, 2, 0, 2) == None);
-    Ok(())
+fn assert_costs(rt: &impl Abort, scene: &Scene) {
+    assert!(rt; cost(scene, 1, 1, 0) == Some(6));
+    assert!(rt; cost(scene, 2, 1, 1) == Some(0));
+    assert!(rt; cost(scene, 2, 0, 1) == Some(8));
+    assert!(rt; cost(scene, 2, 0, 2) == None);
 }
 
 // Each row of the left image is 90 10 50 20 40.
-#[test]
-fn penalties_of_the_scene(rt: HostRuntime) -> Result<(), Fail> {
-    let scene = scene_of(rt.alloc())?;
+fn assert_penalties(rt: &impl Abort, scene: &Scene) {
     for (x, want) in [(1, 1), (2, 3), (3, 4), (4, 6)] {
-        assert!(rt; far(&scene, (x - 1, 0), (x, 0)) == Some(want));
+        assert!(rt; far(scene, (x - 1, 0), (x, 0)) == Some(want));
     }
-    assert!(rt; far(&scene, (0, 0), (0, 1)) == Some(120));
+    assert!(rt; far(scene, (0, 0), (0, 1)) == Some(120));
+}
+
+#[test]
+fn costs_and_penalties_of_the_scene(rt: HostRuntime) -> Result<(), Fail> {
+    let scene = scene_of(rt.alloc())?;
+    assert_costs(&rt, &scene);
+    assert_penalties(&rt, &scene);
     Ok(())
 }
 
 #[test]
 fn two_pixels(rt: HostRuntime) -> Result<(), Fail> {
     let alloc = rt.alloc();
-    let left = image(alloc, (2, 1), &[0, 255])?;
-    let right = image(alloc, (2, 1), &[0, 255])?;
-    let found = surveyed(&rt, alloc, &left, &right, &Calib::plain(), 1, 1)?;
+    let image = image(alloc, (2, 1), &[0, 255])?;
+    let found = surveyed(&rt, alloc, &image, &image, &Calib::plain(), 1, 1)?;
     assert!(rt; found.disp.entries() == [Some(0), Some(0)].as_slice());
     Ok(())
 }
@@ -277,31 +295,60 @@ fn is_refused<R: Threads + Sync>(
     prepare(alloc, left, right, calib).err() == want
 }
 
+/// A calibration of 256 indices with a warp that can't be.
+fn tilted(alloc: Global) -> Result<Calib, Fail> {
+    let span = span(alloc, 0, 256)?;
+    calib(alloc, &[span.as_str(), TILTED])
+}
+
+/// Whether the pair of even images of 1024 columns and these heights is refused with this fault.
+fn refuses<R: Threads + Sync>(
+    rt: &R,
+    alloc: Global,
+    calib: &Calib,
+    heights: (u32, u32),
+    fault: SurveyFault,
+) -> Result<bool, Fail> {
+    let left = even_image(alloc, (1024, heights.0))?;
+    let right = even_image(alloc, (1024, heights.1))?;
+    Ok(is_refused(rt, alloc, &left, &right, calib, fault))
+}
+
+/// The heights of such a pair, and its fault.
+const REFUSED: [((u32, u32), SurveyFault); 3] = [
+    (
+        (1025, 1024),
+        SurveyFault::SizesDiffer {
+            left: Size {
+                width: 1024,
+                height: 1025,
+            },
+            right: Size {
+                width: 1024,
+                height: 1024,
+            },
+        },
+    ),
+    (
+        (1025, 1025),
+        SurveyFault::VolumeTooLarge { cells: 268_697_600 },
+    ),
+    (
+        (1024, 1024),
+        SurveyFault::Warp {
+            side: Side::Left,
+            fault: WarpFault::Denominator { corner: 1 },
+        },
+    ),
+];
+
 // 1024 * 1024 * 256 cells are the most that there may be.
 #[test]
 fn warps_come_last(rt: HostRuntime) -> Result<(), Fail> {
     let alloc = rt.alloc();
-    let span = span(alloc, 0, 256)?;
-    let calib = calib(alloc, &[span.as_str(), TILTED])?;
-    let large = even_image(alloc, (1024, 1025))?;
-    let square = even_image(alloc, (1024, 1024))?;
-    let sizes = SurveyFault::SizesDiffer {
-        left: Size {
-            width: 1024,
-            height: 1025,
-        },
-        right: Size {
-            width: 1024,
-            height: 1024,
-        },
-    };
-    let volume = SurveyFault::VolumeTooLarge { cells: 268_697_600 };
-    let warp = SurveyFault::Warp {
-        side: Side::Left,
-        fault: WarpFault::Denominator { corner: 1 },
-    };
-    assert!(rt; is_refused(&rt, alloc, &large, &square, &calib, sizes));
-    assert!(rt; is_refused(&rt, alloc, &large, &large, &calib, volume));
-    assert!(rt; is_refused(&rt, alloc, &square, &square, &calib, warp));
+    let calib = tilted(alloc)?;
+    for (heights, fault) in &REFUSED {
+        assert!(rt; refuses(&rt, alloc, &calib, *heights, *fault)?);
+    }
     Ok(())
 }

@@ -15,7 +15,7 @@ const ENTRIES: [Option<u16>; 6] = [Some(0), None, Some(2), Some(3), Some(4), Som
 
 #[test]
 fn sizes_are_from_1_to_4096(rt: HostRuntime) -> Result<(), Fail> {
-    for (width, height, is_made) in [
+    for (width, height, is_made) in &[
         (1, 1, true),
         (4096, 4096, true),
         (0, 1, false),
@@ -25,7 +25,7 @@ fn sizes_are_from_1_to_4096(rt: HostRuntime) -> Result<(), Fail> {
         (u32::MAX, u32::MAX, false),
     ] {
         assert!(rt;
-            Size::make(width, height).is_some() == is_made,
+            Size::make(*width, *height).is_some() == *is_made,
             "{width} x {height}"
         );
     }
@@ -35,7 +35,7 @@ fn sizes_are_from_1_to_4096(rt: HostRuntime) -> Result<(), Fail> {
 
 #[test]
 fn spans_keep_their_ranges(rt: HostRuntime) {
-    for (first, count, is_made) in [
+    for (first, count, is_made) in &[
         (-1024, 1, true),
         (1024, 256, true),
         (-1025, 1, false),
@@ -44,7 +44,7 @@ fn spans_keep_their_ranges(rt: HostRuntime) {
         (0, 257, false),
     ] {
         assert!(rt;
-            Span::make(first, count).is_some() == is_made,
+            Span::make(*first, *count).is_some() == *is_made,
             "{first}, {count}"
         );
     }
@@ -69,18 +69,20 @@ fn is_kept(alloc: Global, maxval: u16, samples: &[u16]) -> Result<Option<bool>, 
     }
 }
 
+const SAMPLES: [(u16, &[u16], Option<bool>); 6] = [
+    (255, &[0, 255], Some(true)),
+    (65_535, &[65_535, 0], Some(true)),
+    (1, &[0, 2], None),
+    (0, &[0, 0], None),
+    (255, &[0], None),
+    (255, &[0, 0, 0], None),
+];
+
 #[test]
 fn images_keep_their_maxval(rt: HostRuntime) -> Result<(), Fail> {
-    for (maxval, samples, want) in [
-        (255, [0, 255].as_slice(), Some(true)),
-        (65_535, [65_535, 0].as_slice(), Some(true)),
-        (1, [0, 2].as_slice(), None),
-        (0, [0, 0].as_slice(), None),
-        (255, [0].as_slice(), None),
-        (255, [0, 0, 0].as_slice(), None),
-    ] {
+    for (maxval, samples, want) in &SAMPLES {
         assert!(rt;
-            is_kept(rt.alloc(), maxval, samples)? == want,
+            is_kept(rt.alloc(), *maxval, samples)? == *want,
             "maxval {maxval}, {} samples",
             samples.len()
         );
@@ -142,20 +144,34 @@ fn threads_may_share_images_and_planes(rt: HostRuntime) {
     assert!(rt; is_shareable::<DispMap>());
 }
 
+const LARGE: i128 = 1 << 120;
+
+/// The rounded quotient, where both numbers are in range.
+fn rounded(a: i128, b: i128) -> Option<i128> {
+    if 0 < b && b <= LARGE && -LARGE <= a && a <= LARGE {
+        Some(round_div(a, b))
+    } else {
+        None
+    }
+}
+
+/// What is divided, by what, and the quotient.
+const QUOTIENTS: [(i128, i128, i128); 9] = [
+    (7, 2, 4),
+    (-7, 2, -3),
+    (5, 10, 1),
+    (-5, 10, 0),
+    (-6, 10, -1),
+    (4, 10, 0),
+    (0, 1, 0),
+    (LARGE, 1, LARGE),
+    (-LARGE, LARGE, -1),
+];
+
 #[test]
 fn quotients_are_rounded_halves_upwards(rt: HostRuntime) {
-    for (a, b, quotient) in [
-        (7, 2, 4),
-        (-7, 2, -3),
-        (5, 10, 1),
-        (-5, 10, 0),
-        (-6, 10, -1),
-        (4, 10, 0),
-        (0, 1, 0),
-        (1_i128 << 120, 1, 1_i128 << 120),
-        (-(1_i128 << 120), 1_i128 << 120, -1),
-    ] {
-        assert!(rt; round_div(a, b) == quotient, "{a} / {b}");
+    for (a, b, quotient) in &QUOTIENTS {
+        assert!(rt; rounded(*a, *b) == Some(*quotient), "{a} / {b}");
     }
 }
 

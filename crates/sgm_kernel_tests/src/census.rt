@@ -86,9 +86,9 @@ fn windows_have_these_sides_alone(rt: HostRuntime) {
 
 #[test]
 fn greatest_costs(rt: HostRuntime) -> Result<(), Fail> {
-    for (width, height, want) in [(3, 3, 8), (9, 7, 62), (9, 3, 26), (3, 7, 20)] {
-        let window = Window::make(width, height).ok_or("window")?;
-        assert!(rt; window.greatest() == want);
+    for (width, height, want) in &[(3, 3, 8), (9, 7, 62), (9, 3, 26), (3, 7, 20)] {
+        let window = Window::make(*width, *height).ok_or("window")?;
+        assert!(rt; window.greatest() == *want);
     }
     Ok(())
 }
@@ -110,14 +110,14 @@ fn planes_differ_by(
 fn code_of_a_centre_and_eight_neighbours(rt: HostRuntime) -> Result<(), Fail> {
     // The neighbours above and at the lower left are less than the centre.
     let values = [5, 4, 6, 5, 5, 9, 1, 5, 5];
-    for (others, want) in [
+    for (others, want) in &[
         ([7, 0, 7, 7, 7, 7, 0, 7, 7], 0),
         ([7, 0, 7, 7, 7, 7, 7, 7, 7], 1),
         ([7; 9], 2),
         ([1, 5, 1, 1, 5, 1, 9, 1, 1], 8),
     ] {
-        let want = [8, want, 8];
-        assert!(rt; planes_differ_by(rt.alloc(), (3, 3), &values, &others, &want)?);
+        let want = [8, *want, 8];
+        assert!(rt; planes_differ_by(rt.alloc(), (3, 3), &values, others, &want)?);
     }
     Ok(())
 }
@@ -136,12 +136,12 @@ fn pair_has_costs(alloc: Global, first: i32, y: u32, want: &[u8; 10]) -> Result<
 
 #[test]
 fn costs_of_a_pair(rt: HostRuntime) -> Result<(), Fail> {
-    for (y, want) in [
+    for (y, want) in &[
         (0, [8, 8, 8, 8, 8, 8, 8, 8, 8, 8]),
         (1, [8, 8, 6, 8, 6, 0, 6, 0, 8, 8]),
         (2, [8, 8, 8, 8, 8, 8, 8, 8, 8, 8]),
     ] {
-        assert!(rt; pair_has_costs(rt.alloc(), 0, y, &want)?, "row {y}");
+        assert!(rt; pair_has_costs(rt.alloc(), 0, *y, want)?, "row {y}");
     }
     Ok(())
 }
@@ -164,7 +164,7 @@ fn cost_of(
 #[test]
 fn costs_of_single_places(rt: HostRuntime) -> Result<(), Fail> {
     let (left, right) = pair(rt.alloc())?;
-    for (first, place, want) in [
+    for (first, place, want) in &[
         (0, (1, 1, 0), Some(6)),
         (0, (1, 1, 1), Some(8)),
         (0, (2, 1, 0), Some(6)),
@@ -175,7 +175,7 @@ fn costs_of_single_places(rt: HostRuntime) -> Result<(), Fail> {
         (-1, (4, 1, 0), Some(8)),
         (0, (5, 1, 0), None),
     ] {
-        assert!(rt; cost_of(&left, &right, first, place) == want);
+        assert!(rt; cost_of(&left, &right, *first, *place) == *want);
     }
     Ok(())
 }
@@ -190,9 +190,9 @@ fn costs_of_negative_disparities(rt: HostRuntime) -> Result<(), Fail> {
 
 #[test]
 fn columns_beyond_the_row_cost_the_most(rt: HostRuntime) -> Result<(), Fail> {
-    for first in [-1024, -6, -5, 4, 5, 1024] {
+    for first in &[-1024, -6, -5, 4, 5, 1024] {
         assert!(rt;
-            pair_has_costs(rt.alloc(), first, 1, &[8; 10])?,
+            pair_has_costs(rt.alloc(), *first, 1, &[8; 10])?,
             "first {first}"
         );
     }
@@ -224,10 +224,10 @@ fn void_pixels_have_no_code(rt: HostRuntime) -> Result<(), Fail> {
 
 #[test]
 fn a_window_larger_than_the_image(rt: HostRuntime) -> Result<(), Fail> {
-    for (window, most) in [((7, 3), 20), ((3, 5), 14), ((9, 7), 62)] {
-        let plane = codes_of(rt.alloc(), (5, 3), &[7; 15], window)?;
+    for (window, most) in &[((7, 3), 20), ((3, 5), 14), ((9, 7), 62)] {
+        let plane = codes_of(rt.alloc(), (5, 3), &[7; 15], *window)?;
         for y in 0..3 {
-            assert!(rt; differ_by(&plane, &plane, y, &[most; 5]));
+            assert!(rt; differ_by(&plane, &plane, y, &[*most; 5]));
         }
     }
     Ok(())
@@ -237,13 +237,13 @@ fn a_window_larger_than_the_image(rt: HostRuntime) -> Result<(), Fail> {
 fn a_window_wider_than_high(rt: HostRuntime) -> Result<(), Fail> {
     // Only the middle pixel has a code of fourteen truth values, 10001 01 10 00100; its centre is 5.
     let values = [1, 9, 9, 9, 1, 9, 1, 5, 1, 9, 5, 5, 1, 5, 5];
-    for (others, want) in [
+    for (others, want) in &[
         ([0, 7, 7, 7, 0, 7, 0, 7, 0, 7, 7, 7, 0, 7, 7], 0),
         ([7; 15], 5),
         ([5, 1, 1, 1, 5, 1, 5, 3, 5, 1, 1, 1, 5, 1, 1], 14),
     ] {
-        let want = [14, 14, want, 14, 14];
-        assert!(rt; planes_differ_by(rt.alloc(), (5, 3), &values, &others, &want)?);
+        let want = [14, 14, *want, 14, 14];
+        assert!(rt; planes_differ_by(rt.alloc(), (5, 3), &values, others, &want)?);
     }
     Ok(())
 }

@@ -49,7 +49,7 @@ fn checked_with(
 #[test]
 fn indices_may_differ_by_one(rt: HostRuntime) -> Result<(), Fail> {
     // In sixteenths 52 lies further than 16 from the index 2.
-    for (matched, want) in [
+    for (matched, want) in &[
         (0, None),
         (1, None),
         (2, Some(52)),
@@ -58,20 +58,20 @@ fn indices_may_differ_by_one(rt: HostRuntime) -> Result<(), Fail> {
         (5, None),
         (65535, None),
     ] {
-        assert!(rt; checked_with(Some(matched), Some(1), Some(1))? == want);
+        assert!(rt; checked_with(Some(*matched), Some(1), Some(1))? == *want);
     }
     Ok(())
 }
 
 #[test]
 fn voids_are_not_checked(rt: HostRuntime) -> Result<(), Fail> {
-    for (matched, left, right, want) in [
+    for (matched, left, right, want) in &[
         (Some(3), Some(0), Some(0), Some(52)),
         (Some(3), None, Some(0), None),
         (Some(3), Some(0), None, None),
         (None, Some(0), Some(0), None),
     ] {
-        assert!(rt; checked_with(matched, left, right)? == want);
+        assert!(rt; checked_with(*matched, *left, *right)? == *want);
     }
     Ok(())
 }
@@ -96,19 +96,29 @@ fn row_with(sums: &[u16; 10], matched: [u16; 5], first: i32) -> Result<[Option<u
     Ok(into)
 }
 
+/// The indices 0, 0, 1, 1, 1.
+const ONES_AT_THE_END: [u16; 10] = [64, 65, 49, 64, 49, 1, 49, 0, 65, 64];
+
+/// The column x + 1 - base leaves the row on the right at x = 4, whose index is 0 here.
+const ZERO_AT_THE_END: [u16; 10] = [64, 65, 49, 64, 49, 1, 49, 0, 64, 65];
+
 #[test]
 fn first_and_last_index_have_no_offset(rt: HostRuntime) -> Result<(), Fail> {
-    // The indices 0, 0, 1, 1, 1.
-    let sums = [64, 65, 49, 64, 49, 1, 49, 0, 65, 64];
-    // The column x + 1 - base leaves the row on the right at x = 4, whose index is 0 here.
-    let last = [64, 65, 49, 64, 49, 1, 49, 0, 64, 65];
-    for (sums, first, want) in [
-        (&sums, 0, [Some(0), Some(0), Some(16), Some(16), Some(16)]),
+    for (sums, first, want) in &[
+        (
+            ONES_AT_THE_END,
+            0,
+            [Some(0), Some(0), Some(16), Some(16), Some(16)],
+        ),
         // The column x - 2 - base leaves the row on the left at the first three.
-        (&sums, 2, [None, None, None, Some(16), Some(16)]),
-        (&last, -1, [Some(0), Some(0), Some(16), Some(16), None]),
+        (ONES_AT_THE_END, 2, [None, None, None, Some(16), Some(16)]),
+        (
+            ZERO_AT_THE_END,
+            -1,
+            [Some(0), Some(0), Some(16), Some(16), None],
+        ),
     ] {
-        assert!(rt; row_with(sums, [0, 1, 1, 0, 0], first)? == want);
+        assert!(rt; row_with(sums, [0, 1, 1, 0, 0], *first)? == *want);
     }
     Ok(())
 }

@@ -2,7 +2,7 @@ use sgm_energy::{Dir, Pen};
 
 #[test]
 fn penalties_in_range(rt: HostRuntime) {
-    for (p1, p2, within) in [
+    for (p1, p2, within) in &[
         (1, 1, true),
         (10, 120, true),
         (4000, 4000, true),
@@ -10,10 +10,10 @@ fn penalties_in_range(rt: HostRuntime) {
         (3, 2, false),
         (1, 4001, false),
     ] {
-        let pen = Pen::make(p1, p2);
-        assert!(rt; pen.is_some() == within, "at {p1}, {p2}");
+        let pen = Pen::make(*p1, *p2);
+        assert!(rt; pen.is_some() == *within, "at {p1}, {p2}");
         if let Some(pen) = pen {
-            assert!(rt; (pen.p1(), pen.p2()) == (p1, p2));
+            assert!(rt; (pen.p1(), pen.p2()) == (*p1, *p2));
         }
     }
 }
@@ -24,7 +24,7 @@ fn penalties_that_follow_the_image(rt: HostRuntime) {
     let adaptive = Pen::adaptive(10, 120).expect(&rt, "in range");
     assert!(rt; !fixed.is_adaptive() && adaptive.is_adaptive());
     assert!(rt; Pen::adaptive(0, 1).is_none() && Pen::adaptive(3, 2).is_none());
-    for (here, before, far) in [
+    for (here, before, far) in &[
         (Some(100), Some(100), 120),
         (Some(100), Some(103), 40),
         (Some(103), Some(100), 40),
@@ -34,14 +34,14 @@ fn penalties_that_follow_the_image(rt: HostRuntime) {
         (Some(5), None, 120),
         (None, None, 120),
     ] {
-        assert!(rt; adaptive.far(here, before) == far);
-        assert!(rt; fixed.far(here, before) == 120);
+        assert!(rt; adaptive.far(*here, *before) == *far);
+        assert!(rt; fixed.far(*here, *before) == 120);
     }
 }
 
 #[test]
 fn steps_and_fronts_of_directions(rt: HostRuntime) {
-    for (dir, offset, front) in [
+    for (dir, offset, front) in &[
         (Dir::Right, (1, 0), None),
         (Dir::Left, (-1, 0), None),
         (Dir::Down, (0, 1), Some(0)),
@@ -51,11 +51,11 @@ fn steps_and_fronts_of_directions(rt: HostRuntime) {
         (Dir::UpRight, (1, -1), Some(4)),
         (Dir::UpLeft, (-1, -1), Some(5)),
     ] {
-        assert!(rt; dir.offset() == offset);
+        assert!(rt; dir.offset() == *offset);
         assert!(rt; dir.is_level() == front.is_none());
-        assert!(rt; dir.front() == front);
+        assert!(rt; dir.front() == *front);
         if let Some(front) = front {
-            assert!(rt; Dir::from_front(front) == Some(dir));
+            assert!(rt; Dir::from_front(*front) == Some(*dir));
         }
     }
     assert!(rt; Dir::from_front(6) == None);

@@ -53,11 +53,11 @@ fn matched_of(sums: &[u16; 10], first: i32) -> Result<[Option<u16>; 5], Fail> {
 fn indices_of_a_pair(rt: HostRuntime) -> Result<(), Fail> {
     assert!(rt; base_of(&INNER) == [0, 0, 1, 1, 1]);
     assert!(rt; base_of(&OUTER) == [0, 0, 1, 1, 1]);
-    for (sums, want) in [
-        (&INNER, [Some(0), Some(1), Some(1), Some(0), Some(0)]),
-        (&OUTER, [Some(0), Some(0), Some(1), Some(1), Some(0)]),
+    for (sums, want) in &[
+        (INNER, [Some(0), Some(1), Some(1), Some(0), Some(0)]),
+        (OUTER, [Some(0), Some(0), Some(1), Some(1), Some(0)]),
     ] {
-        assert!(rt; matched_of(sums, 0)? == want);
+        assert!(rt; matched_of(sums, 0)? == *want);
     }
     Ok(())
 }
@@ -73,7 +73,7 @@ fn negative_disparities(rt: HostRuntime) -> Result<(), Fail> {
 #[test]
 fn disparities_beyond_the_row(rt: HostRuntime) -> Result<(), Fail> {
     // At -5 only the last column with index 1 comes back into the row, at 4 only the first with index 0.
-    for (first, want) in [
+    for (first, want) in &[
         (-1024, [None; 5]),
         (-6, [None; 5]),
         (-5, [None, None, None, None, Some(1)]),
@@ -81,7 +81,7 @@ fn disparities_beyond_the_row(rt: HostRuntime) -> Result<(), Fail> {
         (5, [None; 5]),
         (1024, [None; 5]),
     ] {
-        assert!(rt; matched_of(&INNER, first)? == want, "first {first}");
+        assert!(rt; matched_of(&INNER, *first)? == *want, "first {first}");
     }
     Ok(())
 }

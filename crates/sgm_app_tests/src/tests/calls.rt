@@ -1,16 +1,44 @@
 //! A run makes exactly the calls that it needs, one after the other.
 
 use super::fixtures::{example, words_of};
-use super::recording::{RecordingShelf, RecordingSink};
+use super::recording::{RecordingShelf, sink_of};
 use super::trips::{Call, trips_of};
 use sgm_app::run;
-use sgm_io::{MemoryShelf, MemorySink};
+use sgm_io::MemoryShelf;
 use sgm_work::OpenGate;
-use std::alloc::Global;
+use std::alloc::{AllocError, Global};
 use std::cell::RefCell;
 use std::process::Abort;
 use std::test::Fail;
 use std::thread::Threads;
+
+/// A shelf of the worked example whose calls of these names fail, and which records its calls.
+fn shelf_of<'a>(
+    alloc: Global,
+    trips: &[(&str, Call)],
+    calls: &'a RefCell<String>,
+) -> Result<RecordingShelf<'a, MemoryShelf>, AllocError> {
+    let trips = trips_of(alloc, trips)?;
+    let shelf = MemoryShelf::make(alloc, example(alloc)?, trips)?;
+    Ok(RecordingShelf { shelf, calls })
+}
+
+/// Runs a line over the worked example and notes the calls. This call of a name fails, and `out` fails at this length.
+fn note_calls<R: Threads + Sync>(
+    rt: &R,
+    alloc: Global,
+    line: &str,
+    trips: &[(&str, Call)],
+    stop: Option<usize>,
+    calls: &RefCell<String>,
+) -> Result<(), AllocError> {
+    let words = words_of(alloc, line)?;
+    let mut shelf = shelf_of(alloc, trips, calls)?;
+    let mut out = sink_of(alloc, "out", stop, calls)?;
+    let mut err = sink_of(alloc, "err", None, calls)?;
+    let _outcome = run(rt, alloc, &words, &mut shelf, &mut out, &mut err, &OpenGate);
+    Ok(())
+}
 
 /// That a run of this line over the worked example makes these calls, where this call of a name fails and `out`
 /// fails at this length.
@@ -23,25 +51,7 @@ fn assert_calls<R: Abort + Threads + Sync>(
     wanted: &str,
 ) -> Result<(), Fail> {
     let calls = RefCell::new(String::new(alloc));
-    let mut shelf = RecordingShelf {
-        shelf: MemoryShelf::make(alloc, example(alloc)?, trips_of(alloc, trips)?)?,
-        calls: &calls,
-    };
-    let mut out = RecordingSink {
-        sink: MemorySink::make(alloc, 4096, stop)?,
-        name: "out",
-        calls: &calls,
-    };
-    let mut err = RecordingSink {
-        sink: MemorySink::make(alloc, 4096, None)?,
-        name: "err",
-        calls: &calls,
-    };
-    let words = words_of(alloc, line)?;
-    let _outcome = run(rt, alloc, &words, &mut shelf, &mut out, &mut err, &OpenGate);
-    drop(shelf);
-    drop(out);
-    drop(err);
+    note_calls(rt, alloc, line, trips, stop, &calls)?;
     let Ok(made) = calls.try_borrow() else {
         return Err(Fail::new("the calls are lent"));
     };

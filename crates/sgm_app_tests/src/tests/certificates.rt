@@ -1,9 +1,7 @@
 //! What a trace prints, and how it ends else.
 
-use super::ended::{End, assert_end, shelf_of};
-use super::fixtures::{example, words_of};
-use sgm_app::run;
-use sgm_io::MemorySink;
+use super::ended::{End, assert_end, assert_ended, end_by, shelf_of};
+use super::fixtures::example;
 use sgm_work::OpenGate;
 use std::alloc::Global;
 use std::process::Abort;
@@ -70,15 +68,15 @@ fn words_and_absent_files_end_a_trace(rt: HostRuntime) -> Result<(), Fail> {
 #[test]
 fn a_certificate_that_cannot_be_written_is_begun_at_most(rt: HostRuntime) -> Result<(), Fail> {
     let alloc = rt.alloc();
+    let line = "trace l.pgm r.pgm c.json down 0 0 0";
+    let end = End {
+        status: 5,
+        out: b"least ",
+        err: b"sgm: cannot write summary\n",
+        outputs: [None; 3],
+    };
     let mut shelf = shelf_of(alloc, example(alloc)?)?;
-    let mut out = MemorySink::make(alloc, 4096, Some(6))?;
-    let mut err = MemorySink::make(alloc, 4096, None)?;
-    let words = words_of(alloc, "trace l.pgm r.pgm c.json down 0 0 0")?;
-    let outcome = run(
-        &rt, alloc, &words, &mut shelf, &mut out, &mut err, &OpenGate,
-    );
-    assert!(rt; outcome.status() == 5);
-    assert!(rt; out.taken() == b"least ".as_slice());
-    assert!(rt; err.taken() == b"sgm: cannot write summary\n".as_slice());
+    let ended = end_by(&rt, alloc, line, &mut shelf, Some(6), &OpenGate)?;
+    assert_ended(&rt, &ended, end, line);
     Ok(())
 }

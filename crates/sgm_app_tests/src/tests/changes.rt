@@ -1,7 +1,7 @@
 //! What a change writes, and how it ends else.
 
 use super::ended::{End, assert_end, assert_end_on, assert_refused};
-use super::fixtures::{HEIGHTS, file};
+use super::fixtures::{HEIGHTS, add};
 use super::trips::{Call, trips_of};
 use sgm_io::MemoryShelf;
 use std::alloc::{AllocError, Global};
@@ -27,8 +27,8 @@ fn grids(
     later: &[u8],
 ) -> Result<Vec<(String, Vec<u8>)>, AllocError> {
     let mut files = Vec::new(alloc);
-    files.push(file(alloc, "e.asc", earlier)?)?;
-    files.push(file(alloc, "l.asc", later)?)?;
+    add(alloc, &mut files, "e.asc", earlier)?;
+    add(alloc, &mut files, "l.asc", later)?;
     Ok(files)
 }
 

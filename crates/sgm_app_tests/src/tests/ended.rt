@@ -3,7 +3,7 @@
 use super::fixtures::words_of;
 use sgm_app::run;
 use sgm_io::{MemoryShelf, MemorySink, Shelf, Trip};
-use sgm_work::OpenGate;
+use sgm_work::{Gate, OpenGate};
 use std::alloc::{AllocError, Global};
 use std::process::Abort;
 use std::test::Fail;
@@ -17,6 +17,34 @@ pub struct Ended {
     pub err: MemorySink,
 }
 
+/// How the run of a line ends over a shelf, where `out` fails at the length `stop` and the workers pass the gate.
+pub fn end_by<R: Threads + Sync, S: Shelf, G: Gate + Sync>(
+    rt: &R,
+    alloc: Global,
+    line: &str,
+    shelf: &mut S,
+    stop: Option<usize>,
+    gate: &G,
+) -> Result<Ended, AllocError> {
+    let words = words_of(alloc, line)?;
+    let mut ended = Ended {
+        status: 0,
+        out: MemorySink::make(alloc, 4096, stop)?,
+        err: MemorySink::make(alloc, 4096, None)?,
+    };
+    let outcome = run(
+        rt,
+        alloc,
+        &words,
+        shelf,
+        &mut ended.out,
+        &mut ended.err,
+        gate,
+    );
+    ended.status = outcome.status();
+    Ok(ended)
+}
+
 /// How the run of a line ends over a shelf.
 pub fn end_on<R: Threads + Sync, S: Shelf>(
     rt: &R,
@@ -24,15 +52,7 @@ pub fn end_on<R: Threads + Sync, S: Shelf>(
     line: &str,
     shelf: &mut S,
 ) -> Result<Ended, AllocError> {
-    let mut out = MemorySink::make(alloc, 4096, None)?;
-    let mut err = MemorySink::make(alloc, 4096, None)?;
-    let words = words_of(alloc, line)?;
-    let outcome = run(rt, alloc, &words, shelf, &mut out, &mut err, &OpenGate);
-    Ok(Ended {
-        status: outcome.status(),
-        out,
-        err,
-    })
+    end_by(rt, alloc, line, shelf, None, &OpenGate)
 }
 
 /// A shelf in memory without trips.
@@ -71,6 +91,20 @@ pub fn held<S: Shelf>(
     }
 }
 
+/// That the name holds this, or is absent.
+pub fn assert_holds<S: Shelf>(
+    rt: &impl Abort,
+    alloc: Global,
+    shelf: &mut S,
+    name: &str,
+    wanted: Option<&[u8]>,
+    case: &str,
+) -> Result<(), Fail> {
+    let found = held(alloc, shelf, name)?;
+    assert!(rt; found.as_deref() == wanted, "{case}: {name}");
+    Ok(())
+}
+
 /// That o.pgm, o.asc and o.csv hold this, or are absent.
 pub fn assert_held<S: Shelf>(
     rt: &impl Abort,
@@ -80,16 +114,9 @@ pub fn assert_held<S: Shelf>(
     case: &str,
 ) -> Result<(), Fail> {
     let [disparities, heights, report] = outputs;
-    for (name, wanted) in [
-        ("o.pgm", disparities),
-        ("o.asc", heights),
-        ("o.csv", report),
-    ] {
-        let bytes = held(alloc, shelf, name)?;
-        let found = bytes.as_ref().map(|bytes| bytes.as_slice());
-        assert!(rt; found == wanted, "{case}: {name}");
-    }
-    Ok(())
+    assert_holds(rt, alloc, shelf, "o.pgm", disparities, case)?;
+    assert_holds(rt, alloc, shelf, "o.asc", heights, case)?;
+    assert_holds(rt, alloc, shelf, "o.csv", report, case)
 }
 
 /// That the run of a line over a shelf ends so.

@@ -24,20 +24,35 @@ pub fn words_of(alloc: Global, line: &str) -> Result<Vec<String>, AllocError> {
     Ok(words)
 }
 
-pub fn file(alloc: Global, name: &str, bytes: &[u8]) -> Result<(String, Vec<u8>), AllocError> {
-    Ok((String::from_str(alloc, name)?, bytes.to_vec(alloc)?))
+/// Adds a file of this name and these bytes.
+pub fn add(
+    alloc: Global,
+    files: &mut Vec<(String, Vec<u8>)>,
+    name: &str,
+    bytes: &[u8],
+) -> Result<(), AllocError> {
+    let name = String::from_str(alloc, name)?;
+    let bytes = bytes.to_vec(alloc)?;
+    files.push((name, bytes))?;
+    Ok(())
+}
+
+/// The parts, one after the other.
+pub fn joined(alloc: Global, parts: &[&str]) -> Result<String, AllocError> {
+    let mut text = String::new(alloc);
+    for part in parts {
+        text.push_str(part)?;
+    }
+    Ok(text)
 }
 
 /// The pair of the worked example, and a calibration of these parts.
 pub fn files_with(alloc: Global, calib: &[&str]) -> Result<Vec<(String, Vec<u8>)>, AllocError> {
-    let mut text = String::new(alloc);
-    for part in calib {
-        text.push_str(part)?;
-    }
+    let text = joined(alloc, calib)?;
     let mut files = Vec::new(alloc);
-    files.push(file(alloc, "l.pgm", LEFT)?)?;
-    files.push(file(alloc, "r.pgm", RIGHT)?)?;
-    files.push(file(alloc, "c.json", text.as_bytes())?)?;
+    add(alloc, &mut files, "l.pgm", LEFT)?;
+    add(alloc, &mut files, "r.pgm", RIGHT)?;
+    add(alloc, &mut files, "c.json", text.as_bytes())?;
     Ok(files)
 }
 

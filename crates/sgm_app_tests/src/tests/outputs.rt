@@ -1,11 +1,12 @@
 //! What a match writes.
 
 use super::ended::{End, assert_end};
-use super::fixtures::{DISPARITIES, HEIGHTS, REPORT, SUMMARY, example, file, files_with};
-use sgm_app::{Refine, texts};
+use super::fixtures::{DISPARITIES, HEIGHTS, REPORT, SUMMARY, add, example, files_with, joined};
+use sgm_app::{MadeTexts, Refine, texts};
 use sgm_example::{CALIBRATION, CAMERA, END, GRID, LEFT, RIGHT, SETTINGS};
 use sgm_work::OpenGate;
 use std::alloc::{AllocError, Global};
+use std::process::Abort;
 use std::test::Fail;
 
 /// A run that is done, with these outputs.
@@ -31,32 +32,31 @@ fn the_worked_example_is_written_whole(rt: HostRuntime) -> Result<(), Fail> {
     Ok(())
 }
 
+/// That these are the texts of the worked example.
+fn assert_texts(rt: &impl Abort, made: &MadeTexts) {
+    assert!(rt; made.disparity.as_slice() == DISPARITIES);
+    assert!(rt; made.heights.as_deref() == Some(HEIGHTS));
+    assert!(rt; made.report.as_deref() == Some(REPORT));
+    assert!(rt; made.summary.as_slice() == SUMMARY);
+}
+
 #[test]
 fn the_texts_of_the_worked_example_are_those_that_are_written(rt: HostRuntime) -> Result<(), Fail> {
     let alloc = rt.alloc();
-    let mut calib = String::new(alloc);
-    for part in CALIBRATION {
-        calib.push_str(part)?;
-    }
-    let calib = Some(calib.as_bytes());
+    let calib = joined(alloc, &CALIBRATION)?;
     match texts(
         &rt,
         alloc,
         LEFT,
         RIGHT,
-        calib,
+        Some(calib.as_bytes()),
         3,
         2,
         Refine::PLAIN,
         &OpenGate,
     ) {
         Ok(made) => {
-            assert!(rt; made.disparity.as_slice() == DISPARITIES);
-            let heights = made.heights.as_ref().map(|text| text.as_slice());
-            assert!(rt; heights == Some(HEIGHTS));
-            let report = made.report.as_ref().map(|text| text.as_slice());
-            assert!(rt; report == Some(REPORT));
-            assert!(rt; made.summary.as_slice() == SUMMARY);
+            assert_texts(&rt, &made);
             Ok(())
         }
         Err(_) => Err(Fail::new("the worked example is refused")),
@@ -75,7 +75,7 @@ fn the_calibration_asks_for_the_files(rt: HostRuntime) -> Result<(), Fail> {
 fn files_that_stood(alloc: Global) -> Result<Vec<(String, Vec<u8>)>, AllocError> {
     let mut files = files_with(alloc, &[SETTINGS, CAMERA, GRID, END])?;
     for name in ["o.pgm", "o.asc", "o.csv"] {
-        files.push(file(alloc, name, LEFT)?)?;
+        add(alloc, &mut files, name, LEFT)?;
     }
     Ok(files)
 }
@@ -91,7 +91,7 @@ fn files_that_stood_are_replaced_where_they_are_asked_for(rt: HostRuntime) -> Re
 // A pair of two pixels.
 fn two_pixels(alloc: Global) -> Result<Vec<(String, Vec<u8>)>, AllocError> {
     let mut files = Vec::new(alloc);
-    files.push(file(alloc, "two.pgm", b"P5\n2 1\n255\n\x00\xff")?)?;
+    add(alloc, &mut files, "two.pgm", b"P5\n2 1\n255\n\x00\xff")?;
     Ok(files)
 }
 

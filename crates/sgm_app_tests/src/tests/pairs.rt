@@ -1,10 +1,11 @@
 //! The generated pair: a demo, and a whole run over a larger one.
 
-use super::ended::{End, assert_end, end_on, held, shelf_of};
-use super::fixtures::files_with;
+use super::ended::{End, assert_end, assert_holds, end_on, held, shelf_of};
+use super::fixtures::{add, files_with};
 use sgm_app::pair;
 use sgm_base::{Image, Size};
 use sgm_example::{CAMERA, END, GRID, REGIONS};
+use sgm_io::MemoryShelf;
 use std::alloc::{AllocError, Global};
 use std::process::Abort;
 use std::test::Fail;
@@ -39,32 +40,54 @@ fn pgm_text(alloc: Global, image: &Image) -> Result<Vec<u8>, AllocError> {
 const SETTINGS: &str =
     "{\"version\":1,\"disparities\":{\"first\":0,\"count\":64},\n \"census\":{\"width\":9,\"height\":7},\"penalties\":{\"p1\":10,\"p2\":120}";
 
-/// The three files of a run over the generated pair of 640 x 480 and the number 7.
-fn outputs_of<R: Abort + Threads + Sync>(
+/// Adds the text of an image under the name.
+fn add_image(
+    alloc: Global,
+    files: &mut Vec<(String, Vec<u8>)>,
+    name: &str,
+    image: &Image,
+) -> Result<(), AllocError> {
+    let text = pgm_text(alloc, image)?;
+    add(alloc, files, name, &text)
+}
+
+/// Adds the generated pair of 640 x 480 and the number 7.
+fn add_pair(alloc: Global, files: &mut Vec<(String, Vec<u8>)>) -> Result<(), Fail> {
+    let size = Size::make(640, 480).ok_or("a size")?;
+    let (left, right) = pair(alloc, size, 7)?;
+    add_image(alloc, files, "left.pgm", &left)?;
+    add_image(alloc, files, "right.pgm", &right)?;
+    Ok(())
+}
+
+/// The shelf after a run over the generated pair with these options, which is done.
+fn shelf_after<R: Abort + Threads + Sync>(
     rt: &R,
     alloc: Global,
     line: &str,
-) -> Result<[Vec<u8>; 3], Fail> {
-    let size = Size::make(640, 480).ok_or("a size")?;
-    let (left, right) = pair(alloc, size, 7)?;
+) -> Result<MemoryShelf, Fail> {
     let mut files = files_with(alloc, &[SETTINGS, CAMERA, GRID, REGIONS, END])?;
-    files.push((
-        String::from_str(alloc, "left.pgm")?,
-        pgm_text(alloc, &left)?,
-    ))?;
-    files.push((
-        String::from_str(alloc, "right.pgm")?,
-        pgm_text(alloc, &right)?,
-    ))?;
+    add_pair(alloc, &mut files)?;
     let mut shelf = shelf_of(alloc, files)?;
     let ended = end_on(rt, alloc, line, &mut shelf)?;
     assert!(rt; ended.status == 0, "{line}");
     assert!(rt; ended.err.taken() == b"".as_slice(), "{line}");
     assert!(rt; ended.out.taken().ends_with(b" of 307200\n"), "{line}");
-    let disparities = held(alloc, &mut shelf, "o.pgm")?.ok_or("o.pgm is absent")?;
-    let heights = held(alloc, &mut shelf, "o.asc")?.ok_or("o.asc is absent")?;
-    let report = held(alloc, &mut shelf, "o.csv")?.ok_or("o.csv is absent")?;
-    Ok([disparities, heights, report])
+    Ok(shelf)
+}
+
+/// That two shelves hold the same files of a match.
+fn assert_same(
+    rt: &impl Abort,
+    alloc: Global,
+    one: &mut MemoryShelf,
+    other: &mut MemoryShelf,
+) -> Result<(), Fail> {
+    for name in ["o.pgm", "o.asc", "o.csv"] {
+        let bytes = held(alloc, one, name)?.ok_or("a file is absent")?;
+        assert_holds(rt, alloc, other, name, Some(&bytes), name)?;
+    }
+    Ok(())
 }
 
 /// The sample of a pixel in a text of 640 columns.
@@ -78,17 +101,9 @@ fn sample_of(text: &[u8], x: u16, y: u16) -> Option<u16> {
 // A pixel of the square, and one in each of the first four bands of the ground and in the band after
 // them, has the shift that its place is generated with, in sixteenths and 16 more, to within the half
 // pixel that an offset can be.
-#[test]
-fn strips_and_workers_change_no_byte(rt: HostRuntime) -> Result<(), Fail> {
-    let alloc = rt.alloc();
-    let line = "match left.pgm right.pgm c.json o strips=8 workers=4";
-    let [disparities, heights, report] = outputs_of(&rt, alloc, line)?;
-    let line = "match left.pgm right.pgm c.json o strips=1 workers=1";
-    let [other_disparities, other_heights, other_report] = outputs_of(&rt, alloc, line)?;
-    assert!(rt; disparities == other_disparities);
-    assert!(rt; heights == other_heights);
-    assert!(rt; report == other_report);
-    for (x, y, shift) in [
+fn assert_shifts(rt: &impl Abort, alloc: Global, shelf: &mut MemoryShelf) -> Result<(), Fail> {
+    let disparities = held(alloc, shelf, "o.pgm")?.ok_or("o.pgm is absent")?;
+    for (x, y, shift) in &[
         (128, 96, 28),
         (300, 24, 8),
         (300, 72, 12),
@@ -96,8 +111,19 @@ fn strips_and_workers_change_no_byte(rt: HostRuntime) -> Result<(), Fail> {
         (300, 168, 20),
         (300, 216, 8),
     ] {
-        let sample = sample_of(disparities.as_slice(), x, y).ok_or("o.pgm is too short")?;
-        assert!(rt; sample.abs_diff(16 * shift + 16) <= 8, "{x} {y}");
+        let sample = sample_of(&disparities, *x, *y).ok_or("o.pgm is too short")?;
+        assert!(rt; sample.abs_diff(16 * *shift + 16) <= 8, "{x} {y}");
     }
     Ok(())
+}
+
+#[test]
+fn strips_and_workers_change_no_byte(rt: HostRuntime) -> Result<(), Fail> {
+    let alloc = rt.alloc();
+    let line = "match left.pgm right.pgm c.json o strips=8 workers=4";
+    let mut shelf = shelf_after(&rt, alloc, line)?;
+    let line = "match left.pgm right.pgm c.json o strips=1 workers=1";
+    let mut other = shelf_after(&rt, alloc, line)?;
+    assert_shifts(&rt, alloc, &mut shelf)?;
+    assert_same(&rt, alloc, &mut shelf, &mut other)
 }

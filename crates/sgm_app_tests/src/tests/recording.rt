@@ -1,6 +1,7 @@
 //! Devices that record their calls.
 
-use sgm_io::{FetchError, KeepError, Shelf, Sink, SinkError};
+use sgm_io::{FetchError, KeepError, MemorySink, Shelf, Sink, SinkError};
+use std::alloc::{AllocError, Global};
 use std::cell::RefCell;
 use std::fmt::Write;
 
@@ -73,6 +74,17 @@ pub struct RecordingSink<'a, O> {
     pub sink: O,
     pub name: &'a str,
     pub calls: &'a RefCell<String>,
+}
+
+/// A sink in memory that fails at the length `stop`, and records its calls.
+pub fn sink_of<'a>(
+    alloc: Global,
+    name: &'a str,
+    stop: Option<usize>,
+    calls: &'a RefCell<String>,
+) -> Result<RecordingSink<'a, MemorySink>, AllocError> {
+    let sink = MemorySink::make(alloc, 4096, stop)?;
+    Ok(RecordingSink { sink, name, calls })
 }
 
 impl<'a, O: Sink> Sink for RecordingSink<'a, O> {

@@ -1,7 +1,7 @@
 //! Inputs that are refused, and those that can't be read: one case of each.
 
 use super::ended::assert_refused;
-use super::fixtures::{example, file, files_with};
+use super::fixtures::{add, example, files_with};
 use sgm_example::{END, GRID, SETTINGS};
 use std::alloc::{AllocError, Global};
 use std::test::Fail;
@@ -13,7 +13,7 @@ fn with_file(
     bytes: &[u8],
 ) -> Result<Vec<(String, Vec<u8>)>, AllocError> {
     let mut files = example(alloc)?;
-    files.push(file(alloc, name, bytes)?)?;
+    add(alloc, &mut files, name, bytes)?;
     Ok(files)
 }
 

@@ -1,9 +1,7 @@
 //! That a run hands on its strips and its workers, which no clause can say: the gates see it.
 
-use super::ended::shelf_of;
-use super::fixtures::{SUMMARY, example, words_of};
-use sgm_app::run;
-use sgm_io::MemorySink;
+use super::ended::{end_by, shelf_of};
+use super::fixtures::{SUMMARY, example};
 use sgm_work::Gate;
 use std::alloc::Global;
 use std::process::Abort;
@@ -19,12 +17,9 @@ fn run_example<R: Abort + Threads + Sync, G: Gate + Sync>(
     gate: &G,
 ) -> Result<(), Fail> {
     let mut shelf = shelf_of(alloc, example(alloc)?)?;
-    let mut out = MemorySink::make(alloc, 4096, None)?;
-    let mut err = MemorySink::make(alloc, 4096, None)?;
-    let words = words_of(alloc, line)?;
-    let outcome = run(rt, alloc, &words, &mut shelf, &mut out, &mut err, gate);
-    assert!(rt; outcome.status() == 0);
-    assert!(rt; out.taken() == SUMMARY);
+    let ended = end_by(rt, alloc, line, &mut shelf, None, gate)?;
+    assert!(rt; ended.status == 0);
+    assert!(rt; ended.out.taken() == SUMMARY);
     Ok(())
 }
 

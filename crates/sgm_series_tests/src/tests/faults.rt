@@ -22,20 +22,23 @@ fn a_refused_entry_leaves_the_others(rt: HostRuntime) -> Result<(), Fail> {
     )
 }
 
+/// Lists and their faults.
+const FAULTS: [(&[u8], ListFault); 2] = [
+    (
+        b"l.pgm r.pgm c.json o\nl.pgm o.pgm - p\n",
+        ListFault::Clash { entry: 1 },
+    ),
+    (
+        b"l.pgm r.pgm c.json o\nl.pgm r.pgm p\n",
+        ListFault::Line { number: 2 },
+    ),
+];
+
 #[test]
 fn a_list_with_a_fault_writes_nothing(rt: HostRuntime) -> Result<(), Fail> {
-    for (list, fault) in [
-        (
-            b"l.pgm r.pgm c.json o\nl.pgm o.pgm - p\n".as_slice(),
-            ListFault::Clash { entry: 1 },
-        ),
-        (
-            b"l.pgm r.pgm c.json o\nl.pgm r.pgm p\n",
-            ListFault::Line { number: 2 },
-        ),
-    ] {
+    for (list, fault) in &FAULTS {
         let mut ended = end_of(&rt, rt.alloc(), "list", list, &OpenGate)?;
-        assert!(rt; ended.outcome == SeriesOutcome::RefusedList(fault));
+        assert!(rt; ended.outcome == SeriesOutcome::RefusedList(*fault));
         assert!(rt; ended.out.taken() == b"".as_slice());
         assert_held(&rt, rt.alloc(), &mut ended, &[("o.pgm", None)])?;
     }

@@ -13,14 +13,14 @@ returns-in-Some c =
     let right = sides_are c.size-2.result c.args.right.now c.size-2.ensures.width c.size-2.ensures.height in
     fault_prepared c.args.left.now c.args.right.now c.args.calib.now c.size.result c.size-2.result c.in-Some.fault left right c.in-Some.ensures
 
-pub coded_image-requires : goal.coded_image-requires
-coded_image-requires c =
+pub prepare_each-requires-clause-left : goal.prepare_each-requires-clause-left
+prepare_each-requires-clause-left c =
     let left = sides_are c.size.result c.args.left.now c.size.ensures.width c.size.ensures.height in
     left_suits c.args.left.now c.args.calib.now c.size.result c.size-2.result c.left.result.now left c.left.ensures.value c.left.ensures.kept
     (passes c.size.result c.size-2.result c.args.calib.now (sym c.in_default.ensures))
 
-pub coded_image-requires-2 : goal.coded_image-requires-2
-coded_image-requires-2 c =
+pub prepare_each-requires-clause-right : goal.prepare_each-requires-clause-right
+prepare_each-requires-clause-right c =
     let right = sides_are c.size-2.result c.args.right.now c.size-2.ensures.width c.size-2.ensures.height in
     right_suits c.args.right.now c.args.calib.now c.size.result c.size-2.result c.right.result.now right c.right.ensures.value c.right.ensures.kept
     (passes c.size.result c.size-2.result c.args.calib.now (sym c.in_default.ensures))
@@ -30,25 +30,25 @@ guided_scene-requires-clause-same_width c =
     let left = sides_are c.size.result c.args.left.now c.size.ensures.width c.size.ensures.height in
     let right = sides_are c.size-2.result c.args.right.now c.size-2.ensures.width c.size-2.ensures.height in
     let pass = passes c.size.result c.size-2.result c.args.calib.now (sym c.in_default.ensures) in
-    coded_width c.args.left.now c.left.result.now c.window-window.result c.in_ok-left.left.plane c.in_ok-left.left.codes c.in_ok-left.ensures
+    coded_width c.args.left.now c.left.result.now c.window.result c.in_ok-left.left.plane c.in_ok-left.left.codes c.in_ok-left.ensures.left
     ∙ same_width c.args.left.now c.args.right.now c.size.result c.size-2.result c.args.calib.now left right pass
-    ∙ sym (coded_width c.args.right.now c.right.result.now c.window-window.result c.in_ok-right.right.plane c.in_ok-right.right.codes c.in_ok-right.ensures)
+    ∙ sym (coded_width c.args.right.now c.right.result.now c.window.result c.in_ok-left.right.plane c.in_ok-left.right.codes c.in_ok-left.ensures.right)
 
 pub guided_scene-requires-clause-same_height : goal.guided_scene-requires-clause-same_height
 guided_scene-requires-clause-same_height c =
     let left = sides_are c.size.result c.args.left.now c.size.ensures.width c.size.ensures.height in
     let right = sides_are c.size-2.result c.args.right.now c.size-2.ensures.width c.size-2.ensures.height in
     let pass = passes c.size.result c.size-2.result c.args.calib.now (sym c.in_default.ensures) in
-    coded_height c.args.left.now c.left.result.now c.window-window.result c.in_ok-left.left.plane c.in_ok-left.left.codes c.in_ok-left.ensures
+    coded_height c.args.left.now c.left.result.now c.window.result c.in_ok-left.left.plane c.in_ok-left.left.codes c.in_ok-left.ensures.left
     ∙ same_height c.args.left.now c.args.right.now c.size.result c.size-2.result c.args.calib.now left right pass
-    ∙ sym (coded_height c.args.right.now c.right.result.now c.window-window.result c.in_ok-right.right.plane c.in_ok-right.right.codes c.in_ok-right.ensures)
+    ∙ sym (coded_height c.args.right.now c.right.result.now c.window.result c.in_ok-left.right.plane c.in_ok-left.right.codes c.in_ok-left.ensures.right)
 
 pub guided_scene-requires-clause-values : goal.guided_scene-requires-clause-values
 guided_scene-requires-clause-values c =
     let image = c.args.left.now in
     let warp = c.left.result.now in
     subst (λ (n : ℕ). AtMost n c.in_ok-left.left.plane.entries) (sym c.maxval-maxval.ensures)
-    (subst (λ (p : Values). AtMost image.maxval p.entries) (sym c.in_ok-left.ensures.rectified) (values_low image warp c.samples-samples.ensures.kept))
+    (subst (λ (p : Values). AtMost image.maxval p.entries) (sym c.in_ok-left.ensures.left.rectified) (values_low image warp c.samples-samples.ensures.kept))
 
 pub returns : goal.returns
 returns c =
@@ -56,9 +56,9 @@ returns c =
     let right = sides_are c.size-2.result c.args.right.now c.size-2.ensures.width c.size-2.ensures.height in
     let scene = c.in_ok-guided_scene.field-0 in
     let a = c.in_ok-left.left in
-    let b = c.in_ok-right.right in
+    let b = c.in_ok-left.right in
     scene_prepared c.args.left.now c.args.right.now c.args.calib.now c.size.result c.size-2.result (matched_in scene) left right c.in_default.ensures
-    (matched_is c.args.left.now c.args.right.now c.args.calib.now scene a.plane b.plane a.codes b.codes c.window-window.result c.maxval-maxval.result
-    c.in_ok-guided_scene.ensures c.in_ok-left.ensures.coded c.in_ok-right.ensures.coded
-    (c.in_ok-left.ensures.rectified ∙ ap (rectified_values c.args.left.now) c.left.ensures.value) (c.in_ok-right.ensures.rectified ∙ ap (rectified_values c.args.right.now) c.right.ensures.value)
-    c.window-window.ensures c.maxval-maxval.ensures)
+    (matched_is c.args.left.now c.args.right.now c.args.calib.now scene a.plane b.plane a.codes b.codes c.window.result c.maxval-maxval.result
+    c.in_ok-guided_scene.ensures c.in_ok-left.ensures.left.coded c.in_ok-left.ensures.right.coded
+    (c.in_ok-left.ensures.left.rectified ∙ ap (rectified_values c.args.left.now) c.left.ensures.value) (c.in_ok-left.ensures.right.rectified ∙ ap (rectified_values c.args.right.now) c.right.ensures.value)
+    c.window.ensures c.maxval-maxval.ensures)
