@@ -11,7 +11,6 @@ use std::alloc::AllocError;
 /// Adds the PGM text of an image with maxval 65535 to `into`: `P5`, LF, width, space, height, LF,
 /// `65535`, LF, and the samples row by row, each as two bytes with the most significant first. Leaves
 /// `into` as it was on an error.
-#[tactic(auto, unfolding(crate::specs::Write::text_of))]
 pub fn write16(size: Size, samples: &[u16], into: &mut Vec<u8>) -> Result<(), AllocError>
     requires { length samples.now ≡ size.width * size.height }
     ensures ok { OnOk result

@@ -1,0 +1,5 @@
+use Rattle.sgm_outcome.proofs.refusals.volume_line.Goals as goal
+
+pub returns : goal.returns
+returns c =
+    rw (c.text-3.ensures.bytes, c.number-2.ensures.bytes, c.text-2.ensures.bytes, c.number.ensures.bytes, c.text.ensures.bytes, c.new.ensures)
