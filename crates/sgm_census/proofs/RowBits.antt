@@ -74,6 +74,12 @@ marks_more old mark more row k i n h inside e f =
 
 -- ---- rows of windows
 
+-- a row of a window ends within the values
+pub ends_in : (top j high width len : ℕ) → j < high → (top + high) * width ≤ len → (top + j) * width + width ≤ len
+ends_in top j high width len h e =
+    let inside : top + j + 1 ≤ top + high = omega arith in
+    omega (arith, mul-le-mul_right width inside, e)
+
 -- one row more
 pub words_more : (c j word more : ℕ) (rows : ℕ → List ℕ) → word ≡ pushed 0 (lesser c (flat_map rows (range_with_len 0 j))) → more ≡ pushed word (lesser c (rows j))
     → more ≡ pushed 0 (lesser c (flat_map rows (range_with_len 0 (j + 1))))

@@ -107,29 +107,58 @@ fn planes_and_maps_have_an_entry_for_each_pixel(rt: HostRuntime) -> Result<(), F
     Ok(())
 }
 
+/// Whether a plane of three columns and two rows has the entries above, and the first three of them in its first row.
+fn has_its_rows(plane: &Plane) -> bool {
+    plane.size().height == 2
+        && plane.row(0) == [Some(0), None, Some(2)].as_slice()
+        && plane.entries() == ENTRIES.as_slice()
+}
+
 #[test]
 fn planes_have_rows(rt: HostRuntime) -> Result<(), Fail> {
     let plane = plane_of(rt.alloc(), 3, 2)?.ok_or("a plane")?;
-    assert!(rt; plane.row(0) == [Some(0), None, Some(2)].as_slice());
-    assert!(rt; plane.entries() == ENTRIES.as_slice());
+    assert!(rt; has_its_rows(&plane));
     Ok(())
+}
+
+/// Whether a plane of two columns and three rows with the entries above has others in its middle row alone,
+/// once that is written.
+fn plane_is_written(plane: &mut Plane) -> bool {
+    if plane.size().height != 3 {
+        return false;
+    }
+    plane.row_mut(1).fill(Some(9));
+    let written = [Some(0), None, Some(9), Some(9), Some(4), Some(5)];
+    plane.entries() == written.as_slice()
+}
+
+/// Whether a blank map of two columns and three rows has entries in its last row alone, once that is written.
+fn map_is_written(map: &mut DispMap) -> bool {
+    if map.size().height != 3 || map.entries() != [None; 6].as_slice() {
+        return false;
+    }
+    map.row_mut(2).fill(Some(16));
+    let written = [None, None, None, None, Some(16), Some(16)];
+    map.entries() == written.as_slice()
+}
+
+/// [`plane_is_written`] of a plane that has these sides.
+fn a_plane_is_written(alloc: Global) -> Result<bool, Fail> {
+    let mut plane = plane_of(alloc, 2, 3)?.ok_or("a plane")?;
+    Ok(plane_is_written(&mut plane))
+}
+
+/// [`map_is_written`] of a map that has these sides.
+fn a_map_is_written(alloc: Global) -> Result<bool, Fail> {
+    let mut map = DispMap::blank(alloc, size(2, 3)?)?;
+    Ok(map_is_written(&mut map))
 }
 
 // No clause says what a plane holds once a row of it was written: that row alone is another.
 #[test]
 fn a_row_that_is_written(rt: HostRuntime) -> Result<(), Fail> {
-    let alloc = rt.alloc();
-    let mut plane = Plane::make(size(2, 3)?, ENTRIES.to_vec(alloc)?).ok_or("a plane")?;
-    assert!(rt; plane.size().height == 3);
-    plane.row_mut(1).fill(Some(9));
-    let written = [Some(0), None, Some(9), Some(9), Some(4), Some(5)];
-    assert!(rt; plane.entries() == written.as_slice());
-    let mut map = DispMap::blank(alloc, size(2, 3)?)?;
-    assert!(rt; map.entries() == [None; 6].as_slice());
-    assert!(rt; map.size().height == 3);
-    map.row_mut(2).fill(Some(16));
-    let written = [None, None, None, None, Some(16), Some(16)];
-    assert!(rt; map.entries() == written.as_slice());
+    assert!(rt; a_plane_is_written(rt.alloc())?);
+    assert!(rt; a_map_is_written(rt.alloc())?);
     Ok(())
 }
 

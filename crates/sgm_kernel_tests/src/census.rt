@@ -10,6 +10,12 @@ const LEFT: [u16; 15] = [90, 10, 50, 20, 40, 90, 10, 50, 20, 40, 90, 10, 50, 20,
 
 const RIGHT: [u16; 15] = [10, 50, 20, 40, 30, 10, 50, 20, 40, 30, 10, 50, 20, 40, 30];
 
+/// A size and a window with these sides.
+fn sides_of(size: (u32, u32), window: (u32, u32)) -> Result<(Size, Window), Fail> {
+    let size = Size::make(size.0, size.1).ok_or("size")?;
+    Ok((size, Window::make(window.0, window.1).ok_or("window")?))
+}
+
 /// The codes of a plane with these entries, row by row.
 fn codes_of_entries(
     alloc: Global,
@@ -17,8 +23,7 @@ fn codes_of_entries(
     entries: Vec<Option<u16>>,
     window: (u32, u32),
 ) -> Result<CodePlane, Fail> {
-    let size = Size::make(sides.0, sides.1).ok_or("size")?;
-    let window = Window::make(window.0, window.1).ok_or("window")?;
+    let (size, window) = sides_of(sides, window)?;
     let plane = Plane::make(size, entries).ok_or("entries")?;
     Ok(codes(alloc, &plane, window)?)
 }
@@ -161,10 +166,20 @@ fn cost_of(
     }
 }
 
+/// [`cost_of`] of the pair.
+fn pair_cost(alloc: Global, first: i32, place: (u32, u32, u32)) -> Result<Option<u8>, Fail> {
+    let (left, right) = pair(alloc)?;
+    Ok(cost_of(&left, &right, first, place))
+}
+
 #[test]
 fn costs_of_single_places(rt: HostRuntime) -> Result<(), Fail> {
+<<<<<<< HEAD
     let (left, right) = pair(rt.alloc())?;
     for (first, place, want) in &[
+=======
+    for (first, place, want) in [
+>>>>>>> 892ac698571aaf8500b9c73857c80f26297d0a53
         (0, (1, 1, 0), Some(6)),
         (0, (1, 1, 1), Some(8)),
         (0, (2, 1, 0), Some(6)),
@@ -175,7 +190,11 @@ fn costs_of_single_places(rt: HostRuntime) -> Result<(), Fail> {
         (-1, (4, 1, 0), Some(8)),
         (0, (5, 1, 0), None),
     ] {
+<<<<<<< HEAD
         assert!(rt; cost_of(&left, &right, *first, *place) == *want);
+=======
+        assert!(rt; pair_cost(rt.alloc(), first, place)? == want);
+>>>>>>> 892ac698571aaf8500b9c73857c80f26297d0a53
     }
     Ok(())
 }
@@ -222,13 +241,28 @@ fn void_pixels_have_no_code(rt: HostRuntime) -> Result<(), Fail> {
     Ok(())
 }
 
+/// Whether no pixel of a plane of five columns and three rows has a code with this window, so that each costs the
+/// most.
+fn has_no_code(alloc: Global, window: (u32, u32), most: u8) -> Result<bool, Fail> {
+    let plane = codes_of(alloc, (5, 3), &[7; 15], window)?;
+    let want = [most; 5];
+    Ok(differ_by(&plane, &plane, 0, &want)
+        && differ_by(&plane, &plane, 1, &want)
+        && differ_by(&plane, &plane, 2, &want))
+}
+
 #[test]
 fn a_window_larger_than_the_image(rt: HostRuntime) -> Result<(), Fail> {
+<<<<<<< HEAD
     for (window, most) in &[((7, 3), 20), ((3, 5), 14), ((9, 7), 62)] {
         let plane = codes_of(rt.alloc(), (5, 3), &[7; 15], *window)?;
         for y in 0..3 {
             assert!(rt; differ_by(&plane, &plane, y, &[*most; 5]));
         }
+=======
+    for (window, most) in [((7, 3), 20), ((3, 5), 14), ((9, 7), 62)] {
+        assert!(rt; has_no_code(rt.alloc(), window, most)?);
+>>>>>>> 892ac698571aaf8500b9c73857c80f26297d0a53
     }
     Ok(())
 }

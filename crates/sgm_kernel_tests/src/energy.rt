@@ -18,10 +18,14 @@ fn penalties_in_range(rt: HostRuntime) {
     }
 }
 
+/// A fixed and an adaptive pen with the same penalties.
+fn pens() -> Option<(Pen, Pen)> {
+    Some((Pen::make(10, 120)?, Pen::adaptive(10, 120)?))
+}
+
 #[test]
 fn penalties_that_follow_the_image(rt: HostRuntime) {
-    let fixed = Pen::make(10, 120).expect(&rt, "in range");
-    let adaptive = Pen::adaptive(10, 120).expect(&rt, "in range");
+    let (fixed, adaptive) = pens().expect(&rt, "in range");
     assert!(rt; !fixed.is_adaptive() && adaptive.is_adaptive());
     assert!(rt; Pen::adaptive(0, 1).is_none() && Pen::adaptive(3, 2).is_none());
     for (here, before, far) in &[
@@ -39,6 +43,18 @@ fn penalties_that_follow_the_image(rt: HostRuntime) {
     }
 }
 
+/// Whether a direction has this step and this front, and is the one that has this front.
+fn is_as_wanted(dir: Dir, offset: (i32, i32), front: Option<usize>) -> bool {
+    let found = match front {
+        Some(front) => Dir::from_front(front),
+        None => Some(dir),
+    };
+    dir.offset() == offset
+        && dir.is_level() == front.is_none()
+        && dir.front() == front
+        && found == Some(dir)
+}
+
 #[test]
 fn steps_and_fronts_of_directions(rt: HostRuntime) {
     for (dir, offset, front) in &[
@@ -51,12 +67,7 @@ fn steps_and_fronts_of_directions(rt: HostRuntime) {
         (Dir::UpRight, (1, -1), Some(4)),
         (Dir::UpLeft, (-1, -1), Some(5)),
     ] {
-        assert!(rt; dir.offset() == *offset);
-        assert!(rt; dir.is_level() == front.is_none());
-        assert!(rt; dir.front() == *front);
-        if let Some(front) = front {
-            assert!(rt; Dir::from_front(*front) == Some(*dir));
-        }
+        assert!(rt; is_as_wanted(*dir, *offset, *front));
     }
     assert!(rt; Dir::from_front(6) == None);
 }

@@ -13,7 +13,11 @@ use Rattle.sgm_energy.proofs.RayLemmas.{room, room_falls, predecessor_is, no_col
 use Rattle.sgm_energy.proofs.Penalties.{far-ordered}
 use Rattle.sgm_energy.proofs.PathLaws.{first, next}
 use Rattle.sgm_path.specs.Paths.{far_between, Follows, HasFar, HoldsRowBefore, RowFollows, StepsAt, Suits}
-use Rattle.sgm_path.proofs.Follow.{follows_same, follows_part}
+use Rattle.sgm_path.proofs.Follow.{follows_same}
+
+-- a column ends within its row
+pub column_ends : (x count len : ℕ) → 0 < count → x < len / count → x * count + count ≤ len
+column_ends x count len h l = omega (arith, mul-le (x + 1) count (len / count) count (omega arith) (omega arith))
 
 -- no penalty between two rows is below p1
 pub between-ordered : (penalties : Penalties) (guide guide_before : List (Option ℕ)) → penalties.p1 ≤ penalties.p2 → (z x : ℕ) → penalties.p1 ≤ far_between penalties guide guide_before z x
@@ -276,12 +280,12 @@ begins_from dir width count p1 far before costs x d value e v =
     subst (λ o. MatchOption o (value ≡ slice_index costs (x * count + d)) (λ z. Follows (λ a. slice_index before (z * count + a)) count p1 (far z x) (slice_index costs (x * count + d)) d value)) e v
 
 pub follows_row : (dir : Dir) (width count p1 far' p1' : ℕ) (far : ℕ → ℕ → ℕ) (prev before costs : List ℕ) (x z d value : ℕ) → p1' ≡ p1 → far' ≡ far z x → d < count
-    → Some z ≡ column_before dir width x → length prev ≡ count → ((a : ℕ) → a < count → slice_index prev a ≡ slice_index before (z * count + a))
-    → Follows (slice_index prev) (length prev) p1' far' (slice_index costs (x * count + d)) d value → StepsAt dir width count p1 far before costs x d value
-follows_row dir width count p1 far' p1' far prev before costs x z d value en ef hd e el same f =
+    → Some z ≡ column_before dir width x → ((a : ℕ) → a < count → slice_index prev a ≡ slice_index before (z * count + a))
+    → Follows (slice_index prev) count p1' far' (slice_index costs (x * count + d)) d value → StepsAt dir width count p1 far before costs x d value
+follows_row dir width count p1 far' p1' far prev before costs x z d value en ef hd e same f =
     let cost : ℕ = slice_index costs (x * count + d) in
     let row : ℕ → ℕ = λ a. slice_index before (z * count + a) in
-    let a = follows_part prev row count p1' far' cost cost d value value el hd same refl refl f in
+    let a = follows_same (slice_index prev) row count p1' far' cost cost d value value hd same refl refl f in
     let b = subst (λ n. Follows row count n far' cost d value) en a in
     let c = subst (λ n. Follows row count p1 n cost d value) ef b in
     subst (λ o. MatchOption o (value ≡ cost) (λ z. Follows (λ a. slice_index before (z * count + a)) count p1 (far z x) cost d value)) e c

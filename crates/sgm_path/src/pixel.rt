@@ -1,5 +1,5 @@
 // The values of one pixel. Its costs and its values begin at the same place of their rows.
-ghost use Rattle.std.specs.Prelude.{◌≡◌, ℕ, ◌+◌, ◌-◌, ◌^◌, ◌<◌, ◌≤◌, ◌⊎◌, length, slice_index, EachIndex, All};
+ghost use Rattle.std.specs.Prelude.{◌≡◌, ℕ, ◌+◌, ◌-◌, ◌*◌, ◌/◌, ◌^◌, ◌<◌, ◌≤◌, ◌⊎◌, length, slice_index, EachIndex, All};
 ghost use Rattle.sgm_energy.specs.Pens.{penalties_of, far_of};
 ghost use Rattle.sgm_path.specs.Paths.{Follows};
 
@@ -20,6 +20,20 @@ pub(crate) fn far_at<const ADAPTIVE: bool>(pen: Pen, here: Option<u8>, before: O
     } else {
         pen.p2()
     }
+}
+
+/// The part of a row of path values that belongs to the column `x`.
+#[inline(always)]
+pub(crate) fn column(row: &[u16], count: usize, x: usize) -> &[u16]
+    requires positive { 0 < count }
+    requires inside { x < length row.now / count }
+    requires values { All (λ v. v ≤ MAX_PATH_VALUE) row.now }
+    ensures len { length result.now ≡ count }
+    ensures each { (a : ℕ) → a < count → slice_index result.now a ≡ slice_index row.now (x * count + a) }
+    ensures values { All (λ v. v ≤ MAX_PATH_VALUE) result.now }
+{
+    let at = x * count;
+    &row[at..at + count]
 }
 
 /// The values of a pixel from those of the pixel before.
@@ -113,21 +127,30 @@ pub(crate) fn from_right(costs: &[u8], count: usize, p1: u16, far: u16, at: usiz
 
 /// The values of a pixel from those of a pixel of another row, `prev`.
 #[inline(always)]
-pub(crate) fn from_other(prev: &[u16], costs: &[u8], p1: u16, far: u16, at: usize, into: &mut [u16])
-    requires some { 0 < length prev.now }
-    requires inside { at + length prev.now ≤ length into.old }
+pub(crate) fn from_other(
+    prev: &[u16],
+    costs: &[u8],
+    count: usize,
+    p1: u16,
+    far: u16,
+    at: usize,
+    into: &mut [u16],
+)
+    requires positive { 0 < count }
+    requires prev_length { length prev.now ≡ count }
+    requires inside { at + count ≤ length into.old }
     requires same_length { length costs.now ≡ length into.old }
     requires penalties { (p1 ≤ far) × (far ≤ MAX_PENALTY) }
     requires costs { All (λ c. c ≤ MAX_COST) costs.now }
     requires values { All (λ v. v ≤ MAX_PATH_VALUE) prev.now }
-    ensures others { (k : ℕ) → (k < at) ⊎ (at + length prev.now ≤ k) → slice_index into.new k ≡ slice_index into.old k }
-    ensures each { (d : ℕ) → d < length prev.now
-        → Follows (slice_index prev.now) (length prev.now) p1 far (slice_index costs.now (at + d)) d (slice_index into.new (at + d)) }
-    ensures bound { (d : ℕ) → d < length prev.now → slice_index into.new (at + d) ≤ MAX_PATH_VALUE }
+    ensures others { (k : ℕ) → (k < at) ⊎ (at + count ≤ k) → slice_index into.new k ≡ slice_index into.old k }
+    ensures each { (d : ℕ) → d < count
+        → Follows (slice_index prev.now) count p1 far (slice_index costs.now (at + d)) d (slice_index into.new (at + d)) }
+    ensures bound { (d : ℕ) → d < count → slice_index into.new (at + d) ≤ MAX_PATH_VALUE }
 {
     let (_, rest) = into.split_at_mut(at);
-    let (here, _) = rest.split_at_mut(prev.len());
-    follow(prev, &costs[at..at + prev.len()], p1, far, here);
+    let (here, _) = rest.split_at_mut(count);
+    follow(prev, &costs[at..at + count], p1, far, here);
 }
 
 /// Adds the values of a pixel to its sums, which begin at the same place.
@@ -189,28 +212,29 @@ pub(crate) fn add_from_right(
 pub(crate) fn add_from_other(
     prev: &[u16],
     costs: &[u8],
+    count: usize,
     p1: u16,
     far: u16,
     at: usize,
     into: &mut [u16],
     sums: &mut [u16],
 )
-    requires some { 0 < length prev.now }
-    requires inside { at + length prev.now ≤ length into.old }
+    requires positive { 0 < count }
+    requires prev_length { length prev.now ≡ count }
+    requires inside { at + count ≤ length into.old }
     requires same_length { length costs.now ≡ length into.old }
     requires sums_length { length sums.old ≡ length into.old }
     requires penalties { (p1 ≤ far) × (far ≤ MAX_PENALTY) }
     requires costs { All (λ c. c ≤ MAX_COST) costs.now }
     requires values { All (λ v. v ≤ MAX_PATH_VALUE) prev.now }
-    requires room { (d : ℕ) → d < length prev.now → slice_index sums.old (at + d) + MAX_PATH_VALUE < 2 ^ 16 }
-    ensures others { (k : ℕ) → (k < at) ⊎ (at + length prev.now ≤ k) → slice_index into.new k ≡ slice_index into.old k }
-    ensures each { (d : ℕ) → d < length prev.now
-        → Follows (slice_index prev.now) (length prev.now) p1 far (slice_index costs.now (at + d)) d (slice_index into.new (at + d)) }
-    ensures bound { (d : ℕ) → d < length prev.now → slice_index into.new (at + d) ≤ MAX_PATH_VALUE }
-    ensures other_sums { (k : ℕ) → (k < at) ⊎ (at + length prev.now ≤ k) → slice_index sums.new k ≡ slice_index sums.old k }
-    ensures added { (d : ℕ) → d < length prev.now → slice_index sums.new (at + d) ≡ slice_index sums.old (at + d) + slice_index into.new (at + d) }
+    requires room { (d : ℕ) → d < count → slice_index sums.old (at + d) + MAX_PATH_VALUE < 2 ^ 16 }
+    ensures others { (k : ℕ) → (k < at) ⊎ (at + count ≤ k) → slice_index into.new k ≡ slice_index into.old k }
+    ensures each { (d : ℕ) → d < count
+        → Follows (slice_index prev.now) count p1 far (slice_index costs.now (at + d)) d (slice_index into.new (at + d)) }
+    ensures bound { (d : ℕ) → d < count → slice_index into.new (at + d) ≤ MAX_PATH_VALUE }
+    ensures other_sums { (k : ℕ) → (k < at) ⊎ (at + count ≤ k) → slice_index sums.new k ≡ slice_index sums.old k }
+    ensures added { (d : ℕ) → d < count → slice_index sums.new (at + d) ≡ slice_index sums.old (at + d) + slice_index into.new (at + d) }
 {
-    let count = prev.len();
     let (_, rest) = into.split_at_mut(at);
     let (here, _) = rest.split_at_mut(count);
     let (_, more) = sums.split_at_mut(at);

@@ -6,7 +6,7 @@ ghost use Rattle.sgm_energy.specs.Energies.{path_value};
 ghost use Rattle.sgm_energy.specs.Rows.{HoldsRow};
 ghost use Rattle.sgm_path.specs.Paths.{far_between, HoldsRowBefore, RowFollows, StepsAt, Suits};
 
-use crate::pixel::{add_at, add_from_other, begin_at, far_at, from_other};
+use crate::pixel::{add_at, add_from_other, begin_at, column, far_at, from_other};
 use sgm_base::{MAX_COST, MAX_COUNT, MAX_PATH_VALUE};
 use sgm_energy::{Dir, Pen};
 use sgm_lanes::add;
@@ -58,9 +58,9 @@ fn step_at<const ADAPTIVE: bool>(
     let at = x * count;
     match source(dir, width, x) {
         Some(z) => {
-            let from = z * count;
+            let prev = column(before, count, z);
             let far = far_at::<ADAPTIVE>(pen, guide[x], guide_before[z]);
-            from_other(&before[from..from + count], costs, pen.p1(), far, at, into);
+            from_other(prev, costs, count, pen.p1(), far, at, into);
         }
         None => begin_at(costs, count, at, into),
     }
@@ -104,10 +104,10 @@ fn add_step_at<const ADAPTIVE: bool>(
     let at = x * count;
     match source(dir, width, x) {
         Some(z) => {
-            let prev = &before[z * count..z * count + count];
+            let prev = column(before, count, z);
             let (here, there) = (guide[x], guide_before[z]);
             let far = far_at::<ADAPTIVE>(pen, here, there);
-            add_from_other(prev, costs, pen.p1(), far, at, into, sums);
+            add_from_other(prev, costs, count, pen.p1(), far, at, into, sums);
         }
         None => {
             begin_at(costs, count, at, into);

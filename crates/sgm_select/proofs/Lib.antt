@@ -6,5 +6,6 @@ pub mod LeastIndex
 pub mod Offsets
 pub mod Rows
 pub mod Selected
+pub mod Signs
 pub mod Strips
 pub mod MatchLemmas

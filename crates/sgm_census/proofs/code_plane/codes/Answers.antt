@@ -1,7 +1,8 @@
-use Rattle.std.proofs.Common.{ℕ, List, Bool, ap, ◌∙◌, arith}
+use Rattle.std.proofs.Common.{ℕ, ◌^◌, ◌<◌, List, Bool, ap, ◌∙◌, arith, get_or, length, subst, sym}
 use Rattle.std.proofs.lemmas.List.{with_items_is}
 use Rattle.std.specs.Vec.{with_items}
-use Rattle.sgm_census.specs.Windows.{greatest_of}
+use Rattle.sgm_base.specs.Sides.{IsSide}
+use Rattle.sgm_census.specs.Windows.{WindowSides, IsWindow, greatest_of}
 use Rattle.sgm_census.proofs.CodeRows.{marks_unset, zeros_small}
 use Rattle.sgm_census.specs.Packed.{codes_in}
 use Rattle.sgm_census.proofs.CodeLists.{codes_in-is}
@@ -22,3 +23,17 @@ returns c =
     ap (λ (us : List ℕ). codes_in width height c.args.window us (with_items c.in_ok-present.present c.code_rows.new.present).items) (with_items_is c.in_ok-words.words c.code_rows.new.words (omega arith))
     ∙ ap (λ (us : List Bool). codes_in width height c.args.window c.code_rows.new.words us) (with_items_is c.in_ok-present.present c.code_rows.new.present (omega arith))
     ∙ codes_in-is c.args.plane.now c.args.window width height c.code_rows.new.words c.code_rows.new.present c.size-size.ensures.width c.size-size.ensures.height (omega (arith, c.size-size.ensures.kept.width_in_range)) c.code_rows.ensures.each
+
+pub invariant_of-result : goal.invariant_of-result
+invariant_of-result c =
+    let size = c.size-size in
+    let words_are = with_items_is c.in_ok-words.words c.code_rows.new.words (omega arith) in
+    let present_are = with_items_is c.in_ok-present.present c.code_rows.new.present (omega arith) in
+    record {
+      width_in_range = subst IsSide (sym size.ensures.width) size.ensures.kept.width_in_range;
+      height_in_range = subst IsSide (sym size.ensures.height) size.ensures.kept.height_in_range;
+      window_in_range = subst (λ (v : WindowSides). IsWindow v.width v.height) c.window.view_is c.window.invariant;
+      words_full = ap length words_are ∙ omega (arith, c.in_ok-words.ensures.len, c.pixels.ensures.pixels);
+      present_full = ap length present_are ∙ omega (arith, c.in_ok-present.ensures.len, c.pixels-2.ensures.pixels);
+      within = λ k. subst (λ (us : List ℕ). get_or us k 0 < 2 ^ greatest_of c.args.window) (sym words_are) (c.code_rows.ensures.within k);
+    }

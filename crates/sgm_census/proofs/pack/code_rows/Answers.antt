@@ -1,4 +1,4 @@
-use Rattle.std.proofs.Common.{◌≡◌, ◌+◌, ◌-◌, ◌*◌, ◌/◌, ◌^◌, ◌<◌, ◌≤◌, ◌++◌, false, ap, ◌∙◌, arith, drop, inl, inr, length, subst, sym}
+use Rattle.std.proofs.Common.{is_some, ◌≡◌, ◌+◌, ◌-◌, ◌*◌, ◌/◌, ◌^◌, ◌<◌, ◌≤◌, ◌++◌, false, ap, ◌∙◌, arith, drop, inl, inr, length, subst, sym}
 use Rattle.std.proofs.Math.Nat.{mul-le-mul_right}
 use Rattle.std.proofs.lemmas.Bool.{cases_lt}
 use Rattle.std.proofs.lemmas.List.{get_or_past, length-map}
@@ -86,3 +86,8 @@ returns-clause-each c =
     let height : c.height.inside.height ≡ plane.height = ap (λ (s : Sides). s.height) c.height.view_is ∙ c.size-2.ensures.height in
     let high : c.window.inside.height ≡ c.args.window.height = ap (λ (s : WindowSides). s.height) c.window.view_is in
     rows_all plane c.args.window c.loop-y.words c.loop-y.present c.loop-y.y range (omega (arith, c.saturating_sub-y-end.ensures)) c.loop-y.invariant
+
+pub code_row-requires-clause-there_length : goal.code_row-requires-clause-there_length
+code_row-requires-clause-there_length c =
+    let entries = c.args.plane.now.entries in
+    ap length c.requires.there ∙ length-map entries is_some ∙ sym (ap length c.requires.values ∙ length-map entries plain)

@@ -1,7 +1,7 @@
-use Rattle.std.proofs.Common.{◌≡◌, ℕ, ◌+◌, ◌-◌, ◌*◌, ◌&&◌, Bool, List, ap, ◌∙◌, arith, drop, false, get_or, take}
+use Rattle.std.proofs.Common.{◌≡◌, ℕ, ◌+◌, ◌-◌, ◌*◌, ◌&&◌, Bool, List, ap, ◌∙◌, arith, drop, false, get_or, length, take}
 use Rattle.std.specs.List.{list_all}
 use Rattle.sgm_census.specs.Windows.{WindowSides}
-use Rattle.sgm_census.proofs.RowBits.{marks_rows_more}
+use Rattle.sgm_census.proofs.RowBits.{ends_in, marks_rows_more}
 use Rattle.sgm_census.proofs.pack.window_marks.Goals as goal
 
 pub loop-j-preserved : goal.loop-j-preserved
@@ -19,3 +19,18 @@ loop-j-preserved c = λ k h.
     (c.keep_row.ensures k h
     ∙ ap (λ n. mark && list_all (λ t. t) (take inside (drop k (take n (drop from there))))) whole
     ∙ ap (λ n. mark && list_all (λ t. t) (take n (drop k (take width (drop from there))))) wide)
+
+pub overflow_mul-from : goal.overflow_mul-from
+overflow_mul-from c =
+    let high : c.window.inside.height ≡ c.args.window.height = ap (λ (s : WindowSides). s.height) c.window.view_is in
+    omega (arith, ends_in c.args.top c.loop-j.j c.args.window.height c.args.width (length c.args.there.now) (omega (arith, high, c.loop-j-test.true)) c.requires.rows)
+
+pub overflow_add-from-in-loop-j : goal.overflow_add-from-in-loop-j
+overflow_add-from-in-loop-j c =
+    let high : c.window.inside.height ≡ c.args.window.height = ap (λ (s : WindowSides). s.height) c.window.view_is in
+    omega (arith, ends_in c.args.top c.loop-j.j c.args.window.height c.args.width (length c.args.there.now) (omega (arith, high, c.loop-j-test.true)) c.requires.rows)
+
+pub slice_bounds-keep_row-end : goal.slice_bounds-keep_row-end
+slice_bounds-keep_row-end c =
+    let high : c.window.inside.height ≡ c.args.window.height = ap (λ (s : WindowSides). s.height) c.window.view_is in
+    omega (arith, ends_in c.args.top c.loop-j.j c.args.window.height c.args.width (length c.args.there.now) (omega (arith, high, c.loop-j-test.true)) c.requires.rows)

@@ -1,17 +1,11 @@
-use Rattle.std.proofs.Common.{◌≡◌, ℕ, ◌+◌, ◌-◌, ◌*◌, ◌/◌, ◌^◌, ◌<◌, ◌≤◌, List, ap, ◌∙◌, arith, drop, length, slice_index, subst, sym, take}
-use Rattle.std.proofs.Math.Nat.{mul-le-mul_right}
+use Rattle.std.proofs.Common.{◌≡◌, ℕ, ◌+◌, ◌-◌, ◌*◌, ◌/◌, ◌^◌, ◌≤◌, List, ap, ◌∙◌, arith, drop, length, slice_index, subst, sym, take}
 use Rattle.std.proofs.lemmas.List.{length-take}
+use Rattle.std.specs.List.{flat_map, range_with_len}
 use Rattle.sgm_census.specs.Windows.{WindowSides}
 use Rattle.sgm_census.specs.Packed.{centre_in, lesser, pushed}
 use Rattle.sgm_census.proofs.CodeLists.{part_at}
-use Rattle.sgm_census.proofs.RowBits.{words_more, words_room, words_small}
+use Rattle.sgm_census.proofs.RowBits.{ends_in, words_more, words_room, words_small}
 use Rattle.sgm_census.proofs.pack.window_words.Goals as goal
-
--- a row of a window ends within the values
-ends_in : (top j high width len : ℕ) → j < high → (top + high) * width ≤ len → (top + j) * width + width ≤ len
-ends_in top j high width len h e =
-    let inside : top + j + 1 ≤ top + high = omega arith in
-    omega (arith, mul-le-mul_right width inside, e)
 
 pub overflow_mul-centre : goal.overflow_mul-centre
 overflow_mul-centre c =
@@ -71,3 +65,16 @@ loop-j-preserved c = λ k h.
     ∙ ap (λ v. pushed word (lesser v (take w (drop k (take (from + width - from) (drop from values)))))) (part_at values centre (centre + len - centre) k 0 (omega arith) ∙ ap (slice_index values) place)
     ∙ ap (λ n. pushed word (lesser at (take w (drop k (take n (drop from values)))))) whole
     ∙ ap (λ n. pushed word (lesser at (take n (drop k (take width (drop from values)))))) wide)
+
+pub offset_bounds-values-from : goal.offset_bounds-values-from
+offset_bounds-values-from c =
+    let high : c.window.inside.height ≡ c.args.window.height = ap (λ (s : WindowSides). s.height) c.window.view_is in
+    omega (arith, ends_in c.args.top c.loop-j.j c.args.window.height c.args.width (length c.args.values.now) (omega (arith, high, c.loop-j-test.true)) c.requires.rows)
+
+pub returns : goal.returns
+returns c = λ k h.
+    let high : c.window.inside.height ≡ c.args.window.height = ap (λ (s : WindowSides). s.height) c.window.view_is in
+    let j : c.loop-j.j ≡ c.args.window.height = omega (arith, high, c.loop-j-test.false, c.loop-j.auto.j-end) in
+    subst (λ n. slice_index c.loop-j.words k ≡ pushed 0 (lesser (centre_in c.args.width c.args.values.now c.args.window k c.args.top)
+    (flat_map (λ j. take c.args.window.width (drop k (take c.args.width (drop ((c.args.top + j) * c.args.width) c.args.values.now)))) (range_with_len 0 n))))
+    j (c.loop-j.invariant k h)

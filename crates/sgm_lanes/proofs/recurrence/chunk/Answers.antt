@@ -1,4 +1,5 @@
-use Rattle.std.proofs.Common.{◌+◌, arith}
+use Rattle.std.proofs.Common.{◌+◌, arith, rules}
+use Rattle.sgm_terms.specs.Step.{carried}
 use Rattle.sgm_lanes.specs.declared.recurrence.TheConstants.{ABSENT}
 use Rattle.sgm_lanes.proofs.Pads.{left_low, right_low}
 use Rattle.sgm_lanes.proofs.recurrence.chunk.Goals as goal
@@ -22,3 +23,7 @@ minus-requires-clause-fits c i lt =
       c.requires.right i lt,
       right_low prev c.args.floor ABSENT (c.args.at + i) c.requires.can.floor_least (omega arith),
     )
+
+pub returns-clause-each : goal.returns-clause-each
+unfolding carried
+returns-clause-each c = search rules

@@ -1,5 +1,5 @@
 use Rattle.std.proofs.Common.{ℕ, ◌+◌, ◌-◌, ◌<◌, ◌≤◌, ◌∙◌, sym, ap, arith, slice_index, length, take, drop}
-use Rattle.std.proofs.lemmas.List.Elements.{All-from_get_or}
+use Rattle.std.proofs.lemmas.List.Elements.{All-drop, All-from_get_or, All-take}
 use Rattle.std.proofs.lemmas.List.{length-take, get_or-take, get_or-drop}
 use Rattle.sgm_path.proofs.Follow.{follows_part, mid_at, mid_at_left, mid_others, mid_others_left, mid_was, part_at}
 use Rattle.sgm_path.proofs.pixel.add_from_right.Goals as goal
@@ -78,3 +78,6 @@ returns-clause-other_sums c k h =
     c.split_at_mut-more.ensures.front_len
     (omega (arith, c.add_follow.auto.sums, c.split_at_mut-here_sums.ensures.front_len))
     h
+
+pub add_follow-requires-clause-costs : goal.add_follow-requires-clause-costs
+add_follow-requires-clause-costs c = All-take (λ v. v ≤ 62) (c.args.at + c.args.count - c.args.at) _ (All-drop (λ v. v ≤ 62) c.args.at _ c.requires.costs)

@@ -1,5 +1,6 @@
-use Rattle.std.proofs.Common.{ℕ, ◌+◌, ◌-◌, ◌<◌, ◌∙◌, sym, ap, arith, slice_index, length, take, drop}
+use Rattle.std.proofs.Common.{ℕ, ◌+◌, ◌-◌, ◌<◌, ◌≤◌, ◌∙◌, sym, ap, arith, slice_index, length, take, drop}
 use Rattle.std.proofs.lemmas.List.{length-take, length-drop, get_or-take}
+use Rattle.std.proofs.lemmas.List.Elements.{All-drop, All-from_get_or, All-take}
 use Rattle.sgm_path.proofs.Follow.{follows_part, mid_at, mid_others, part_at}
 use Rattle.sgm_path.proofs.pixel.from_left.Goals as goal
 
@@ -35,3 +36,20 @@ returns-clause-others c k h =
     c.split_at_mut-done.ensures.front_len
     (omega (arith, c.follow.auto.into, c.split_at_mut-here.ensures.front_len))
     h
+
+pub follow-requires-clause-costs : goal.follow-requires-clause-costs
+follow-requires-clause-costs c = All-take (λ v. v ≤ 62) (c.args.at + c.args.count - c.args.at) _ (All-drop (λ v. v ≤ 62) c.args.at _ c.requires.costs)
+
+pub follow-requires-clause-values : goal.follow-requires-clause-values
+follow-requires-clause-values c =
+    let done = c.split_at_mut-done.result.0.now in
+    let first : ℕ = c.args.at - c.args.count in
+    All-from_get_or (λ v. v ≤ 4062) (take (length done - first) (drop first done)) 0 (λ k h.
+    let few : k < length done - first = omega (arith, length-take (length done - first) (drop first done)) in
+    omega (
+      arith,
+      part_at done first (length done - first) k few,
+      ap (λ l. slice_index l (first + k)) c.split_at_mut-done.ensures.front,
+      get_or-take c.args.at c.args.into.now (first + k) 0 (omega (arith, few, c.split_at_mut-done.ensures.front_len)),
+      c.requires.values (first + k) (omega (arith, few, c.split_at_mut-done.ensures.front_len)),
+    ))

@@ -1,5 +1,6 @@
-use Rattle.std.proofs.Common.{ℕ, ◌+◌, ◌-◌, ◌<◌, ◌∙◌, sym, ap, arith, slice_index, length, take}
+use Rattle.std.proofs.Common.{ℕ, ◌+◌, ◌-◌, ◌<◌, ◌≤◌, ◌∙◌, sym, ap, arith, slice_index, length, take}
 use Rattle.std.proofs.lemmas.List.{length-take, get_or-take, get_or-drop}
+use Rattle.std.proofs.lemmas.List.Elements.{All-drop, All-from_get_or, All-take}
 use Rattle.sgm_path.proofs.Follow.{follows_part, mid_at_left, mid_others_left, part_at}
 use Rattle.sgm_path.proofs.pixel.from_right.Goals as goal
 
@@ -35,3 +36,21 @@ returns-clause-others c k h =
     c.split_at_mut-here.ensures.front_len
     (omega (arith, c.follow.auto.into, c.split_at_mut-here.ensures.back_len, c.split_at_mut-front.ensures.front_len))
     h
+
+pub follow-requires-clause-costs : goal.follow-requires-clause-costs
+follow-requires-clause-costs c = All-take (λ v. v ≤ 62) (c.args.at + c.args.count - c.args.at) _ (All-drop (λ v. v ≤ 62) c.args.at _ c.requires.costs)
+
+pub follow-requires-clause-values : goal.follow-requires-clause-values
+follow-requires-clause-values c =
+    let done = c.split_at_mut-front.result.1.now in
+    let first : ℕ = c.args.at + c.args.count in
+    All-from_get_or (λ v. v ≤ 4062) (take c.args.count done) 0 (λ k h.
+    let few : k < c.args.count = omega (arith, length-take c.args.count done) in
+    let inside : first + k < length c.args.into.now = omega arith in
+    omega (
+      arith,
+      get_or-take c.args.count done k 0 few,
+      ap (λ l. slice_index l k) c.split_at_mut-front.ensures.back,
+      get_or-drop first c.args.into.now k 0,
+      c.requires.values (first + k) (omega arith) inside,
+    ))

@@ -1,9 +1,9 @@
 use Rattle.std.proofs.Common.{◌≡◌, ◌≤◌, ℕ, ◌∙◌, sym, ap, subst, arith, slice_index, None, zero-add}
 use Rattle.std.proofs.lemmas.List.Elements.{All-from_get_or}
-use Rattle.std.specs.Prelude.{MatchOption, IfNone, EachIndex}
+use Rattle.std.specs.Prelude.{MatchOption, IfNone, IfSome, EachIndex}
 use Rattle.sgm_energy.specs.Pens.{penalties_of}
 use Rattle.sgm_energy.specs.Rays.{row_before}
-use Rattle.sgm_path.specs.Paths.{far_between, HoldsRowBefore}
+use Rattle.sgm_path.specs.Paths.{far_between, HoldsRowBefore, RowFollows}
 use Rattle.sgm_path.proofs.PathRows.{between-ordered, paths_from, paths_alone}
 use Rattle.sgm_path.proofs.step.add_step_row.Goals as goal
 
@@ -47,3 +47,15 @@ returns-in-None-clause-paths c g y s w =
     let e = subst (λ o. MatchOption o (row_before dir g.height y ≡ None) (λ r. HoldsRowBefore g dir y far r.now)) c.in-None.is w in
     paths_alone g dir y pen.p1 c.args.count c.args.costs.now c.begin_at.new.into s (omega (arith, c.begin_at.auto.into)) e
     (λ k h. ap (slice_index c.begin_at.new.into) (sym (zero-add k)) ∙ c.begin_at.ensures.each k (omega (arith, c.begin_at.auto.into)) ∙ ap (slice_index c.args.costs.now) (zero-add k))
+
+pub returns-then-is_adaptive-clause-each : goal.returns-then-is_adaptive-clause-each
+returns-then-is_adaptive-clause-each c =
+    let pen = penalties_of c.args.pen in
+    let far : ℕ → ℕ → ℕ = far_between pen c.args.guide.now c.args.guide_before.now in
+    subst (λ o. IfSome o (λ b. RowFollows c.args.dir c.args.count pen.p1 far b.now c.args.costs.now c.add_step_from.new.into)) (sym c.in-Some.is) c.add_step_from.ensures.each
+
+pub returns-else-is_adaptive-clause-each : goal.returns-else-is_adaptive-clause-each
+returns-else-is_adaptive-clause-each c =
+    let pen = penalties_of c.args.pen in
+    let far : ℕ → ℕ → ℕ = far_between pen c.args.guide.now c.args.guide_before.now in
+    subst (λ o. IfSome o (λ b. RowFollows c.args.dir c.args.count pen.p1 far b.now c.args.costs.now c.add_step_fixed.new.into)) (sym c.in-Some.is) c.add_step_fixed.ensures.each
