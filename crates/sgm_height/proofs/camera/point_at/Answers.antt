@@ -42,3 +42,15 @@ returns-clause-exact c =
     high
     (shifted c.args.shift c.ranges.shift c.if-shift-le0.false) (at_least c.scaled-depth.result c.args.camera.now.near depth near c.if-depth-camera.false)
     (at_least c.args.camera.now.far c.scaled-depth.result far depth c.if-depth-camera-2.false)
+
+pub returns-clause-height : goal.returns-clause-height
+returns-clause-height c = (omega (arith, ints), omega (arith, ints))
+
+pub overflow_sub-camera : goal.overflow_sub-camera
+overflow_sub-camera c = fits_within _ (omega (arith, ints), omega (arith, ints))
+
+pub scaled-east-requires-clause-offset : goal.scaled-east-requires-clause-offset
+scaled-east-requires-clause-offset c = (omega (arith, ints), omega (arith, ints))
+
+pub scaled-north-requires-clause-offset : goal.scaled-north-requires-clause-offset
+scaled-north-requires-clause-offset c = (omega (arith, ints), omega (arith, ints))
