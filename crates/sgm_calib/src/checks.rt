@@ -1,6 +1,6 @@
 //! The checks of one key, and of one object.
 
-ghost use Rattle.std.specs.Prelude.{◌≡◌, ◌==◌, ◌&&◌, ◌+◌, ◌<◌, ◌≤ℤ◌, pos, unsigned_abs, map, All, IfOk, IfErr, OnOk, IsTrue, Some, None, Ok, Err, string_bytes, option_map, IsSome};
+ghost use Rattle.std.specs.Prelude.{◌≡◌, ◌==◌, ◌&&◌, ◌+◌, ◌<◌, ◌≤ℤ◌, unsigned_abs, map, All, IfOk, IfErr, OnOk, IsTrue, Some, None, Ok, Err, string_bytes, option_map, IsSome};
 ghost use Rattle.std.specs.BTreeMap.{keys};
 ghost use Rattle.std.specs.List.{list_all, list_any};
 ghost use Rattle.std.specs.Str.{bytes_eq};
