@@ -19,11 +19,13 @@ use Rattle.sgm_calib.specs.declared.keys.CalibFault.TheVariants.{Range}
 use Rattle.sgm_calib.specs.declared.keys.Key.{Key}
 use Rattle.sgm_calib.specs.declared.place.Place.{Place}
 use Rattle.sgm_calib.specs.declared.place.TheConstants.{PLAIN}
-use Rattle.sgm_calib.specs.Rows.{Row, whole, key_at, number_of, least, greatest, is_in_range}
+use Rattle.sgm_calib.specs.Rows.{Row, whole, key_at, number_of, IsCount, least, greatest, is_in_range}
 use Rattle.sgm_calib.specs.Checks.{or_wrong_type, or_missing, or_out_of_range, number_in, key_fault, keys_fault}
 use Rattle.sgm_rectify.specs.declared.limits.TheConstants.{MIN_STEP, MAX_STEP, MIN_NODE_COUNT, MAX_NODE_COUNT}
-use Rattle.sgm_grid.specs.declared.limits.TheConstants.{MAX_HEIGHT}
+use Rattle.sgm_grid.specs.declared.limits.TheConstants.{MAX_HEIGHT, MAX_CELL, MAX_PLACE}
+use Rattle.sgm_base.specs.declared.limits.TheConstants.{MAX_GRID_LINES}
 use Rattle.sgm_calib.specs.WarpKeys.{shape_keys}
+use Rattle.sgm_calib.specs.RegionKeys.{region_number_keys}
 use Rattle.sgm_calib.specs.Table as table
 use Rattle.sgm_calib.specs.Table.{camera_of, grid_of}
 
@@ -95,28 +97,7 @@ pub count_from_to : (z : ℤ) (least most : ℕ) → IsFromTo (pos least) (pos m
 count_from_to (pos a) least most (low, high) = (first_of (omega (arith, ints, low), grind (arith, ints, low)), first_of (omega (arith, ints, high), grind (arith, ints, high)))
 count_from_to (negsuc a) least most (low, high) = absurd (first_of (omega (arith, ints, low), grind (arith, ints, low)))
 
--- a grid whose keys have no fault keeps its ranges
-pub grid_kept : (d : Data) → keys_fault PLAIN d table.grid_keys ≡ None → IsGridSpec (grid_of d)
-unfolding grid_of
-grid_kept d right =
-    let west = parted PLAIN d table.west (table.south ∷ table.cell ∷ table.grid_cols ∷ table.grid_rows ∷ []) right in
-    let south = parted PLAIN d table.south (table.cell ∷ table.grid_cols ∷ table.grid_rows ∷ []) west.1 in
-    let cell = parted PLAIN d table.cell (table.grid_cols ∷ table.grid_rows ∷ []) south.1 in
-    let cols = parted PLAIN d table.grid_cols (table.grid_rows ∷ []) cell.1 in
-    let rows = parted PLAIN d table.grid_rows ([]) cols.1 in
-    record {
-      west_in_range = from_to PLAIN d table.west west.0;
-      south_in_range = from_to PLAIN d table.south south.0;
-      cell_in_range = from_to PLAIN d table.cell cell.0;
-      cols_in_range = count_from_to (number_of table.grid_cols d) 1 4096 (from_to PLAIN d table.grid_cols cols.0);
-      rows_in_range = count_from_to (number_of table.grid_rows d) 1 4096 (from_to PLAIN d table.grid_rows rows.0);
-    }
-
 -- ---- numbers that aren't negative
-
--- a number that a count of 32 bits holds
-abbrev pub IsCount : ℤ → Type 0
-IsCount z = IsFromTo (pos 0) (pos 4294967295) z
 
 counted : (z : ℤ) (n : ℕ) → pos 0 ≤ℤ z → z ≤ℤ pos n → n ≤ 4294967295 → IsCount z
 counted (pos a) n low high small = (low, first_of (omega (arith, ints, high, small), grind (arith, ints, high, small)))
@@ -131,18 +112,46 @@ less_some (pos a) (pos b) n low some high = first_of (omega (arith, ints, high),
 less_some (negsuc a) first n low some high = absurd (first_of (omega (arith, ints, low), grind (arith, ints, low)))
 less_some (pos a) (negsuc b) n low some high = absurd (first_of (omega (arith, ints, some), grind (arith, ints, some)))
 
--- the columns and the rows of a grid whose keys have no fault
-pub grid_lines : (d : Data) → keys_fault PLAIN d table.grid_keys ≡ None
-    → IsCount (number_of table.grid_cols d) × IsCount (number_of table.grid_rows d)
-grid_lines d right =
+-- the ranges of a grid whose keys have no fault
+pub record Gridded (d : Data) : Type 0 where
+  pub west : IsFromTo (neg_ℤ MAX_PLACE) MAX_PLACE (number_of table.west d)
+  pub south : IsFromTo (neg_ℤ MAX_PLACE) MAX_PLACE (number_of table.south d)
+  pub cell : IsFromTo (pos 1) MAX_CELL (number_of table.cell d)
+  pub cols : IsFromTo (pos 1) (pos MAX_GRID_LINES) (number_of table.grid_cols d)
+  pub rows : IsFromTo (pos 1) (pos MAX_GRID_LINES) (number_of table.grid_rows d)
+
+gridded : (d : Data) → keys_fault PLAIN d table.grid_keys ≡ None → Gridded d
+gridded d right =
     let west = parted PLAIN d table.west (table.south ∷ table.cell ∷ table.grid_cols ∷ table.grid_rows ∷ []) right in
     let south = parted PLAIN d table.south (table.cell ∷ table.grid_cols ∷ table.grid_rows ∷ []) west.1 in
     let cell = parted PLAIN d table.cell (table.grid_cols ∷ table.grid_rows ∷ []) south.1 in
     let cols = parted PLAIN d table.grid_cols (table.grid_rows ∷ []) cell.1 in
     let rows = parted PLAIN d table.grid_rows ([]) cols.1 in
-    let wide = from_to PLAIN d table.grid_cols cols.0 in
-    let high = from_to PLAIN d table.grid_rows rows.0 in
-    (counted _ 4096 (from_some _ 1 wide.0) wide.1 (lit≤ tt), counted _ 4096 (from_some _ 1 high.0) high.1 (lit≤ tt))
+    record {
+      west = from_to PLAIN d table.west west.0;
+      south = from_to PLAIN d table.south south.0;
+      cell = from_to PLAIN d table.cell cell.0;
+      cols = from_to PLAIN d table.grid_cols cols.0;
+      rows = from_to PLAIN d table.grid_rows rows.0;
+    }
+
+pub grid_kept : (d : Data) → keys_fault PLAIN d table.grid_keys ≡ None → IsGridSpec (grid_of d)
+unfolding grid_of
+grid_kept d right =
+    let g = gridded d right in
+    record {
+      west_in_range = g.west;
+      south_in_range = g.south;
+      cell_in_range = g.cell;
+      cols_in_range = count_from_to (number_of table.grid_cols d) 1 MAX_GRID_LINES g.cols;
+      rows_in_range = count_from_to (number_of table.grid_rows d) 1 MAX_GRID_LINES g.rows;
+    }
+
+pub grid_lines : (d : Data) → keys_fault PLAIN d table.grid_keys ≡ None
+    → IsCount (number_of table.grid_cols d) × IsCount (number_of table.grid_rows d)
+grid_lines d right =
+    let g = gridded d right in
+    (counted _ MAX_GRID_LINES (from_some _ 1 g.cols.0) g.cols.1 (lit≤ tt), counted _ MAX_GRID_LINES (from_some _ 1 g.rows.0) g.rows.1 (lit≤ tt))
 
 -- the step, the columns and the rows of a mesh whose keys have no fault
 pub record Meshed (d : Data) : Type 0 where
@@ -165,10 +174,6 @@ meshed place d right =
 pub count_between : (z : ℤ) (least most : ℕ) → IsFromTo (pos least) (pos most) z → most ≤ 4294967295 → IsCount z
 count_between z least most between small = counted z most (from_some z least between.0) between.1 small
 
--- the keys of a region behind its name
-abbrev pub region_numbers : List Row
-region_numbers = table.region_col ∷ table.region_row ∷ table.region_cols ∷ table.region_rows ∷ table.region_base ∷ []
-
 -- the cells and the base of a region whose keys have no fault: each number, and whether they lie in the grid
 pub record Placed (place : Place) (d : Data) : Type 0 where
   pub col : pos 0 ≤ℤ number_of table.region_col d
@@ -181,7 +186,7 @@ pub record Placed (place : Place) (d : Data) : Type 0 where
   pub row_inside : number_of table.region_row d ≤ℤ (pos place.rows -ℤ pos 1)
   pub base : IsFromTo (neg_ℤ MAX_HEIGHT) MAX_HEIGHT (number_of table.region_base d)
 
-pub placed : (place : Place) (d : Data) → keys_fault place d region_numbers ≡ None → Placed place d
+pub placed : (place : Place) (d : Data) → keys_fault place d region_number_keys ≡ None → Placed place d
 placed place d right =
     let col = parted place d table.region_col (table.region_row ∷ table.region_cols ∷ table.region_rows ∷ table.region_base ∷ []) right in
     let row = parted place d table.region_row (table.region_cols ∷ table.region_rows ∷ table.region_base ∷ []) col.1 in

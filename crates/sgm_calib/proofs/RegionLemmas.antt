@@ -1,12 +1,14 @@
 -- The regions of the elements of a list, one element on.
-use Rattle.std.proofs.Common.{◌≡◌, ℕ, suc, ◌+◌, ◌<◌, List, [], ◌∷◌, ◌++◌, map, length, drop, get_or, Option, Some, None, option_map, unwrap_or, ap, sym, ◌∙◌, append_assoc, add-one}
+use Rattle.std.proofs.Common.{◌≡◌, ℕ, suc, ◌+◌, ◌<◌, ◌≤◌, List, [], ◌∷◌, ◌++◌, map, length, drop, get_or, Option, Some, None, option_map, unwrap_or, ap, sym, ◌∙◌, append_assoc, append-nil, add-one}
 use Rattle.std.specs.Option.{option_or}
-use Rattle.std.proofs.lemmas.List.{drop_more}
+use Rattle.std.proofs.lemmas.List.{drop_all, drop_more}
 use Rattle.serde_json.specs.Data.{Data, null}
 use Rattle.serde_json.specs.Find.{get}
 use Rattle.sgm_grid.specs.declared.grid_spec.GridSpec.{GridSpec}
+use Rattle.sgm_calib.specs.declared.keys.CalibError.{CalibError}
+use Rattle.sgm_calib.specs.declared.keys.CalibError.TheVariants.{Fault, NoMemory}
 use Rattle.sgm_calib.specs.Table as table
-use Rattle.sgm_calib.specs.Checks.{first_of, value_of}
+use Rattle.sgm_calib.specs.Checks.{first_of, value_of, IsFaultOf}
 use Rattle.sgm_calib.specs.RegionKeys.{region_place, region_fault, region_faults, regions_fault_of, regions_fault}
 use Rattle.sgm_calib.specs.Table.{grid_of}
 use Rattle.sgm_calib.specs.Judge.{grid_in}
@@ -24,6 +26,25 @@ passed-more data_of cols rows xs i x within is_element right =
     ap (λ rest. first_of (region_faults cols rows i (map data_of rest))) (at_element xs i x within is_element)
     ∙ ap (λ fault. option_or fault (first_of (region_faults cols rows (suc i) (map data_of (drop (i + 1) xs))))) right
     ∙ ap (λ n. first_of (region_faults cols rows n (map data_of (drop (i + 1) xs)))) (sym (add-one i))
+
+-- an element with a fault has the first one
+pub stopped-here : {X : Type 0} (data_of : X → Data) (cols rows : ℕ) (xs : List X) (i : ℕ) (x : X) (error : CalibError)
+    → i < length xs → x ≡ get_or xs i x → IsFaultOf (region_fault (region_place cols rows i) (data_of x)) error
+    → IsFaultOf (first_of (region_faults cols rows i (map data_of (drop i xs)))) error
+stopped-here data_of cols rows xs i x NoMemory within is_element wrong = tt
+stopped-here data_of cols rows xs i x (Fault fault) within is_element wrong =
+    ap (λ rest. first_of (region_faults cols rows i (map data_of rest))) (at_element xs i x within is_element)
+    ∙ ap (λ found. option_or found (first_of (region_faults cols rows (suc i) (map data_of (drop (i + 1) xs))))) wrong
+
+-- past the last element there is no fault, and the values are all
+pub passed-all : {X : Type 0} (data_of : X → Data) (cols rows : ℕ) (xs : List X) (i : ℕ) → length xs ≤ i
+    → first_of (region_faults cols rows i (map data_of (drop i xs))) ≡ None
+passed-all data_of cols rows xs i past = ap (λ rest. first_of (region_faults cols rows i (map data_of rest))) (drop_all i xs past)
+
+pub value-all : {X Y Z : Type 0} (data_of : X → Y) (value_of : Y → Z) (got : List Z) (xs : List X) (i : ℕ) → length xs ≤ i
+    → got ++ map value_of (map data_of (drop i xs)) ≡ map value_of (map data_of xs) → got ≡ map value_of (map data_of xs)
+value-all data_of value_of got xs i past kept =
+    sym (append-nil got) ∙ ap (λ rest. got ++ map value_of (map data_of rest)) (sym (drop_all i xs past)) ∙ kept
 
 -- the value of an element goes behind those of the earlier ones
 pub value-more : {X Y Z : Type 0} (data_of : X → Y) (value_of : Y → Z) (got : List Z) (xs : List X) (i : ℕ) (x : X)

@@ -1,5 +1,6 @@
 -- Matrices and nodes, as lists of values and as their numbers.
-use Rattle.std.proofs.Common.{◌≡◌, ℕ, ◌+◌, ◌<◌, ℤ, pos, List, [], ◌∷◌, ◌++◌, map, length, get_or, drop, refl, ap, sym, ◌∙◌, append_assoc, append-nil, arith, All, subst}
+use Rattle.std.proofs.Common.{◌≡◌, ℕ, ◌+◌, ◌<◌, ℤ, pos, List, [], ◌∷◌, ◌++◌, map, length, get_or, drop, refl, ap, sym, ◌∙◌, append_assoc, append-nil, arith, All, subst, w32, w64, to_z, of_z}
+use Rattle.std.proofs.lemmas.Int.{ints}
 use Rattle.std.proofs.lemmas.List.{length-map, ext_get_or, at_drop_more, length-drop}
 use Rattle.std.proofs.lemmas.List.Elements.{All-same, All-push}
 use Rattle.serde_json.specs.View.{view}
@@ -50,6 +51,10 @@ pairs-kept vs i next u v node places more inside is_next is_u is_v is_node pushe
     ∙ ap (λ n. places ++ (n ∷ pairs (amounts (drop next vs)))) is_node
     ∙ ap (λ ps. places ++ ps) (sym (pairs-more vs i next u v inside is_next is_u is_v))
     ∙ kept
+
+-- a coordinate stays itself in 32 bits
+pub narrowed : (a u : ℤ) → a ≡ u → IsCoordinate u → to_z w32 (of_z w32 (to_z w64 (of_z w64 a))) ≡ u
+narrowed a u is (low, high) = omega (arith, ints, is, low, high)
 
 pub nodes-kept : (node : ℤ × ℤ) (places more : List (ℤ × ℤ)) → IsNode node → more ≡ places ++ node ∷ [] → All IsNode places → All IsNode more
 nodes-kept node places more in_range pushed kept = All-same IsNode more (places ++ node ∷ []) pushed (All-push IsNode places node kept in_range)

@@ -11,12 +11,16 @@ use Rattle.sgm_calib.specs.declared.place.TheConstants.{PLAIN}
 use Rattle.sgm_calib.specs.declared.regions.RegionNumbers.{RegionNumbers}
 use Rattle.sgm_calib.specs.declared.sort.Sort.TheVariants.{Plain}
 use Rattle.sgm_calib.specs.Table as table
-use Rattle.sgm_calib.specs.Rows.{key_at, number_of, count_of}
+use Rattle.sgm_calib.specs.Rows.{Row, key_at, number_of, count_of}
 use Rattle.sgm_calib.specs.Checks.{first_of, object_fault, type_fault, keys_fault, elements, value_of, text_of}
 
 -- the place of a region of a grid with so many columns and rows
 abbrev pub region_place : ℕ → ℕ → ℕ → Place
 region_place cols rows index = record { shift = 0; index = index; cols = cols; rows = rows }
+
+-- the keys of a region behind its name
+abbrev pub region_number_keys : List Row
+region_number_keys = table.region_col ∷ table.region_row ∷ table.region_cols ∷ table.region_rows ∷ table.region_base ∷ []
 
 -- what is wrong with a region: its type, an unknown name, its keys
 unfoldable pub region_fault : Place → Data → Option CalibFault

@@ -3,6 +3,7 @@ use Rattle.std.specs.Prelude.{ℕ, ◌+◌, ◌%◌, ◌==◌, ℤ, pos, ◌-ℤ
 use Rattle.std.specs.Str.{bytes_eq}
 use Rattle.serde_json.specs.Data.{Data}
 use Rattle.serde_json.specs.Find.{get, as_bool, as_number, as_i64}
+use Rattle.sgm_base.specs.Ranges.{IsFromTo}
 use Rattle.sgm_calib.specs.declared.keys.Key.{Key}
 use Rattle.sgm_calib.specs.declared.place.Place.{Place}
 use Rattle.sgm_calib.specs.declared.sort.Sort.{Sort}
@@ -110,6 +111,10 @@ number_of row d = whole_at row.name d
 -- the number of a key that isn't negative
 abbrev pub count_of : Row → Data → ℕ
 count_of row d = unsigned_abs (number_of row d)
+
+-- whether a number fits a count, which has 32 bits
+abbrev pub IsCount : ℤ → Type 0
+IsCount z = IsFromTo (pos 0) (pos 4294967295) z
 
 -- the truth value under a name of an object, and false where there is none
 abbrev pub truth_at : List ℕ → Data → Bool

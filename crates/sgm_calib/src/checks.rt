@@ -1,15 +1,14 @@
 //! The checks of one key, and of one object.
 
-ghost use Rattle.std.specs.Prelude.{◌≡◌, ◌==◌, ◌&&◌, ◌+◌, ◌<◌, ◌≤ℤ◌, pos, unsigned_abs, map, All, IfOk, IfErr, OnOk, IsTrue, Some, None, Ok, Err, string_bytes, option_map, IsSome};
+ghost use Rattle.std.specs.Prelude.{◌≡◌, ◌==◌, ◌&&◌, ◌+◌, ◌<◌, ◌≤ℤ◌, unsigned_abs, map, All, IfOk, IfErr, OnOk, IsTrue, Some, None, Ok, Err, string_bytes, option_map, IsSome};
 ghost use Rattle.std.specs.BTreeMap.{keys};
 ghost use Rattle.std.specs.List.{list_all, list_any};
 ghost use Rattle.std.specs.Str.{bytes_eq};
 ghost use Rattle.serde_json.specs.View.{view};
 ghost use Rattle.serde_json.specs.Find.{as_bool, as_str, get};
-ghost use Rattle.sgm_base.specs.Ranges.{IsFromTo};
 ghost use Rattle.sgm_calib.specs.Table as table;
 ghost use Rattle.sgm_calib.specs.Table.{is_known};
-ghost use Rattle.sgm_calib.specs.Rows.{key_at, whole, whole_at, number_of, least, greatest, has_parity, is_in_range, is_required, is_given, truth_at, meant, form_meant, presence_meant};
+ghost use Rattle.sgm_calib.specs.Rows.{key_at, whole, whole_at, number_of, IsCount, least, greatest, has_parity, is_in_range, is_required, is_given, truth_at, meant, form_meant, presence_meant};
 ghost use Rattle.sgm_calib.specs.Checks.{number_in, typed_in, wholes_fault, object_fault, text_of};
 ghost use Rattle.sgm_calib.specs.Judge.{sort_of, version_fault, top_fault, itself_fault};
 
@@ -43,7 +42,7 @@ pub fn number_at(object: &Value, name: &str) -> i64
 /// The number under a name of an object, which isn't negative and fits.
 #[tactic(auto, using(std::proofs::lemmas::Int::ints))]
 pub fn count_at(object: &Value, name: &str) -> u32
-    requires { IsFromTo (pos 0) (pos 4294967295) (whole_at name.now (view object.now)) }
+    requires { IsCount (whole_at name.now (view object.now)) }
     ensures { result ≡ unsigned_abs (whole_at name.now (view object.now)) }
 {
     number_at(object, name) as u32

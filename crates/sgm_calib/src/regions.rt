@@ -6,7 +6,7 @@ ghost use Rattle.serde_json.specs.Find.{get};
 ghost use Rattle.sgm_report.specs.Areas.{IsArea, LiesIn, IsBase, IsRegionName};
 ghost use Rattle.sgm_calib.specs.Table as table;
 ghost use Rattle.sgm_calib.specs.Checks.{first_of, key_fault, keys_fault, text_of, elements, IsFaultOf};
-ghost use Rattle.sgm_calib.specs.RegionKeys.{region_place, region_fault, region_faults, regions_fault_of, regions_fault, area_of, area_in, regions_in};
+ghost use Rattle.sgm_calib.specs.RegionKeys.{region_place, region_number_keys, region_fault, region_faults, regions_fault_of, regions_fault, area_of, area_in, regions_in};
 ghost use Rattle.sgm_calib.specs.Judge.{grid_in};
 
 use crate::checks::{check_numbers, check_object, count_at, key_at, number_at, text};
@@ -66,16 +66,13 @@ fn region_name<'a>(object: &'a Value, place: Place) -> Result<&'a str, CalibFaul
 #[tactic(auto, unfolding(crate::specs::RegionKeys::area_in))]
 fn region_numbers(object: &Value, place: Place) -> Result<RegionNumbers, CalibFault>
     requires { place.shift ≡ 0 }
-    ensures ok { OnOk result (keys_fault place (view object.now)
-        (table.region_col ∷ table.region_row ∷ table.region_cols ∷ table.region_rows ∷ table.region_base ∷ []) ≡ None) }
+    ensures ok { OnOk result (keys_fault place (view object.now) region_number_keys ≡ None) }
     ensures value { IfOk result (λ numbers. area_of (text_of table.region_name (view object.now))
         numbers ≡ area_in (view object.now)) }
     ensures inside { IfOk result (λ numbers. (1 ≤ numbers.cols) × (1 ≤ numbers.rows)
         × (numbers.col + numbers.cols ≤ place.cols) × (numbers.row + numbers.rows ≤ place.rows)) }
     ensures based { IfOk result (λ numbers. IsBase numbers.base) }
-    ensures fault { IfErr result (λ f. keys_fault place (view object.now)
-        (table.region_col ∷ table.region_row ∷ table.region_cols ∷ table.region_rows ∷ table.region_base ∷ [])
-        ≡ Some f) }
+    ensures fault { IfErr result (λ f. keys_fault place (view object.now) region_number_keys ≡ Some f) }
 {
     check_numbers(object, &REGION_NUMBERS, place)?;
     Ok(RegionNumbers {

@@ -1,16 +1,14 @@
 //! The objects that stand in a calibration file and hold no other.
 
-ghost use Rattle.std.specs.Prelude.{◌≡◌, [], ◌∷◌, ◌≤ℤ◌, ◌%◌, ◌==◌, pos, neg_ℤ, unsigned_abs};
+ghost use Rattle.std.specs.Prelude.{◌≡◌, [], ◌∷◌, ◌≤ℤ◌, ◌%◌, ◌==◌, pos, unsigned_abs};
 ghost use Rattle.std.specs.Prelude.{IsTrue, IfOk, OnOk, IfErr, IfSome, Some, None, is_some};
 ghost use Rattle.serde_json.specs.View.{view};
 ghost use Rattle.serde_json.specs.Find.{get};
-ghost use Rattle.sgm_base.specs.Ranges.{IsFromTo};
-ghost use Rattle.sgm_base.specs.declared.limits.TheConstants.{MIN_FIRST, MAX_FIRST, MAX_COUNT, MAX_GRID_LINES};
+ghost use Rattle.sgm_base.specs.declared.limits.TheConstants.{MIN_FIRST, MAX_FIRST, MAX_COUNT};
 ghost use Rattle.sgm_base.specs.declared.limits.TheConstants.{MAX_PENALTY, MIN_WINDOW_SIDE, MAX_WINDOW_WIDTH};
 ghost use Rattle.sgm_base.specs.declared.limits.TheConstants.{MAX_WINDOW_HEIGHT};
 ghost use Rattle.sgm_height.specs.Camera.{IsCamera};
 ghost use Rattle.sgm_grid.specs.Cells.{IsGridSpec};
-ghost use Rattle.sgm_grid.specs.declared.limits.TheConstants.{MAX_CELL, MAX_PLACE};
 ghost use Rattle.sgm_energy.specs.Pens.{penalties_of as seen};
 ghost use Rattle.sgm_calib.specs.Table as table;
 ghost use Rattle.sgm_calib.specs.Rows.{number_of, count_of, meant, form_meant, presence_meant};
@@ -165,15 +163,12 @@ pub fn penalties(top: &Value) -> Result<Pen, CalibFault>
     pen_of(object, sort_of(top))
 }
 
-/// The camera that an object is, once its names are known.
+/// The camera that an object without a fault is.
 #[tactic(auto, unfolding(crate::specs::Table::camera_of))]
-fn camera_of(object: &Value) -> Result<Camera, CalibFault>
-    ensures ok { OnOk result (keys_fault PLAIN (view object.now) table.camera_keys ≡ None) }
-    ensures value { IfOk result (λ c. c ≡ camera_of (view object.now)) }
-    ensures fault { IfErr result (λ f. keys_fault PLAIN (view object.now) table.camera_keys ≡ Some f) }
+fn camera_at(object: &Value) -> Camera
+    ensures { result ≡ camera_of (view object.now) }
 {
-    check_numbers(object, &CAMERA_KEYS, PLAIN)?;
-    Ok(Camera {
+    Camera {
         focal: number_at(object, FOCAL.name),
         baseline: number_at(object, BASELINE.name),
         cx: number_at(object, CX.name),
@@ -182,7 +177,17 @@ fn camera_of(object: &Value) -> Result<Camera, CalibFault>
         mount: number_at(object, MOUNT.name),
         near: number_at(object, NEAR.name),
         far: number_at(object, FAR.name),
-    })
+    }
+}
+
+/// The camera that an object is, once its names are known.
+fn camera_of(object: &Value) -> Result<Camera, CalibFault>
+    ensures ok { OnOk result (keys_fault PLAIN (view object.now) table.camera_keys ≡ None) }
+    ensures value { IfOk result (λ c. c ≡ camera_of (view object.now)) }
+    ensures fault { IfErr result (λ f. keys_fault PLAIN (view object.now) table.camera_keys ≡ Some f) }
+{
+    check_numbers(object, &CAMERA_KEYS, PLAIN)?;
+    Ok(camera_at(object))
 }
 
 /// The camera, where there is one.

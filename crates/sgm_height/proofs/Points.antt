@@ -24,6 +24,9 @@ above_zero a e = grind (arith, ints)
 pub shifted : (s : ℤ) → FitsSigned w64 s → le_z (to_z w64 (of_z w64 s)) (pos 0) ≡ false → int_lt (pos 0) s ≡ true
 shifted s fs e = above_zero s (simp to_z-of_z at e)
 
+not_above_zero : (a : ℤ) → le_z a (pos 0) ≡ true → int_lt (pos 0) a ≡ false
+not_above_zero a e = grind (arith, ints)
+
 pub at_least : (a b : ℤ) → FitsSigned w64 a → FitsSigned w64 b → lt_z (to_z w64 (of_z w64 a)) (to_z w64 (of_z w64 b)) ≡ false → int_le b a ≡ true
 at_least a b fa fb e = not_below a b (simp to_z-of_z at e)
 
@@ -52,11 +55,17 @@ north_is y cy b s r hy hc fb fs e =
 pick_some : (p q r : Bool) (v : Option Point) → p ≡ true → q ≡ true → r ≡ true → v ≡ (if p && q && r then v else None)
 pick_some p q r v hp hq hr = rw (hp, hq, hr) refl
 
+pick_first : (p q r : Bool) (v : Option Point) → p ≡ false → None ≡ (if p && q && r then v else None)
+pick_first p q r v hp = rw hp refl
+
 pick_none : (p q r : Bool) (v : Option Point) → p ≡ true → q ≡ false → None ≡ (if p && q && r then v else None)
 pick_none p q r v hp hq = rw (hp, hq) refl
 
 pick_last : (p q r : Bool) (v : Option Point) → p ≡ true → q ≡ true → r ≡ false → None ≡ (if p && q && r then v else None)
 pick_last p q r v hp hq hr = rw (hp, hq, hr) refl
+
+pub no_shift : (camera : Camera) (x y : ℕ) (s : ℤ) → FitsSigned w64 s → le_z (to_z w64 (of_z w64 s)) (pos 0) ≡ true → None ≡ point_with camera x y s
+no_shift camera x y s fs e = pick_first _ _ _ _ (not_above_zero s (simp to_z-of_z at e))
 
 pub too_near : (camera : Camera) (x y : ℕ) (s depth : ℤ) → depth ≡ depth_of camera s → int_lt (pos 0) s ≡ true → int_le camera.near depth ≡ false
     → None ≡ point_with camera x y s

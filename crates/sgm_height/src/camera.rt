@@ -46,7 +46,6 @@ pub fn point(camera: &Camera, x: u32, y: u32, disparity16: i32) -> Option<Point>
 }
 
 /// The point of a pixel whose disparity, with the camera's offset, is `shift` in 1/256 of a pixel.
-#[tactic(auto, using(std::proofs::lemmas::Int::ints))]
 fn point_at(camera: &Camera, x: u32, y: u32, shift: i64) -> Option<Point>
     requires camera { IsCamera camera.now }
     requires x_in { x < MAX_SIDE }

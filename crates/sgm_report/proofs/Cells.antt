@@ -1,5 +1,5 @@
 -- The cells of a region, row by row.
-use Rattle.std.proofs.Common.{◌≡◌, ℕ, suc, ◌+◌, ◌*◌, ◌<◌, ◌≤◌, ◌++◌, List, [], ◌∷◌, length, map, ℤ, Option, None, take, drop, refl, sym, ap, subst, ◌∙◌, arith, append-nil, length-drop}
+use Rattle.std.proofs.Common.{◌≡◌, ℕ, suc, ◌+◌, ◌-◌, ◌*◌, ◌<◌, ◌≤◌, ◌++◌, List, [], ◌∷◌, length, map, ℤ, Option, None, take, drop, refl, sym, ap, subst, ◌∙◌, arith, append-nil, length-drop}
 use Rattle.std.specs.Prelude.{flat_map}
 use Rattle.std.specs.List.{range_with_len}
 use Rattle.std.proofs.lemmas.List.{ext_get_or, get_or-drop, get_or-take, length-take-le, map-id}
@@ -76,6 +76,21 @@ room_at_first base s n e le = subst (λ (t : Sums). HasRoom t n) (sym e) (record
   heights_above = omega arith;
   heights_below = omega arith;
 })
+
+-- room for some cells is room for fewer
+pub room_for_fewer : (s : Sums) (n m : ℕ) → m ≤ n → HasRoom s n → HasRoom s m
+room_for_fewer s n m fewer room = record {
+  counts = omega (arith, fewer, room.counts);
+  heights_above = omega (arith, fewer, room.heights_above);
+  heights_below = omega (arith, fewer, room.heights_below);
+}
+
+-- the rows that are left have at least one row's cells
+pub row_at_most : (first rows row cols : ℕ) → row < first + rows → cols ≤ (first + rows - row) * cols
+row_at_most first rows row cols within =
+    let rest : first + rows - row ≡ (first + rows - (row + 1)) + 1 = omega (arith, within) in
+    let whole : (first + rows - row) * cols ≡ (first + rows - (row + 1)) * cols + cols = ap (λ (n : ℕ). n * cols) rest ∙ omega arith in
+    omega (arith, whole)
 
 -- the sums of one row more of a region
 pub tally_more : (grid : Cells) (area : Area) (same_base : ℤ) (sums after : Sums) (row n : ℕ) (part : List (Option ℤ)) → same_base ≡ area.base

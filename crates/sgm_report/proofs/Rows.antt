@@ -1,8 +1,8 @@
 -- The table, row by row.
-use Rattle.std.proofs.Common.{◌≡◌, ℕ, ◌+◌, ◌<◌, ◌++◌, List, [], ◌∷◌, length, take, get_or, refl, sym, ap, ◌∙◌, arith, append-nil, append_assoc}
+use Rattle.std.proofs.Common.{◌≡◌, ℕ, ◌+◌, ◌<◌, ◌≤◌, ◌++◌, List, [], ◌∷◌, length, take, get_or, refl, sym, ap, ◌∙◌, arith, append-nil, append_assoc}
 use Rattle.std.specs.Prelude.{flat_map, zip}
 use Rattle.std.proofs.lemmas.Grind.{flat_map-append}
-use Rattle.std.proofs.lemmas.List.{length-take-le, take_more}
+use Rattle.std.proofs.lemmas.List.{length-take-le, take_all, take_more}
 use Rattle.sgm_report.specs.Areas.{Area}
 use Rattle.sgm_report.specs.Table.{fields_line, head_line, region_fields, table_text}
 use Rattle.sgm_report.specs.declared.volumes.RegionTally.{RegionTally}
@@ -13,6 +13,12 @@ zip_push [] [] x y e = refl
 zip_push [] (b ∷ ys) x y e = absurd (omega (arith, e))
 zip_push (a ∷ xs) [] x y e = absurd (omega (arith, e))
 zip_push {A} {B} (a ∷ xs) (b ∷ ys) x y e = ap (λ (t : List (A × B)). (a, b) ∷ t) (zip_push xs ys x y (omega (arith, e)))
+
+-- the table of all regions
+pub table_all : (areas : List Area) (tallies : List RegionTally) (k : ℕ) → length areas ≤ k → length tallies ≤ k
+    → table_text (take k areas) (take k tallies) ≡ table_text areas tallies
+table_all areas tallies k la lt =
+    ap (λ (a : List Area). table_text a (take k tallies)) (take_all k areas la) ∙ ap (table_text areas) (take_all k tallies lt)
 
 -- one region more
 pub table_more : (areas : List Area) (tallies : List RegionTally) (k : ℕ) (a : Area) (t : RegionTally) → k < length areas → k < length tallies

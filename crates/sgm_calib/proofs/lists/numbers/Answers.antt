@@ -1,6 +1,7 @@
 use Rattle.std.proofs.Common.{◌≡◌, true, false, Some, rules, refl, ap, sym, ◌∙◌}
 use Rattle.serde_json.specs.View.{view}
 use Rattle.sgm_calib.specs.declared.keys.CalibFault.TheVariants.{Type_, Range}
+use Rattle.sgm_calib.specs.Checks.{numbers_fault}
 use Rattle.sgm_calib.specs.Rows.{meant, form_meant, is_in_range}
 use Rattle.sgm_calib.proofs.ListLemmas.{are_full, numbers_fault-items, numbers-there}
 use Rattle.sgm_calib.proofs.lists.numbers.Goals as goal
@@ -26,3 +27,11 @@ returns-else-is_full-clause-fault c =
     numbers_fault-items c.args.place (view c.args.object.now) (view c.in-Some.value.now) (meant c.args.row.now) c.args.count c.in-Some-elements.items.now true false
     c.in-Some.ensures c.in-Some-elements.ensures.list c.in-Some-elements.ensures.items c.if-not-are_whole.ensures full
     ∙ ap (λ key. Some (Range key)) (sym c.key_at-else-is_full.ensures)
+
+pub returns-in_default-clause-fault : goal.returns-in_default-clause-fault
+unfolding numbers_fault
+returns-in_default-clause-fault c = search rules
+
+pub returns-in_default-elements-clause-fault : goal.returns-in_default-elements-clause-fault
+unfolding numbers_fault
+returns-in_default-elements-clause-fault c = search rules

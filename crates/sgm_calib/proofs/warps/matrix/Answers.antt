@@ -1,4 +1,5 @@
 use Rattle.std.proofs.Common.{◌∙◌, arith}
+use Rattle.std.proofs.lemmas.Grind.{common_steps}
 use Rattle.std.proofs.lemmas.Result.{err_from_is_err_and}
 use Rattle.std.proofs.lemmas.List.Elements.{All-same, All-map}
 use Rattle.serde_json.specs.View.{view}
@@ -29,3 +30,6 @@ returns-in_err-items-clause-fault c =
 
 pub returns-clause-ok : goal.returns-clause-ok
 returns-clause-ok c = c.in_ok-items.ensures.ok
+
+pub loop-index-preserved : goal.loop-index-preserved
+loop-index-preserved c = (grind (arith, common_steps), grind (arith, common_steps))

@@ -1,8 +1,11 @@
 use Rattle.std.proofs.Common.{◌≡◌, ◌-ℤ◌, FitsSigned, w64, to_z, of_z, arith, ◌∙◌}
 use Rattle.std.proofs.lemmas.Int.{ints, to_z-of_z}
-use Rattle.sgm_height.proofs.Points.{shifted, at_least, too_small, too_near, too_far, found, depth_is, east_is, north_is}
+use Rattle.sgm_height.proofs.Points.{no_shift, shifted, at_least, too_small, too_near, too_far, found, depth_is, east_is, north_is}
 use Rattle.sgm_height.proofs.Quotients.{fits_within}
 use Rattle.sgm_height.proofs.camera.point_at.Goals as goal
+
+pub returns-then-shift-le0-clause-exact : goal.returns-then-shift-le0-clause-exact
+returns-then-shift-le0-clause-exact c = no_shift c.args.camera.now c.args.x c.args.y c.args.shift c.ranges.shift c.if-shift-le0.true
 
 pub returns-then-depth-camera-clause-exact : goal.returns-then-depth-camera-clause-exact
 returns-then-depth-camera-clause-exact c =
@@ -42,3 +45,15 @@ returns-clause-exact c =
     high
     (shifted c.args.shift c.ranges.shift c.if-shift-le0.false) (at_least c.scaled-depth.result c.args.camera.now.near depth near c.if-depth-camera.false)
     (at_least c.args.camera.now.far c.scaled-depth.result far depth c.if-depth-camera-2.false)
+
+pub returns-clause-height : goal.returns-clause-height
+returns-clause-height c = (omega (arith, ints), omega (arith, ints))
+
+pub overflow_sub-camera : goal.overflow_sub-camera
+overflow_sub-camera c = fits_within _ (omega (arith, ints), omega (arith, ints))
+
+pub scaled-east-requires-clause-offset : goal.scaled-east-requires-clause-offset
+scaled-east-requires-clause-offset c = (omega (arith, ints), omega (arith, ints))
+
+pub scaled-north-requires-clause-offset : goal.scaled-north-requires-clause-offset
+scaled-north-requires-clause-offset c = (omega (arith, ints), omega (arith, ints))

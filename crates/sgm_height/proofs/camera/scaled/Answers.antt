@@ -2,7 +2,7 @@ use Rattle.std.proofs.Common.{◌^◌, ℤ, to_z, of_z, FitsSigned, w64, subst, 
 use Rattle.std.specs.Int.{w128}
 use Rattle.std.proofs.lemmas.Int.{to_z-of_z}
 use Rattle.sgm_base.specs.Ranges.{Within}
-use Rattle.sgm_height.proofs.Quotients.{quotient_is, quotient_within, fits_within}
+use Rattle.sgm_height.proofs.Quotients.{product_in, quotient_is, quotient_within, fits_within}
 use Rattle.sgm_height.proofs.camera.scaled.Goals as goal
 
 pub overflow_cast-result : goal.overflow_cast-result
@@ -21,3 +21,9 @@ returns-clause-exact c =
 
 pub returns-clause-near : goal.returns-clause-near
 returns-clause-near c = subst (Within (2 ^ 60)) (sym (returns-clause-exact c)) (quotient_within _ _ _ c.requires.offset c.requires.baseline c.requires.shift)
+
+pub round_div-requires-clause-a_low : goal.round_div-requires-clause-a_low
+round_div-requires-clause-a_low c = (product_in _ _ c.ranges.offset c.ranges.baseline c.requires.offset c.requires.baseline).0
+
+pub round_div-requires-clause-a_high : goal.round_div-requires-clause-a_high
+round_div-requires-clause-a_high c = (product_in _ _ c.ranges.offset c.ranges.baseline c.requires.offset c.requires.baseline).1

@@ -1,13 +1,14 @@
 use Rattle.std.proofs.Common.{◌≡◌, ℕ, ◌+◌, ◌-◌, ◌*◌, ◌<◌, ◌≤◌, List, length, take, drop, map, to_z, of_z, w64, ℤ, Option, sym, ap, subst, ◌∙◌, arith}
 use Rattle.std.specs.Option.{ForSome}
 use Rattle.std.proofs.lemmas.Int.{ints}
+use Rattle.std.proofs.lemmas.List.{length-take}
 use Rattle.std.proofs.lemmas.List.Elements.{All-take, All-drop}
 use Rattle.std.proofs.lemmas.List.FromFn.{length-map-range_with_len}
 use Rattle.sgm_grid.specs.Cells.{IsHeight, height_at}
 use Rattle.sgm_report.specs.Areas.{Area}
 use Rattle.sgm_report.specs.Sums.{HasRoom, sums_over}
 use Rattle.sgm_report.specs.Tallies.{cols_of}
-use Rattle.sgm_report.proofs.Cells.{cells_at_most, first_rows, part_is, room_at_first, tally_more}
+use Rattle.sgm_report.proofs.Cells.{cells_at_most, first_rows, part_is, room_at_first, room_for_fewer, row_at_most, tally_more}
 use Rattle.sgm_report.proofs.volumes.tally.Goals as goal
 
 pub loop-row-init : goal.loop-row-init
@@ -27,6 +28,17 @@ pub with_row-sums-requires-clause-heights : goal.with_row-sums-requires-clause-h
 with_row-sums-requires-clause-heights c =
     let P : Option ℤ → Type 0 = λ height. ForSome height IsHeight in
     All-take P _ (drop c.region.inside.col c.row.result.now) (All-drop P c.region.inside.col c.row.result.now c.row.ensures.in_range)
+
+pub with_row-sums-requires-clause-room : goal.with_row-sums-requires-clause-room
+with_row-sums-requires-clause-room c =
+    let area = c.args.region.now in
+    let own = c.region.inside in
+    let own_row : own.row ≡ area.row = ap (λ (a : Area). a.row) c.region.view_is in
+    let own_rows : own.rows ≡ area.rows = ap (λ (a : Area). a.rows) c.region.view_is in
+    let own_cols : own.cols ≡ area.cols = ap (λ (a : Area). a.cols) c.region.view_is in
+    let more = row_at_most area.row area.rows c.loop-row.row area.cols (omega (arith, c.loop-row-test.true)) in
+    let wide = length-take (own.col + own.cols - own.col) (drop own.col c.row.result.now) in
+    room_for_fewer c.loop-row.sums _ _ (omega (arith, more, wide)) c.loop-row.invariant.room
 
 pub loop-row-preserved : goal.loop-row-preserved
 loop-row-preserved c =
