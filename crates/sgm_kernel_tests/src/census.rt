@@ -174,12 +174,7 @@ fn pair_cost(alloc: Global, first: i32, place: (u32, u32, u32)) -> Result<Option
 
 #[test]
 fn costs_of_single_places(rt: HostRuntime) -> Result<(), Fail> {
-<<<<<<< HEAD
-    let (left, right) = pair(rt.alloc())?;
     for (first, place, want) in &[
-=======
-    for (first, place, want) in [
->>>>>>> 892ac698571aaf8500b9c73857c80f26297d0a53
         (0, (1, 1, 0), Some(6)),
         (0, (1, 1, 1), Some(8)),
         (0, (2, 1, 0), Some(6)),
@@ -190,11 +185,7 @@ fn costs_of_single_places(rt: HostRuntime) -> Result<(), Fail> {
         (-1, (4, 1, 0), Some(8)),
         (0, (5, 1, 0), None),
     ] {
-<<<<<<< HEAD
-        assert!(rt; cost_of(&left, &right, *first, *place) == *want);
-=======
-        assert!(rt; pair_cost(rt.alloc(), first, place)? == want);
->>>>>>> 892ac698571aaf8500b9c73857c80f26297d0a53
+        assert!(rt; pair_cost(rt.alloc(), *first, *place)? == *want);
     }
     Ok(())
 }
@@ -253,16 +244,8 @@ fn has_no_code(alloc: Global, window: (u32, u32), most: u8) -> Result<bool, Fail
 
 #[test]
 fn a_window_larger_than_the_image(rt: HostRuntime) -> Result<(), Fail> {
-<<<<<<< HEAD
     for (window, most) in &[((7, 3), 20), ((3, 5), 14), ((9, 7), 62)] {
-        let plane = codes_of(rt.alloc(), (5, 3), &[7; 15], *window)?;
-        for y in 0..3 {
-            assert!(rt; differ_by(&plane, &plane, y, &[*most; 5]));
-        }
-=======
-    for (window, most) in [((7, 3), 20), ((3, 5), 14), ((9, 7), 62)] {
-        assert!(rt; has_no_code(rt.alloc(), window, most)?);
->>>>>>> 892ac698571aaf8500b9c73857c80f26297d0a53
+        assert!(rt; has_no_code(rt.alloc(), *window, *most)?);
     }
     Ok(())
 }
