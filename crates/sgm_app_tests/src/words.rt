@@ -56,7 +56,10 @@ fn each_fault_is_the_first_that_stands(rt: HostRuntime) -> Result<(), Fail> {
             UsageFault::OutputIsInput { position: 2 },
         ),
     ] {
-        assert!(rt; read_words(&words_of(alloc, line)?) == Err(*fault), "{line}");
+        assert!(rt;
+            read_words(&words_of(alloc, line)?) == Err(*fault),
+            "{line}"
+        );
     }
     Ok(())
 }
@@ -121,7 +124,13 @@ fn trace_and_change_have_no_options(rt: HostRuntime) -> Result<(), Fail> {
 }
 
 /// Whether these are the operands.
-fn are_operands(operands: &OperandWords<'_>, left: &str, right: &str, calib: &str, out: &str) -> bool {
+fn are_operands(
+    operands: &OperandWords<'_>,
+    left: &str,
+    right: &str,
+    calib: &str,
+    out: &str,
+) -> bool {
     operands.left() == left
         && operands.right() == right
         && operands.calib() == calib

@@ -1,7 +1,7 @@
 //! Certificates that were worked out by hand, over images whose three rows are alike. With a window of 3 x 3 only the
 //! pixels of the middle row have codes, the first and the last excepted; everywhere else each index costs 8. A cost is
 //! 3 for each side, left and right, on which two codes differ.
-ghost use Rattle.std.specs.Prelude.{◌≡◌, nat_le, unwrap_or};
+ghost use Rattle.std.specs.Prelude.{◌≡◌, IsTrue, nat_le, unwrap_or};
 ghost use Rattle.std.specs.List.{list_all};
 
 use sgm_base::{Plane, Size, Span};
@@ -40,6 +40,17 @@ fn guide_of(alloc: Global, row: &[Option<u16>]) -> Result<Guide, Fail> {
     Ok(Guide::make(alloc, &plane, 255)?)
 }
 
+/// Whether two planes of codes and a guide make a scene.
+fn suit(left: &CodePlane, right: &CodePlane, guide: &Guide) -> bool
+    ensures width { IsTrue result → left.now.width ≡ right.now.width }
+    ensures height { IsTrue result → left.now.height ≡ right.now.height }
+    ensures window { IsTrue result → left.now.window ≡ right.now.window }
+    ensures guide_width { IsTrue result → guide.now.width ≡ left.now.width }
+    ensures guide_height { IsTrue result → guide.now.height ≡ left.now.height }
+{
+    left.size() == right.size() && left.window() == right.window() && guide.size() == left.size()
+}
+
 fn scene_of(
     alloc: Global,
     left: &[Option<u16>],
@@ -51,11 +62,8 @@ fn scene_of(
     let left = codes_of(alloc, left)?;
     let right = codes_of(alloc, right)?;
     let guide = guide_of(alloc, guide)?;
-    if left.size() != right.size() || left.window() != right.window() {
+    if !suit(&left, &right, &guide) {
         return Err("sides")?;
-    }
-    if guide.size() != left.size() {
-        return Err("guide")?;
     }
     Ok(Scene::make(left, right, span, pen, guide))
 }
@@ -90,14 +98,23 @@ fn is_step(step: Step, wanted: Wanted) -> bool {
 fn has(found: &Traced, energy: u32, wanted: &[Wanted]) -> bool {
     found.energy == energy
         && found.steps.len() == wanted.len()
-        && found.steps.iter().zip(wanted).all(|(step, wanted)| is_step(*step, *wanted))
+        && found
+            .steps
+            .iter()
+            .zip(wanted)
+            .all(|(step, wanted)| is_step(*step, *wanted))
+}
+
+/// The certificate of an index of those five columns.
+fn of_example(alloc: Global, dir: Dir, x: u32, y: u32, d: u32) -> Result<Traced, Fail> {
+    let scene = example(alloc)?;
+    traced(alloc, &scene, dir, x, y, d)
 }
 
 /// Along the row the first two pixels cost least with 0 and the third with 1: 8 + 6 + 0 and one change by one.
 #[test]
 fn along_a_row(rt: HostRuntime) -> Result<(), Fail> {
-    let scene = example(rt.alloc())?;
-    let found = traced(rt.alloc(), &scene, Dir::Right, 2, 1, 1)?;
+    let found = of_example(rt.alloc(), Dir::Right, 2, 1, 1)?;
     let steps = &[(0, 1, 0, 8, 0), (1, 1, 0, 6, 0), (2, 1, 1, 0, 1)];
     assert!(rt; has(&found, 15, steps));
     Ok(())
@@ -106,8 +123,7 @@ fn along_a_row(rt: HostRuntime) -> Result<(), Fail> {
 /// At a pixel that begins its ray there is the one index that is asked for.
 #[test]
 fn one_pixel(rt: HostRuntime) -> Result<(), Fail> {
-    let scene = example(rt.alloc())?;
-    let found = traced(rt.alloc(), &scene, Dir::Down, 0, 0, 0)?;
+    let found = of_example(rt.alloc(), Dir::Down, 0, 0, 0)?;
     assert!(rt; has(&found, 8, &[(0, 0, 0, 8, 0)]));
     Ok(())
 }
@@ -115,24 +131,46 @@ fn one_pixel(rt: HostRuntime) -> Result<(), Fail> {
 /// Up and to the right: from (0, 2) over (1, 1), which has index 0 for 6, to (2, 0).
 #[test]
 fn across_the_rows(rt: HostRuntime) -> Result<(), Fail> {
-    let scene = example(rt.alloc())?;
-    let found = traced(rt.alloc(), &scene, Dir::UpRight, 2, 0, 1)?;
+    let found = of_example(rt.alloc(), Dir::UpRight, 2, 0, 1)?;
     let steps = &[(0, 2, 0, 8, 0), (1, 1, 0, 6, 0), (2, 0, 1, 8, 1)];
     assert!(rt; has(&found, 23, steps));
     Ok(())
+}
+
+/// The certificate of the last of the three indices from -1 on at a pixel of the middle row.
+fn along(
+    alloc: Global,
+    left: [u16; 6],
+    right: [u16; 6],
+    guide: [u16; 6],
+    pen: Pen,
+    x: u32,
+) -> Result<Traced, Fail> {
+    let span = Span::make(-1, 3).ok_or("span")?;
+    let scene = scene_of(
+        alloc,
+        &left.map(Some),
+        &right.map(Some),
+        &guide.map(Some),
+        span,
+        pen,
+    )?;
+    traced(alloc, &scene, Dir::Right, x, 1, 2)
 }
 
 /// The costs are (8, 8, 8), (3, 3, 8), (6, 3, 3), (0, 0, 3). The sequences 0 0 2 2, 1 1 1 2 and 1 1 2 2 have 20, and
 /// none has less. From the ends backwards the second comes first; from the front the first would.
 #[test]
 fn a_tie(rt: HostRuntime) -> Result<(), Fail> {
-    let left = [30, 30, 40, 30, 40, 20].map(Some);
-    let right = [30, 40, 40, 20, 20, 30].map(Some);
-    let span = Span::make(-1, 3).ok_or("span")?;
+    let left = [30, 30, 40, 30, 40, 20];
     let pen = Pen::make(3, 3).ok_or("pen")?;
-    let scene = scene_of(rt.alloc(), &left, &right, &left, span, pen)?;
-    let found = traced(rt.alloc(), &scene, Dir::Right, 3, 1, 2)?;
-    let steps = &[(0, 1, 1, 8, 0), (1, 1, 1, 3, 0), (2, 1, 1, 3, 0), (3, 1, 2, 3, 3)];
+    let found = along(rt.alloc(), left, [30, 40, 40, 20, 20, 30], left, pen, 3)?;
+    let steps = &[
+        (0, 1, 1, 8, 0),
+        (1, 1, 1, 3, 0),
+        (2, 1, 1, 3, 0),
+        (3, 1, 2, 3, 3),
+    ];
     assert!(rt; has(&found, 20, steps));
     Ok(())
 }
@@ -140,12 +178,9 @@ fn a_tie(rt: HostRuntime) -> Result<(), Fail> {
 /// The certificate of the last index at the third pixel of a row. The costs are (8, 8, 8), (0, 6, 8), (6, 6, 0). From the
 /// second pixel to the third the guide changes by 3.
 fn along_a_guide(alloc: Global, pen: Pen) -> Result<Traced, Fail> {
-    let left = [30, 30, 40, 30, 40, 20].map(Some);
-    let right = [10, 40, 10, 10, 20, 20].map(Some);
-    let guide = [5, 5, 8, 8, 8, 8].map(Some);
-    let span = Span::make(-1, 3).ok_or("span")?;
-    let scene = scene_of(alloc, &left, &right, &guide, span, pen)?;
-    traced(alloc, &scene, Dir::Right, 2, 1, 2)
+    let left = [30, 30, 40, 30, 40, 20];
+    let guide = [5, 5, 8, 8, 8, 8];
+    along(alloc, left, [10, 40, 10, 10, 20, 20], guide, pen, 2)
 }
 
 /// The guide leaves 4 of the penalty 12, so the change from 0 to 2 pays at the third pixel: 8 + 0 + 0 + 4.

@@ -41,12 +41,7 @@ const READ: [Read<'static>; 10] = [
     // Comments for white bytes.
     (b"P5#a\n2#b\n1#c\n9\n\x01\x02", (2, 1), 9, &[1, 2]),
     // Comments ended by CR.
-    (
-        b"P5 # 7 # 8\r2\n#\r#\n 1 9 \x01\x02",
-        (2, 1),
-        9,
-        &[1, 2],
-    ),
+    (b"P5 # 7 # 8\r2\n#\r#\n 1 9 \x01\x02", (2, 1), 9, &[1, 2]),
 ];
 
 fn is_read(alloc: Global, text: &[u8], sides: (u32, u32), maxval: u16, samples: &[u16]) -> bool {
@@ -104,15 +99,27 @@ const FAULTS: [(&[u8], PgmFault); 35] = [
     (b"P5 1 1 0\n", PgmFault::MaxvalRange),
     (b"P5 1 1 65537\n\x00\x01", PgmFault::MaxvalRange),
     // The raster.
-    (b"P5 2 2 255\n\x01\x02\x03", PgmFault::RasterShort { have: 3, need: 4 }),
-    (b"P5 2 1 256\n\x00\x01\x00", PgmFault::RasterShort { have: 3, need: 4 }),
-    (b"P5 4096 4096 65535\n", PgmFault::RasterShort { have: 0, need: 33_554_432 }),
-    (b"P5 2 1 1\n\x09", PgmFault::RasterShort { have: 1, need: 2 }),
-    // Its samples.
     (
-        b"P5 2 1 15\n\x0f\x10",
-        PgmFault::SampleAbove { index: 1 },
+        b"P5 2 2 255\n\x01\x02\x03",
+        PgmFault::RasterShort { have: 3, need: 4 },
     ),
+    (
+        b"P5 2 1 256\n\x00\x01\x00",
+        PgmFault::RasterShort { have: 3, need: 4 },
+    ),
+    (
+        b"P5 4096 4096 65535\n",
+        PgmFault::RasterShort {
+            have: 0,
+            need: 33_554_432,
+        },
+    ),
+    (
+        b"P5 2 1 1\n\x09",
+        PgmFault::RasterShort { have: 1, need: 2 },
+    ),
+    // Its samples.
+    (b"P5 2 1 15\n\x0f\x10", PgmFault::SampleAbove { index: 1 }),
     (
         b"P5 3 1 9\n\x01\x0a\x0b",
         PgmFault::SampleAbove { index: 1 },

@@ -147,7 +147,12 @@ fn counted(counts: Counts) -> RegionTally {
 fn bases_and_parts(rt: HostRuntime) -> Result<(), Fail> {
     let grid = five_seven_none(&rt, rt.alloc())?;
     let table = &[
-        ((0, 0), (3, 1), 6, (2, 1, 1_000_000, 1_000_000, Some((5, 7)))),
+        (
+            (0, 0),
+            (3, 1),
+            6,
+            (2, 1, 1_000_000, 1_000_000, Some((5, 7))),
+        ),
         ((0, 0), (3, 1), 4, (2, 1, 4_000_000, 0, Some((5, 7)))),
         ((0, 0), (3, 1), 5, (2, 1, 2_000_000, 0, Some((5, 7)))),
         ((0, 0), (3, 1), 8, (2, 1, 0, 4_000_000, Some((5, 7)))),

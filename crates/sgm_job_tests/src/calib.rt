@@ -17,17 +17,41 @@ fn numbered(number: u8) -> Key {
 
 const FAULTS: [(&str, CalibFault); 7] = [
     ("{", CalibFault::Json),
-    ("[]", CalibFault::Type_(Key { number: 1, index: 0 })),
-    ("{}", CalibFault::Missing(Key { number: 2, index: 0 })),
+    (
+        "[]",
+        CalibFault::Type_(Key {
+            number: 1,
+            index: 0,
+        }),
+    ),
+    (
+        "{}",
+        CalibFault::Missing(Key {
+            number: 2,
+            index: 0,
+        }),
+    ),
     ("{\"version\":3}", CalibFault::Version),
-    ("{\"version\":1,\"x\":0}", CalibFault::Unknown(Key { number: 1, index: 0 })),
+    (
+        "{\"version\":1,\"x\":0}",
+        CalibFault::Unknown(Key {
+            number: 1,
+            index: 0,
+        }),
+    ),
     (
         "{\"version\":1,\"disparities\":{\"first\":0,\"count\":0}}",
-        CalibFault::Range(Key { number: 5, index: 0 }),
+        CalibFault::Range(Key {
+            number: 5,
+            index: 0,
+        }),
     ),
     (
         "{\"version\":1,\"disparities\":{\"first\":0,\"count\":1.5}}",
-        CalibFault::Type_(Key { number: 5, index: 0 }),
+        CalibFault::Type_(Key {
+            number: 5,
+            index: 0,
+        }),
     ),
 ];
 

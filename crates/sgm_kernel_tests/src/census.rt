@@ -237,9 +237,11 @@ fn void_pixels_have_no_code(rt: HostRuntime) -> Result<(), Fail> {
 fn has_no_code(alloc: Global, window: (u32, u32), most: u8) -> Result<bool, Fail> {
     let plane = codes_of(alloc, (5, 3), &[7; 15], window)?;
     let want = [most; 5];
-    Ok(differ_by(&plane, &plane, 0, &want)
-        && differ_by(&plane, &plane, 1, &want)
-        && differ_by(&plane, &plane, 2, &want))
+    Ok(
+        differ_by(&plane, &plane, 0, &want)
+            && differ_by(&plane, &plane, 1, &want)
+            && differ_by(&plane, &plane, 2, &want),
+    )
 }
 
 #[test]

@@ -5,7 +5,7 @@ ghost use Rattle.sgm_strip.specs.Scenes.{row_length};
 ghost use Rattle.sgm_board.specs.Boards.{parts_of, scene_of, strips_of, IsPassOf, IsIdle};
 
 use super::making::{row_of, scene_of, two_passes};
-use super::sums::has_sums;
+use super::sums::are_whole;
 use super::taking::{lower_strip_goes_first, refuses, upper_strip_goes_second};
 use super::workers::finish_all;
 use super::working::work_both;
@@ -37,15 +37,22 @@ fn go_to_one_at_a_time(
     upper_strip_goes_second(board, first, &upper)
 }
 
+/// The same on a board of two strips.
+fn go_on_a_board(alloc: Global, scene: &Scene, spare: &mut Row) -> Result<(), Fail>
+    requires { spare.old ≡ row_length scene.now }
+{
+    let (board, mut first, mut second) = two_passes(alloc, scene, 2)?;
+    if board.strips() != 2 {
+        return Err("strips")?;
+    }
+    go_to_one_at_a_time(&board, &mut first, &mut second, spare)
+}
+
 #[test]
 fn a_strip_and_a_front_go_to_one_pass_at_a_time(rt: HostRuntime) -> Result<(), Fail> {
     let scene = scene_of(rt.alloc())?;
     let mut spare = row_of(rt.alloc(), &scene)?;
-    let (board, mut first, mut second) = two_passes(rt.alloc(), &scene, 2)?;
-    if board.strips() != 2 {
-        return Err("strips")?;
-    }
-    go_to_one_at_a_time(&board, &mut first, &mut second, &mut spare)
+    go_on_a_board(rt.alloc(), &scene, &mut spare)
 }
 
 /// The parcels of a board of three strips on which two threads worked, once the caller has handed on what they left.
@@ -62,7 +69,6 @@ fn completed<R: Threads + Sync>(rt: &R, alloc: Global, scene: &Scene) -> Result<
 fn two_threads_complete_a_board_of_three_strips(rt: HostRuntime) -> Result<(), Fail> {
     let scene = scene_of(rt.alloc())?;
     let parcels = completed(&rt, rt.alloc(), &scene)?;
-    assert!(rt; parcels.len() == 3);
-    assert!(rt; parcels.iter().all(|parcel| has_sums(parcel)));
+    assert!(rt; are_whole(&parcels, 3));
     Ok(())
 }

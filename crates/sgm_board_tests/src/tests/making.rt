@@ -1,5 +1,5 @@
 //! Scenes, parcels, fronts and boards of the worked example.
-ghost use Rattle.std.specs.Prelude.{◌≡◌, ℕ, ◌≤◌, false, [], length, slice_get, Some, All, IfOk, IfSome, vec_len};
+ghost use Rattle.std.specs.Prelude.{◌≡◌, ℕ, ◌≤◌, false, [], length, slice_get, Some, All, IsTrue, IfOk, IfSome, vec_len};
 ghost use Rattle.sgm_base.specs.declared.limits.TheConstants.{MAX_STRIPS, MAX_WORKERS};
 ghost use Rattle.sgm_energy.specs.declared.dir.Dir.{Dir};
 ghost use Rattle.sgm_energy.specs.Dirs.{is_level, front_of, dir_of_front};
@@ -44,13 +44,22 @@ fn guide_of(alloc: Global, size: Size) -> Result<Guide, Fail>
     Ok(Guide::make(alloc, &blank, 1)?)
 }
 
+/// Whether two planes of codes have the same sides and the same window.
+fn are_alike(left: &CodePlane, right: &CodePlane) -> bool
+    ensures width { IsTrue result → left.now.width ≡ right.now.width }
+    ensures height { IsTrue result → left.now.height ≡ right.now.height }
+    ensures window { IsTrue result → left.now.window ≡ right.now.window }
+{
+    left.size() == right.size() && left.window() == right.window()
+}
+
 /// The scene of the worked example.
 pub(super) fn scene_of(alloc: Global) -> Result<Scene, Fail> {
-    let left = codes_of(alloc, &[90, 10, 50, 20, 40])?;
-    let right = codes_of(alloc, &[10, 50, 20, 40, 30])?;
     let span = Span::make(0, 2).ok_or("span")?;
     let pen = Pen::make(1, 3).ok_or("pen")?;
-    if left.size() != right.size() || left.window() != right.window() {
+    let left = codes_of(alloc, &[90, 10, 50, 20, 40])?;
+    let right = codes_of(alloc, &[10, 50, 20, 40, 30])?;
+    if !are_alike(&left, &right) {
         return Err("sides")?;
     }
     let guide = guide_of(alloc, left.size())?;

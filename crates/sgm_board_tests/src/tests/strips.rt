@@ -4,7 +4,7 @@ ghost use Rattle.sgm_strip.specs.Scenes.{row_length};
 ghost use Rattle.sgm_strip.specs.Parcels.{IsOf};
 
 use super::making::{parcels_of, row_of, scene_of};
-use super::sums::has_sums;
+use super::sums::are_whole;
 use sgm_energy::Dir;
 use sgm_strip::{Cut, Front, Parcel, Row, Scene, pass};
 use std::alloc::Global;
@@ -84,11 +84,7 @@ fn sums_are_those_of_whole_rays_whatever_the_strips(rt: HostRuntime) -> Result<(
     let scene = scene_of(rt.alloc())?;
     for strips in 1..4 {
         let parcels = handed_through(rt.alloc(), &scene, strips)?;
-        assert!(rt; parcels.len() == strips as usize);
-        assert!(rt;
-            parcels.iter().all(|parcel| has_sums(parcel)),
-            "{strips} strips"
-        );
+        assert!(rt; are_whole(&parcels, strips as usize), "{strips} strips");
     }
     Ok(())
 }
@@ -113,12 +109,25 @@ fn shares_front(alloc: Global, scene: &Scene, cut: Cut) -> Result<u32, Fail>
     Ok(shared(&front).next())
 }
 
+fn shares_row(alloc: Global, scene: &Scene) -> Result<(), Fail> {
+    let row = row_of(alloc, scene)?;
+    let _ = shared(&row);
+    Ok(())
+}
+
+/// The first strip of a parcel and that of a front, both shared.
+fn shares_all(alloc: Global, scene: &Scene) -> Result<(u32, u32), Fail> {
+    let cut = Cut::even(scene.size().height, 2);
+    shares_row(alloc, scene)?;
+    Ok((
+        shares_parcel(alloc, scene, cut)?,
+        shares_front(alloc, scene, cut)?,
+    ))
+}
+
 #[test]
 fn threads_may_share_and_move_them(rt: HostRuntime) -> Result<(), Fail> {
     let scene = scene_of(rt.alloc())?;
-    let cut = Cut::even(scene.size().height, 2);
-    assert!(rt; shares_parcel(rt.alloc(), &scene, cut)? == 0);
-    assert!(rt; shares_front(rt.alloc(), &scene, cut)? == 0);
-    let _ = shared(&row_of(rt.alloc(), &scene)?);
+    assert!(rt; shares_all(rt.alloc(), &scene)? == (0, 0));
     Ok(())
 }

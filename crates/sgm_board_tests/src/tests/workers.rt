@@ -7,12 +7,30 @@ ghost use Rattle.sgm_board.specs.Settled.{AreSettled};
 
 use super::gates::{Meeting, Recorder};
 use super::making::{board_of, fronts_of, only_of, parcels_of, row_of, scene_of};
-use super::sums::has_sums;
+use super::sums::are_whole;
 use sgm_strip::{Cut, Front, Parcel, Row, Scene, Visit};
 use sgm_work::{CALLER, Gate, Matched, OpenGate, finish, match_all, scan};
 use std::alloc::Global;
 use std::test::Fail;
 use std::thread::Threads;
+
+/// A scene by so many strips and workers.
+fn matched_of<R: Threads + Sync, G: Gate + Sync>(
+    rt: &R,
+    alloc: Global,
+    scene: &Scene,
+    strips: u32,
+    workers: u32,
+    gate: &G,
+) -> Result<Matched, Fail>
+    requires strips { (1 ≤ strips) × (strips ≤ MAX_STRIPS) }
+    requires workers { (1 ≤ workers) × (workers ≤ MAX_WORKERS) }
+{
+    let cut = Cut::even(scene.size().height, strips);
+    let parcels = parcels_of(alloc, scene, cut)?;
+    let fronts = fronts_of(alloc, scene, cut)?;
+    Ok(match_all(rt, alloc, parcels, fronts, workers, gate)?)
+}
 
 /// The example by so many strips and workers.
 fn matched<R: Threads + Sync, G: Gate + Sync>(
@@ -26,10 +44,7 @@ fn matched<R: Threads + Sync, G: Gate + Sync>(
     requires workers { (1 ≤ workers) × (workers ≤ MAX_WORKERS) }
 {
     let scene = scene_of(alloc)?;
-    let cut = Cut::even(scene.size().height, strips);
-    let parcels = parcels_of(alloc, &scene, cut)?;
-    let fronts = fronts_of(alloc, &scene, cut)?;
-    Ok(match_all(rt, alloc, parcels, fronts, workers, gate)?)
+    matched_of(rt, alloc, &scene, strips, workers, gate)
 }
 
 /// Whether the visits are those of all strips, in this order.
@@ -42,23 +57,27 @@ fn goes_through(visits: &[Visit], strips: u32, down: bool) -> bool {
     }
 }
 
+fn goes_down(front: &Front) -> bool {
+    front.dir().offset().1 > 0
+}
+
+/// Whether all parcels of so many strips have their sums, and all six fronts went through them in their order.
+fn is_whole(found: &Matched, strips: u32) -> bool {
+    let parcels = &found.parcels;
+    let fronts = &found.fronts;
+    are_whole(parcels, strips as usize)
+        && fronts.len() == 6
+        && fronts.iter().all(|front| goes_through(front.visits(), strips, goes_down(front)))
+}
+
 #[test]
 fn sums_are_the_same_whatever_the_strips_and_the_workers(rt: HostRuntime) -> Result<(), Fail> {
     for (strips, workers) in [(1, 1), (2, 3), (3, 1), (3, 2), (3, 16)] {
         let found = matched(&rt, rt.alloc(), strips, workers, &OpenGate)?;
-        assert!(rt; found.parcels.len() == strips as usize);
         assert!(rt;
-            found.parcels.iter().all(|parcel| has_sums(parcel)),
+            is_whole(&found, strips),
             "{strips} strips, {workers} workers"
         );
-        assert!(rt; found.fronts.len() == 6);
-        for front in &found.fronts {
-            let down = front.dir().offset().1 > 0;
-            assert!(rt;
-                goes_through(front.visits(), strips, down),
-                "{strips} strips, {workers} workers"
-            );
-        }
     }
     Ok(())
 }
@@ -95,7 +114,7 @@ fn two_workers_overlap(rt: HostRuntime) -> Result<(), Fail> {
         }
     }
     assert!(rt; shared);
-    assert!(rt; found.parcels.iter().all(|parcel| has_sums(parcel)));
+    assert!(rt; are_whole(&found.parcels, 2));
     Ok(())
 }
 
@@ -130,8 +149,9 @@ fn went_through(front: &Front, by_caller: usize) -> bool {
     goes_through(front.visits(), 3, goes_down(front)) && caller.count() == by_caller
 }
 
-fn goes_down(front: &Front) -> bool {
-    front.dir().offset().1 > 0
+/// Whether a front went through all three strips: one that goes up twice by the caller, another never.
+fn went_on(front: &Front) -> bool {
+    went_through(front, if goes_down(front) { 0 } else { 2 })
 }
 
 // One scan takes the fronts that go down through all three strips, and those that go up through the last one alone.
@@ -139,10 +159,7 @@ fn goes_down(front: &Front) -> bool {
 fn finish_goes_on_where_a_scan_ended(rt: HostRuntime) -> Result<(), Fail> {
     let scene = scene_of(rt.alloc())?;
     let (parcels, fronts) = finished(rt.alloc(), &scene)?;
-    assert!(rt; parcels.iter().all(|parcel| has_sums(parcel)));
-    assert!(rt; fronts.len() == 6);
-    for front in &fronts {
-        assert!(rt; went_through(front, if goes_down(front) { 0 } else { 2 }));
-    }
+    assert!(rt; are_whole(&parcels, 3));
+    assert!(rt; fronts.len() == 6 && fronts.iter().all(|front| went_on(front)));
     Ok(())
 }

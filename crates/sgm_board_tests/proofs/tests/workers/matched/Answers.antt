@@ -1,8 +1,0 @@
-use Rattle.sgm_board_tests.proofs.Making.{ready}
-use Rattle.sgm_board_tests.proofs.tests.workers.matched.Goals as goal
-
-pub match_all-requires-clause-ready : goal.match_all-requires-clause-ready
-match_all-requires-clause-ready g c κs within =
-    let parcels = c.in_ok-parcels.ensures in
-    let fronts = c.in_ok-fronts.ensures in
-    (c.in_ok-scene.scene, c.even-cut.result, ready c.in_ok-scene.scene c.even-cut.result c.in_ok-parcels.parcels.items c.in_ok-fronts.fronts.items parcels.strips parcels.level fronts.six fronts.new)
