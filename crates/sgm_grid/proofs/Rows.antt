@@ -100,7 +100,8 @@ on_err (Ok u) p = tt
 on_err (Err e) p = p
 
 -- a part that was added, then one of which a piece may have been added
-pub err_after : {E : Type 0} (r : Result (Unit {0}) E) (old first new added : List ℕ) → first ≡ old ++ added → OnErr r (StartsAs first new) → OnErr r (StartsAs old new)
+pub err_after : {E : Type 0} (r : Result (Unit {0}) E) (old first new added : List ℕ)
+    → first ≡ old ++ added → OnErr r (StartsAs first new) → OnErr r (StartsAs old new)
 err_after (Ok u) old first new added p q = tt
 err_after (Err e) old first new added p q = starts_on old first new (starts_with old first added p) q
 

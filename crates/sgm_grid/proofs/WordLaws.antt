@@ -116,10 +116,12 @@ negated (Some n) = let same : neg_ℤ (pos (capped_size n)) ≡ capped (neg_ℤ 
 
 -- the number of a word that begins with `-`, from the size of what follows
 pub minus_number : (word : List ℕ) (size : Option ℕ) → starts_with_minus word ≡ true
-    → size ≡ option_map capped_size (digits_of (take (length word - 1) (drop 1 word))) → option_map (λ n. neg_ℤ (pos n)) size ≡ option_map capped (number_of word)
+    → size ≡ option_map capped_size (digits_of (take (length word - 1) (drop 1 word)))
+    → option_map (λ n. neg_ℤ (pos n)) size ≡ option_map capped (number_of word)
 minus_number word size minus is =
     let rest : take (length word - 1) (drop 1 word) ≡ drop 1 word = take_all (length word - 1) (drop 1 word) (omega (arith, length-drop 1 word)) in
+    let negative = option_map (λ n. neg_ℤ (pos n)) (digits_of (drop 1 word)) in
     ap (option_map (λ n. neg_ℤ (pos n))) is
     ∙ ap (λ (digits : List ℕ). option_map (λ n. neg_ℤ (pos n)) (option_map capped_size (digits_of digits))) rest
     ∙ negated (digits_of (drop 1 word))
-    ∙ sym (ap (λ (b : Bool). option_map capped (if b then option_map (λ n. neg_ℤ (pos n)) (digits_of (drop 1 word)) else option_map pos (digits_of word))) minus)
+    ∙ sym (ap (λ (b : Bool). option_map capped (if b then negative else option_map pos (digits_of word))) minus)
