@@ -3,7 +3,7 @@ use Rattle.std.proofs.Common.{◌≡◌, ◌≢◌, ℕ, suc, ◌*◌, ◌<◌, 
 use Rattle.std.specs.Prelude.{fold, filter, replicate}
 use Rattle.std.specs.Option.{ForSome}
 use Rattle.std.specs.Int.{int_max, int_div_euclid}
-use Rattle.std.proofs.lemmas.Int.{ints, clamps}
+use Rattle.std.proofs.lemmas.Int.{ints}
 use Rattle.std.proofs.lemmas.List.{get_or-set_same, get_or-set_other, length-set, length-replicate, get_or-replicate}
 use Rattle.std.proofs.lemmas.List.Elements.{All-set}
 use Rattle.std.proofs.lemmas.Option.{unwrap_or-slice_get}
@@ -182,11 +182,6 @@ added_inside grid spec hs p cell at v e some place value =
     ∙ ap (λ (z : ℤ). cells_of spec (slice_set hs (cell_index spec cell.0 cell.1) (Some z))) there
     ∙ ap (λ (o : Option (ℕ × ℕ)). raised (cells_of spec hs) o p.h) (sym some)
     ∙ ap (λ (g : Cells). added g p) e
-
--- the higher of two heights is a height
-pub higher_in_range : (held : Option ℤ) (h : ℤ) → ForSome held IsHeight → IsHeight h → IsHeight (higher held h)
-higher_in_range None h kept height = height
-higher_in_range (Some z) h kept height = let held : IsHeight z = search rules in (omega (arith, ints, clamps, held.0, height.0), omega (arith, ints, clamps, held.1, height.1))
 
 some_height : (v : ℤ) → IsHeight v → ForSome (Some v) IsHeight
 some_height v height = search rules

@@ -98,3 +98,12 @@ heights_more heights n first old spaced new inside before space now =
 pub on_err : {E P : Type 0} (r : Result (Unit {0}) E) → P → OnErr r P
 on_err (Ok u) p = tt
 on_err (Err e) p = p
+
+-- a part that was added, then one of which a piece may have been added
+pub err_after : {E : Type 0} (r : Result (Unit {0}) E) (old first new added : List ℕ)
+    → first ≡ old ++ added → OnErr r (StartsAs first new) → OnErr r (StartsAs old new)
+err_after (Ok u) old first new added p q = tt
+err_after (Err e) old first new added p q = starts_on old first new (starts_with old first added p) q
+
+pub starts_same : (xs ys : List ℕ) → ys ≡ xs → StartsAs xs ys
+starts_same xs ys same = ap (take (length xs)) same ∙ take_all (length xs) xs (omega arith)

@@ -1,18 +1,19 @@
 -- Words of a text, one after the other, and the numbers that they write.
-use Rattle.std.proofs.Common.{◌≡◌, ℕ, zero, suc, ◌+◌, ◌-◌, ◌*◌, ◌<◌, ◌≤◌, ◌⊎◌, inl, inr, min, List, [], ◌∷◌, ◌++◌, length, take, drop, get_or, filter, Bool, true, false, ◌&&◌, Option, Some, None, if◌then◌else◌, refl, sym, ap, ◌∙◌, arith, All, drop-cons}
+use Rattle.std.proofs.Common.{◌≡◌, ℕ, zero, suc, ◌+◌, ◌-◌, ◌*◌, ◌<◌, ◌≤◌, ◌⊎◌, inl, inr, min, List, [], ◌∷◌, ◌++◌, length, take, drop, get_or, filter, Bool, true, false, ◌&&◌, Option, Some, None, pos, neg_ℤ, if◌then◌else◌, refl, sym, ap, ◌∙◌, arith, All, drop-cons, length-drop}
 use Rattle.std.specs.List.{slice_split}
 use Rattle.std.specs.Char.{is_ascii_digit, digit_value}
 use Rattle.std.specs.Option.{option_map}
 use Rattle.std.specs.Str.{all_ascii_digits}
-use Rattle.std.specs.Str.Parse.{digits_value}
+use Rattle.std.specs.Str.Parse.{digits_value, starts_with_minus}
 use Rattle.std.proofs.lemmas.Bool.{cases_lt}
 use Rattle.std.proofs.lemmas.Bool.Decides.{nat_tests}
+use Rattle.std.proofs.lemmas.Int.{ints, clamps}
 use Rattle.std.proofs.lemmas.Int.Digits.{digits_value_more}
 use Rattle.std.proofs.lemmas.List.{take-append-drop, take_all, take_more, drop_all, length-take, length-take-le, get_or-take, get_or_default}
 use Rattle.std.proofs.lemmas.List.Splits.{slice_split-cons_yes, slice_split_none, slice_split_at}
 use Rattle.sgm_grid.specs.declared.words.TheConstants.{TOO_GREAT}
-use Rattle.sgm_grid.specs.Capped.{capped_size}
-use Rattle.sgm_grid.specs.Words.{digits_of, has_bytes, is_space, words_of}
+use Rattle.sgm_grid.specs.Capped.{capped, capped_size}
+use Rattle.sgm_grid.specs.Words.{digits_of, has_bytes, is_space, number_of, words_of}
 
 pub after_space : (b : ℕ) (bytes : List ℕ) → is_space b ≡ true → words_of (b ∷ bytes) ≡ words_of bytes
 after_space b bytes space = ap (filter has_bytes) (slice_split-cons_yes is_space b bytes space)
@@ -108,3 +109,19 @@ value_more digits k value next inside digit is more =
     more ∙ ap (λ (n : ℕ). min (10 * n + (get_or digits k 0 - 48)) TOO_GREAT) is
     ∙ capped_more (digits_value 10 (take k digits)) (get_or digits k 0) digit
     ∙ ap capped_size (sym (digits_value_more 10 digits k inside))
+
+negated : (size : Option ℕ) → option_map (λ n. neg_ℤ (pos n)) (option_map capped_size size) ≡ option_map capped (option_map (λ n. neg_ℤ (pos n)) size)
+negated None = refl
+negated (Some n) = let same : neg_ℤ (pos (capped_size n)) ≡ capped (neg_ℤ (pos n)) = omega (arith, ints, clamps) in ap Some same
+
+-- the number of a word that begins with `-`, from the size of what follows
+pub minus_number : (word : List ℕ) (size : Option ℕ) → starts_with_minus word ≡ true
+    → size ≡ option_map capped_size (digits_of (take (length word - 1) (drop 1 word)))
+    → option_map (λ n. neg_ℤ (pos n)) size ≡ option_map capped (number_of word)
+minus_number word size minus is =
+    let rest : take (length word - 1) (drop 1 word) ≡ drop 1 word = take_all (length word - 1) (drop 1 word) (omega (arith, length-drop 1 word)) in
+    let negative = option_map (λ n. neg_ℤ (pos n)) (digits_of (drop 1 word)) in
+    ap (option_map (λ n. neg_ℤ (pos n))) is
+    ∙ ap (λ (digits : List ℕ). option_map (λ n. neg_ℤ (pos n)) (option_map capped_size (digits_of digits))) rest
+    ∙ negated (digits_of (drop 1 word))
+    ∙ sym (ap (λ (b : Bool). option_map capped (if b then negative else option_map pos (digits_of word))) minus)

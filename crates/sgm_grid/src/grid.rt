@@ -150,7 +150,6 @@ fn line_of(distance: i64, cell: i64, count: u32) -> Option<u32>
 }
 
 /// The greater of what was held and a height, or the height where nothing was held.
-#[tactic(auto, using(crate::proofs::Added::higher_in_range))]
 pub fn higher(held: Option<i32>, height: i32) -> i32
     ensures value { result ≡ higher held height }
     ensures in_range { ForSome held IsHeight → IsHeight height → IsHeight result }
