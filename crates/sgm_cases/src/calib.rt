@@ -17,10 +17,11 @@ const MAX_SHOWN: usize = 8;
 
 fn push_key(text: &mut String, fault: &str, key: Key) -> Result<(), AllocError> {
     let (number, index, front, back) = (key.number, key.index, key.front(), key.back());
+    write!(text, "{fault} {number} {index} {front}")?;
     if key.has_index() {
-        write!(text, "{fault} {number} {index} {front}{index}{back}")
+        write!(text, "{index}{back}")
     } else {
-        write!(text, "{fault} {number} {index} {front}")
+        Ok(())
     }
 }
 

@@ -35,6 +35,16 @@ fn digit(byte: u8) -> u8 {
     }
 }
 
+/// The byte that a backslash and this byte stand for.
+fn meant(byte: u8) -> u8 {
+    match byte {
+        b'n' => b'\n',
+        b'r' => b'\r',
+        b't' => b'\t',
+        _ => byte,
+    }
+}
+
 impl Bytes {
     /// Repeats the bytes from `start` on.
     fn repeat(&mut self, alloc: Global) -> Result<(), AllocError> {
@@ -51,10 +61,7 @@ impl Bytes {
             b'x' => return Ok(State::High),
             b'*' => return Ok(State::Count(0)),
             b'.' => self.repeat(alloc)?,
-            b'n' => self.bytes.push(b'\n')?,
-            b'r' => self.bytes.push(b'\r')?,
-            b't' => self.bytes.push(b'\t')?,
-            _ => self.bytes.push(byte)?,
+            _ => self.bytes.push(meant(byte))?,
         }
         Ok(State::Plain)
     }

@@ -148,16 +148,22 @@ fn read_key(text: &str) -> Option<Key> {
     })
 }
 
+fn fault_of_key(name: &str, key: Key) -> Option<CalibFault> {
+    match name {
+        "missing" => Some(CalibFault::Missing(key)),
+        "unknown" => Some(CalibFault::Unknown(key)),
+        "type" => Some(CalibFault::Type_(key)),
+        "range" => Some(CalibFault::Range(key)),
+        _ => None,
+    }
+}
+
 fn read_calib(text: &str) -> Option<CalibFault> {
     let (name, rest) = cut(text);
     match name {
         "json" => Some(CalibFault::Json),
         "version" => Some(CalibFault::Version),
-        "missing" => Some(CalibFault::Missing(read_key(rest)?)),
-        "unknown" => Some(CalibFault::Unknown(read_key(rest)?)),
-        "type" => Some(CalibFault::Type_(read_key(rest)?)),
-        "range" => Some(CalibFault::Range(read_key(rest)?)),
-        _ => None,
+        _ => fault_of_key(name, read_key(rest)?),
     }
 }
 

@@ -161,11 +161,11 @@ fn push_untold(
 ) -> Result<(), AllocError> {
     let line = line_of(alloc, outcome)?;
     let told = str::from_utf8(taken).unwrap_or("not UTF-8").trim_end();
-    if line.as_str() != told {
-        text.push_str(" | outcome ")?;
-        text.push_str(line.as_str())?;
+    if line.as_str() == told {
+        Ok(())
+    } else {
+        write!(text, " | outcome {line}")
     }
-    Ok(())
 }
 
 /// Adds how a run ended, what the shelf holds then, and what the two streams received.
@@ -179,7 +179,7 @@ fn push_end<S: Shelf>(
 ) -> Result<(), AllocError> {
     let status = outcome.status();
     write!(text, "{status}")?;
-    for name in ["o.pgm", "o.asc", "o.csv"] {
+    for name in &["o.pgm", "o.asc", "o.csv"] {
         push_held(alloc, text, shelf, name)?;
     }
     text.push_str(" | out ")?;
