@@ -7,6 +7,7 @@ pub mod Filing
 pub mod Finishing
 pub mod Ground
 pub mod Holding
+pub mod Judging
 pub mod Named
 pub mod OneVerdict
 pub mod TextSteps
