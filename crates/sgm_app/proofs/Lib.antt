@@ -13,5 +13,6 @@ pub mod OneVerdict
 pub mod TextSteps
 pub mod Reading
 pub mod Steps
+pub mod Stopping
 pub mod Tallied
 pub mod VerdictLaws
