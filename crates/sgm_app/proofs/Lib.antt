@@ -7,10 +7,12 @@ pub mod Filing
 pub mod Finishing
 pub mod Ground
 pub mod Holding
+pub mod Judging
 pub mod Named
 pub mod OneVerdict
 pub mod TextSteps
 pub mod Reading
 pub mod Steps
+pub mod Stopping
 pub mod Tallied
 pub mod VerdictLaws

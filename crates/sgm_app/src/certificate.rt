@@ -8,14 +8,13 @@ ghost use Rattle.sgm_strip.specs.Scenes.{problem_of};
 ghost use Rattle.sgm_trace.specs.Texts.{trace_text};
 ghost use Rattle.sgm_calib.specs.Calibration.{Calibration};
 ghost use Rattle.sgm_calib.specs.declared.keys.CalibFault.{CalibFault};
-ghost use Rattle.sgm_app.specs.Judge.{CalibReads, StopsFor};
+ghost use Rattle.sgm_app.specs.Judge.{CalibReads, StopsFor, certificate_of_judged};
 ghost use Rattle.sgm_app.specs.Refusals.{unless};
 ghost use Rattle.sgm_app.specs.Certificates.{certificate_for, inside_refusal, is_inside};
 
 use crate::Refusal;
-use crate::judge::{judge_calib, judge_image};
+use crate::judge::{Judged, judge_pair};
 use crate::stops::TextsError;
-use sgm_base::Side;
 use sgm_energy::Dir;
 use sgm_job::prepare;
 use sgm_strip::Scene;
@@ -42,11 +41,29 @@ pub(crate) fn certificate(
         (λ text. certificate_for left_reads right_reads calib_reads dir x y d ≡ Ok text.items)
         (StopsFor (certificate_for left_reads right_reads calib_reads dir x y d)) }
 {
-    let left = judge_image(alloc, Side::Left, left)?;
-    let right = judge_image(alloc, Side::Right, right)?;
-    let calib = judge_calib(alloc, calib)?;
-    let scene = prepare(alloc, &left, &right, &calib)?;
-    certificate_of(alloc, &scene, dir, x, y, d)
+    match judge_pair(alloc, left, right, calib) {
+        Ok(judged) => judged_certificate(alloc, &judged, dir, x, y, d),
+        Err(stop) => Err(stop),
+    }
+}
+
+/// The certificate's text of a pair that is judged, where it makes a scene that has the pixel and the index.
+fn judged_certificate(
+    alloc: Global,
+    judged: &Judged,
+    dir: Dir,
+    x: u32,
+    y: u32,
+    d: u32,
+) -> Result<Vec<u8>, TextsError>
+    ensures { MatchResult result
+        (λ text. certificate_of_judged judged.now dir x y d ≡ Ok text.items)
+        (StopsFor (certificate_of_judged judged.now dir x y d)) }
+{
+    match prepare(alloc, &judged.left, &judged.right, &judged.calib) {
+        Ok(scene) => certificate_of(alloc, &scene, dir, x, y, d),
+        Err(error) => Err(TextsError::from(error)),
+    }
 }
 
 /// The certificate's text of a scene, where it has the pixel and the index.

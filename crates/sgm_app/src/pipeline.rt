@@ -6,14 +6,13 @@ ghost use Rattle.sgm_pgm.specs.declared.fault.PgmFault.{PgmFault};
 ghost use Rattle.sgm_calib.specs.Calibration.{Calibration};
 ghost use Rattle.sgm_calib.specs.declared.keys.CalibFault.{CalibFault};
 ghost use Rattle.sgm_words.specs.Ranges.{IsStrips, IsWorkers};
-ghost use Rattle.sgm_app.specs.Judge.{CalibReads, StopsFor};
+ghost use Rattle.sgm_app.specs.Judge.{CalibReads, StopsFor, texts_of_judged};
 ghost use Rattle.sgm_app.specs.Made.{texts_in};
 ghost use Rattle.sgm_app.specs.Verdict.{texts_for};
 
-use crate::judge::{judge_calib, judge_image};
+use crate::judge::{Judged, judge_pair};
 use crate::made::MadeTexts;
 use crate::stops::TextsError;
-use sgm_base::Side;
 use sgm_job::survey_refined;
 use sgm_refine::Refine;
 use sgm_work::Gate;
@@ -43,12 +42,44 @@ pub fn texts<R: Threads + Sync, G: Gate + Sync>(
         (λ made. texts_for left_reads right_reads calib_reads refine ≡ Ok (texts_in made))
         (StopsFor (texts_for left_reads right_reads calib_reads refine)) }
 {
-    let left = judge_image(alloc, Side::Left, left)?;
-    let right = judge_image(alloc, Side::Right, right)?;
-    let calib = judge_calib(alloc, calib)?;
-    let surveyed = survey_refined(
-        rt, alloc, &left, &right, &calib, strips, workers, refine, gate,
-    )?;
-    let made = MadeTexts::of(alloc, &calib, &surveyed)?;
-    Ok(made)
+    match judge_pair(alloc, left, right, calib) {
+        Ok(judged) => judged_texts(rt, alloc, &judged, strips, workers, refine, gate),
+        Err(stop) => Err(stop),
+    }
+}
+
+/// The texts of a pair that is judged, or the refusal of its survey.
+fn judged_texts<R: Threads + Sync, G: Gate + Sync>(
+    rt: &R,
+    alloc: Global,
+    judged: &Judged,
+    strips: u32,
+    workers: u32,
+    refine: Refine,
+    gate: &G,
+) -> Result<MadeTexts, TextsError>
+    requires strips { IsStrips strips }
+    requires workers { IsWorkers workers }
+    ensures { MatchResult result
+        (λ made. texts_of_judged judged.now refine ≡ Ok (texts_in made))
+        (StopsFor (texts_of_judged judged.now refine)) }
+{
+    let surveyed = match survey_refined(
+        rt,
+        alloc,
+        &judged.left,
+        &judged.right,
+        &judged.calib,
+        strips,
+        workers,
+        refine,
+        gate,
+    ) {
+        Ok(surveyed) => surveyed,
+        Err(error) => return Err(TextsError::from(error)),
+    };
+    match MadeTexts::of(alloc, &judged.calib, &surveyed) {
+        Ok(made) => Ok(made),
+        Err(_) => Err(TextsError::NoMemory),
+    }
 }

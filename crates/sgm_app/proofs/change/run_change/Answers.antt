@@ -10,6 +10,7 @@ use Rattle.sgm_app.proofs.Delivering.{settled, delivered, put_along, finished_al
 use Rattle.sgm_app.proofs.Reading.{grids_at}
 use Rattle.sgm_app.proofs.Steps.{shown_along, stop_shown, stops_along}
 use Rattle.sgm_app.proofs.VerdictLaws.{none_changed}
+use Rattle.sgm_app.proofs.Stopping.{texts_put, texts_out, texts_not_done}
 use Rattle.sgm_app.proofs.change.run_change.Goals as goal
 
 pub returns-in-Err-clause-cause : goal.returns-in-Err-clause-cause
@@ -83,3 +84,12 @@ returns-in-Ok-name_change-clause-out g c = λ told told_out v calls.
     (c.in-Ok.ensures.verdict told _ (none_changed 5 asked held))
     (grids_at _ _ _ _ _ _ at.earlier at.later c.deref.ensures.value c.deref-2.ensures.value ∙ c.in-Ok-change_texts.ensures)))
     (c.deliver.ensures.out told_out)
+
+pub returns-in-Err-change_texts-clause-files : goal.returns-in-Err-change_texts-clause-files
+returns-in-Err-change_texts-clause-files g c = λ told v calls. rw c.outcome-in-Err-change_texts.ensures (texts_put c.in-Err-change_texts.error v _ _ (c.in-Ok.ensures.held told))
+
+pub returns-in-Err-change_texts-clause-out : goal.returns-in-Err-change_texts-clause-out
+returns-in-Err-change_texts-clause-out g c = λ told told_out v calls. rw c.outcome-in-Err-change_texts.ensures (texts_out c.in-Err-change_texts.error v _ _ refl)
+
+pub returns-in-Err-change_texts-clause-finished : goal.returns-in-Err-change_texts-clause-finished
+returns-in-Err-change_texts-clause-finished g c = λ told v calls done. absurd (texts_not_done c.in-Err-change_texts.error (sym c.outcome-in-Err-change_texts.ensures ∙ done))

@@ -14,3 +14,30 @@ returns-clause-complete g c = λ told v calls.
 
 pub returns-clause-sure : goal.returns-clause-sure
 returns-clause-sure g c = λ reads writes. no_file_fault _ _ c.carry_out-outcome.result _ _ reads writes c.carry_out-outcome.ensures.counts
+
+pub returns-clause-cause : goal.returns-clause-cause
+returns-clause-cause g c = c.carry_out-outcome.ensures.cause
+
+pub returns-clause-out : goal.returns-clause-out
+returns-clause-out g c = c.carry_out-outcome.ensures.out
+
+pub returns-clause-untouched : goal.returns-clause-untouched
+returns-clause-untouched g c = c.carry_out-outcome.ensures.untouched
+
+pub returns-clause-writing : goal.returns-clause-writing
+returns-clause-writing g c = c.carry_out-outcome.ensures.writing
+
+pub returns-clause-unfinished : goal.returns-clause-unfinished
+returns-clause-unfinished g c = c.carry_out-outcome.ensures.unfinished
+
+pub returns-clause-finished : goal.returns-clause-finished
+returns-clause-finished g c = c.carry_out-outcome.ensures.finished
+
+pub returns-clause-counts : goal.returns-clause-counts
+returns-clause-counts g c = c.carry_out-outcome.ensures.counts
+
+pub returns-clause-line : goal.returns-clause-line
+returns-clause-line g c = c.write_fault.ensures.line
+
+pub returns-clause-err_faults : goal.returns-clause-err_faults
+returns-clause-err_faults g c = c.write_fault.ensures.faults

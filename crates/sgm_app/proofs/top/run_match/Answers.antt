@@ -1,10 +1,11 @@
-use Rattle.std.proofs.Common.{Ok, Err, sym, refl}
+use Rattle.std.proofs.Common.{◌∙◌, Ok, Err, sym, refl}
 use Rattle.sgm_words.specs.Operands.{of_match}
 use Rattle.sgm_app.specs.Verdict.{files}
 use Rattle.sgm_app.proofs.Answering.{made_of, made_is, fetch_shown, refusal_shown}
 use Rattle.sgm_app.proofs.Counting.{counts_since, texts_counts}
 use Rattle.sgm_app.proofs.Delivering.{delivered, put_along, finished_along, out_along}
 use Rattle.sgm_app.proofs.Steps.{shown_along}
+use Rattle.sgm_app.proofs.Stopping.{texts_put, texts_out, texts_not_done}
 use Rattle.sgm_app.proofs.top.run_match.Goals as goal
 
 pub returns-in-Err-clause-cause : goal.returns-in-Err-clause-cause
@@ -73,3 +74,12 @@ pub returns-clause-counts : goal.returns-clause-counts
 returns-clause-counts g c =
     let kept = c.in-Ok.ensures.counts (of_match c.args.operands.now) (λ input name is. is) in
     record { reads = kept.0; writes = kept.1; out = refl }
+
+pub returns-in-Err-texts-clause-files : goal.returns-in-Err-texts-clause-files
+returns-in-Err-texts-clause-files g c = λ told v calls. rw c.outcome-in-Err-texts.ensures (texts_put c.in-Err-texts.error v _ _ (c.in-Ok.ensures.held told))
+
+pub returns-in-Err-texts-clause-out : goal.returns-in-Err-texts-clause-out
+returns-in-Err-texts-clause-out g c = λ told told_out v calls. rw c.outcome-in-Err-texts.ensures (texts_out c.in-Err-texts.error v _ _ refl)
+
+pub returns-in-Err-texts-clause-finished : goal.returns-in-Err-texts-clause-finished
+returns-in-Err-texts-clause-finished g c = λ told v calls done. absurd (texts_not_done c.in-Err-texts.error (sym c.outcome-in-Err-texts.ensures ∙ done))
