@@ -1,5 +1,5 @@
 -- What the outcome must be, from what the verdict, the files and the counts show.
-use Rattle.std.proofs.Common.{◌≡◌, ◌≢◌, ◌⊎◌, inl, inr, ℕ, ◌<◌, List, [], ◌∷◌, refl, sym, ap, subst, ◌∙◌, arith, Option, None, Some, Result, Ok, Err, Bool, true, false, length, nat_lt, if◌then◌else◌, Contains}
+use Rattle.std.proofs.Common.{◌≡◌, ◌≢◌, ◌⊎◌, ◌↔◌, inl, inr, ℕ, ◌<◌, List, [], ◌∷◌, refl, sym, ap, subst, ◌∙◌, arith, Option, None, Some, Result, Ok, Err, Bool, true, false, length, nat_lt, if◌then◌else◌, Contains}
 use Rattle.std.specs.Str.{bytes_eq}
 use Rattle.std.proofs.lemmas.Slice.Eq.{bytes_eq-Decides}
 use Rattle.std.proofs.lemmas.List.Elements.{All-contains, Contains-append_right}
@@ -479,3 +479,16 @@ usage_no_file fault outcome e = let P : Outcome → Type 0 = λ o. IsNoFileFault
 pub no_file_fault : (read : Result Options UsageFault) (words : List (List ℕ)) (outcome : Outcome) (before now : Faults) → NoneRose before.reads now.reads → NoneRose before.writes now.writes → RunCounts read words outcome before now → IsNoFileFault outcome
 no_file_fault (Err fault) words outcome before now reads writes counts = usage_no_file fault outcome counts.0
 no_file_fault (Ok options) words outcome before now reads writes counts = names_no_file (names_of options words) outcome before now reads writes counts
+
+-- a fault of the words is the outcome exactly where the words have it
+never_usage : (names : FileNames) (outcome : Outcome) (fault : UsageFault) (before now : Faults) → CountsShow names outcome before now → outcome ≡ Usage fault → ⊥
+never_usage names outcome fault before now counts is = let P : Outcome → Type 0 = λ o. CountsShow names o before now in subst P is counts
+
+pub usage_by : (read : Result Options UsageFault) (words : List (List ℕ)) (outcome : Outcome) (before now : Faults) → RunCounts read words outcome before now
+    → (fault : UsageFault) → (outcome ≡ Usage fault) ↔ (read ≡ Err fault)
+usage_by (Err other) words outcome before now counts fault = (
+  λ is. let same : other ≡ fault = cc (counts.0) in ap (λ (f : UsageFault). let read : Result Options UsageFault = Err f in read) same,
+  λ is. let same : other ≡ fault = cc in counts.0 ∙ ap (λ (f : UsageFault). Usage f) same,
+)
+usage_by (Ok options) words outcome before now counts fault =
+    (λ is. absurd (never_usage (names_of options words) outcome fault before now counts is), λ is. absurd (cc))

@@ -1,14 +1,18 @@
 -- What a run calls for, once its texts are made and named.
-use Rattle.std.proofs.Common.{◌≡◌, ◌∙◌, sym, ap, subst, List, ℕ, Result, Ok}
+use Rattle.std.proofs.Common.{◌≡◌, ◌∙◌, inl, inr, sym, ap, subst, List, ℕ, Option, Result, Ok}
 use Rattle.sgm_io.specs.Held.{Held}
 use Rattle.sgm_io.specs.Unfinished.{NameSet}
 use Rattle.sgm_outcome.specs.declared.outcome.Outcome.{Outcome}
+use Rattle.sgm_outcome.specs.declared.outcome.Outcome.TheVariants.{Done}
 use Rattle.sgm_outcome.specs.declared.outcome.Refusal.{Refusal}
 use Rattle.sgm_app.specs.Outputs.{OutputFile}
 use Rattle.sgm_app.specs.Verdict.{Verdict, files, unless_refused, outputs_of, IsFiles}
-use Rattle.sgm_app.specs.Ends.{OutStands}
+use Rattle.sgm_app.specs.Ends.{OutStands, WritingStands}
 use Rattle.sgm_app.specs.Unfinished.{AreFinished}
-use Rattle.sgm_app.specs.Deliver.{FilesPut}
+use Rattle.sgm_app.specs.Deliver.{EndsIn, FilesPut, Stops}
+use Rattle.sgm_app.specs.Stops.{write_outcome}
+use Rattle.sgm_app.specs.declared.stops.WriteStop.{WriteStop}
+use Rattle.sgm_app.specs.declared.stops.WriteStop.TheVariants as write
 
 -- a verdict that goes on with what was made
 pub settled : {T : Type 0} (gone v : Verdict) (wanted : Result T Refusal) (next : T → Verdict) (made : T) → gone ≡ v → gone ≡ unless_refused wanted next → wanted ≡ Ok made → next made ≡ v
@@ -35,3 +39,21 @@ files_shown outputs summary v same = let P : Verdict → Type 0 = λ x. IsFiles 
 
 pub out_along : (outcome : Outcome) (v w : Verdict) (old new : List ℕ) → w ≡ v → OutStands outcome w old new → OutStands outcome v old new
 out_along outcome v w old new same out = let P : Verdict → Type 0 = λ x. OutStands outcome x old new in subst P same out
+
+-- ---- what stands where the writing stopped
+
+pub stop_put : (named wanted : List OutputFile) (summary : List ℕ) (stop : WriteStop) (old new : Held) → named ≡ wanted → Stops named stop old new → FilesPut (write_outcome stop) (files wanted summary) old new
+stop_put named wanted summary (write.Unwritten output) old new same ends = let P : List OutputFile → Type 0 = λ fs. EndsIn output fs old new in inl (subst P same ends)
+stop_put named wanted summary write.NoMemory old new same ends = let P : List OutputFile → Type 0 = λ fs. EndsIn ends.0 fs old new in inr (ends.0, subst P same ends.1)
+
+pub stop_out : (stop : WriteStop) (v : Verdict) (old new : List ℕ) → new ≡ old → OutStands (write_outcome stop) v old new
+stop_out (write.Unwritten output) v old new same = inl same
+stop_out write.NoMemory v old new same = same
+
+pub stop_writing : (stop : WriteStop) (old new : Option (List ℕ)) → WritingStands (write_outcome stop) old new
+stop_writing (write.Unwritten output) old new = tt
+stop_writing write.NoMemory old new = tt
+
+pub stop_not_done : (stop : WriteStop) → write_outcome stop ≡ Done → ⊥
+stop_not_done (write.Unwritten output) is = absurd (cc)
+stop_not_done write.NoMemory is = absurd (cc)

@@ -1,5 +1,5 @@
 -- Two grids on the same ground, and the texts that they call for, from one step to the next.
-use Rattle.std.proofs.Common.{◌≡◌, ◌∙◌, ℕ, ℤ, pos, ap, refl, true, false, Bool, if◌then◌else◌, Option, Some, None, Result, Ok, Err}
+use Rattle.std.proofs.Common.{◌≡◌, ◌∙◌, ℕ, ℤ, pos, ap, refl, true, false, Bool, if◌then◌else◌, Option, Some, None, Result, Ok}
 use Rattle.std.specs.Option.{option_or}
 use Rattle.std.specs.Ordering.{int_eq}
 use Rattle.std.proofs.lemmas.Bool.Decides.{Decides-int_eq}
@@ -52,7 +52,7 @@ same_ground a b e =
 
 -- ---- what comes after each step
 
-abbrev after_later : Cells → Cells → Result GridTexts Refusal
+abbrev pub after_later : Cells → Cells → Result GridTexts Refusal
 after_later a b = unless (ground_refusal a.spec b.spec) (grid_texts_of a b)
 
 abbrev after_earlier : Result Cells AscFault → Cells → Result GridTexts Refusal
@@ -62,7 +62,7 @@ to_later : (earlier later : Result Cells AscFault) (a : Cells) → or_refused (A
 unfolding change_for
 to_later earlier later a is = goes_on (or_refused (Asc input.Earlier) earlier) (after_earlier later) a is
 
-to_ground : (earlier later : Result Cells AscFault) (a b : Cells) → or_refused (Asc input.Earlier) earlier ≡ Ok a → or_refused (Asc input.Later) later ≡ Ok b → change_for earlier later ≡ after_later a b
+pub to_ground : (earlier later : Result Cells AscFault) (a b : Cells) → or_refused (Asc input.Earlier) earlier ≡ Ok a → or_refused (Asc input.Later) later ≡ Ok b → change_for earlier later ≡ after_later a b
 to_ground earlier later a b is_earlier is_later = to_later earlier later a is_earlier ∙ goes_on (or_refused (Asc input.Later) later) (after_later a) b is_later
 
 -- ---- the texts, or the stop of a step
@@ -74,10 +74,6 @@ stop_earlier earlier later stop is = stops_on (or_refused (Asc input.Earlier) ea
 pub stop_later : (earlier later : Result Cells AscFault) (stop : TextsError) (a : Cells) → or_refused (Asc input.Earlier) earlier ≡ Ok a → StopsFor (or_refused (Asc input.Later) later) stop → StopsFor (change_for earlier later) stop
 stop_later earlier later stop a is_earlier is = stops_along _ _ stop (to_later earlier later a is_earlier) (stops_on (or_refused (Asc input.Later) later) (after_later a) stop is)
 
-pub refused_ground : (earlier later : Result Cells AscFault) (a b : Cells) (refusal : Refusal) → or_refused (Asc input.Earlier) earlier ≡ Ok a → or_refused (Asc input.Later) later ≡ Ok b → ground_refusal a.spec b.spec ≡ Some refusal
-    → change_for earlier later ≡ Err refusal
-refused_ground earlier later a b refusal is_earlier is_later is = to_ground earlier later a b is_earlier is_later ∙ ap (λ o. unless o (grid_texts_of a b)) is
-
-pub change_made : (earlier later : Result Cells AscFault) (a b : Cells) → or_refused (Asc input.Earlier) earlier ≡ Ok a → or_refused (Asc input.Later) later ≡ Ok b → ground_refusal a.spec b.spec ≡ None
-    → change_for earlier later ≡ Ok (grid_texts_of a b)
-change_made earlier later a b is_earlier is_later is = to_ground earlier later a b is_earlier is_later ∙ ap (λ o. unless o (grid_texts_of a b)) is
+-- what two grids call for, from the refusal of their ground on
+pub on_ground : (a b : Cells) (found : Option Refusal) → ground_refusal a.spec b.spec ≡ found → after_later a b ≡ unless found (grid_texts_of a b)
+on_ground a b found is = ap (λ o. unless o (grid_texts_of a b)) is

@@ -9,7 +9,7 @@ use Rattle.sgm_refine.specs.Refining.{Refining}
 use Rattle.sgm_job.specs.Survey.{Survey, surveyed}
 use Rattle.sgm_outcome.specs.declared.outcome.Refusal.{Refusal}
 use Rattle.sgm_pair.specs.Pair.{pair_image}
-use Rattle.sgm_app.specs.Judge.{StopsFor, judged_for, texts_of_judged}
+use Rattle.sgm_app.specs.Judge.{StopsFor, judged_for, texts_of_judged, demo_of_judged}
 use Rattle.sgm_app.specs.Texts.{Texts, texts_of, demo_text}
 use Rattle.sgm_app.specs.Refusals.{or_refused, ◌>>=◌, refusal_of}
 use Rattle.sgm_app.specs.Verdict.{texts_for, demo_for}
@@ -53,14 +53,18 @@ stop_survey j refine stop is = stops_along _ _ stop (survey_of j refine) (stops_
 abbrev after_demo : Survey → Result (List ℕ) Refusal
 after_demo survey = Ok (demo_text survey.disp)
 
-demo_at : (number : ℕ) (refine : Refining) (a b : Picture) → a ≡ pair_image number Left DEMO_WIDTH DEMO_HEIGHT → b ≡ pair_image number Right DEMO_WIDTH DEMO_HEIGHT → demo_for number refine ≡ (or_refused refusal_of (surveyed a b plain refine) >>= after_demo)
-unfolding demo_for
-demo_at number refine a b is_left is_right = rw (is_left, is_right) refl
+demo_survey : (j : Judged) (refine : Refining) → demo_of_judged j refine ≡ (or_refused refusal_of (surveyed j.left j.right j.calib refine) >>= after_demo)
+unfolding demo_of_judged
+demo_survey j refine = refl
 
-pub demo_made : (number : ℕ) (refine : Refining) (a b : Picture) (survey : Survey) → a ≡ pair_image number Left DEMO_WIDTH DEMO_HEIGHT → b ≡ pair_image number Right DEMO_WIDTH DEMO_HEIGHT → or_refused refusal_of (surveyed a b plain refine) ≡ Ok survey
-    → demo_for number refine ≡ Ok (demo_text survey.disp)
-demo_made number refine a b survey is_left is_right is = demo_at number refine a b is_left is_right ∙ goes_on (or_refused refusal_of (surveyed a b plain refine)) after_demo survey is
+pub demo_made : (j : Judged) (refine : Refining) (survey : Survey) → or_refused refusal_of (surveyed j.left j.right j.calib refine) ≡ Ok survey → demo_of_judged j refine ≡ Ok (demo_text survey.disp)
+demo_made j refine survey is = demo_survey j refine ∙ goes_on (or_refused refusal_of (surveyed j.left j.right j.calib refine)) after_demo survey is
 
-pub demo_stop : (number : ℕ) (refine : Refining) (a b : Picture) (stop : TextsError) → a ≡ pair_image number Left DEMO_WIDTH DEMO_HEIGHT → b ≡ pair_image number Right DEMO_WIDTH DEMO_HEIGHT → StopsFor (or_refused refusal_of (surveyed a b plain refine)) stop
-    → StopsFor (demo_for number refine) stop
-demo_stop number refine a b stop is_left is_right is = stops_along _ _ stop (demo_at number refine a b is_left is_right) (stops_on (or_refused refusal_of (surveyed a b plain refine)) after_demo stop is)
+pub demo_stop : (j : Judged) (refine : Refining) (stop : TextsError) → StopsFor (or_refused refusal_of (surveyed j.left j.right j.calib refine)) stop → StopsFor (demo_of_judged j refine) stop
+demo_stop j refine stop is = stops_along _ _ stop (demo_survey j refine) (stops_on (or_refused refusal_of (surveyed j.left j.right j.calib refine)) after_demo stop is)
+
+-- the pair that is generated from the number, with the plain settings
+pub demo_at : (number : ℕ) (refine : Refining) (a b : Picture) (c : Calibration) → a ≡ pair_image number Left DEMO_WIDTH DEMO_HEIGHT → b ≡ pair_image number Right DEMO_WIDTH DEMO_HEIGHT → c ≡ plain
+    → demo_for number refine ≡ demo_of_judged (record { left = a; right = b; calib = c }) refine
+unfolding demo_for demo_of_judged
+demo_at number refine a b c is_left is_right is_plain = rw (is_left, is_right, is_plain) refl

@@ -15,7 +15,7 @@ use Rattle.sgm_refine.specs.Refining.{Refining}
 use Rattle.sgm_job.specs.Survey.{prepared, surveyed}
 use Rattle.sgm_app.specs.Refusals.{or_refused, ◌>>=◌, refusal_of, unless}
 use Rattle.sgm_app.specs.Certificates.{inside_refusal}
-use Rattle.sgm_app.specs.Texts.{Texts, texts_of}
+use Rattle.sgm_app.specs.Texts.{Texts, texts_of, demo_text}
 use Rattle.sgm_app.specs.declared.judge.Judged.{Judged}
 use Rattle.sgm_app.specs.declared.stops.TextsError.{TextsError}
 use Rattle.sgm_app.specs.declared.stops.TextsError.TheVariants.{Refused, NoMemory}
@@ -43,6 +43,12 @@ unfoldable pub texts_of_judged : Judged → Refining → Result Texts Refusal
 texts_of_judged judged refine = do
   survey ← or_refused refusal_of (surveyed judged.left judged.right judged.calib refine)
   Ok (texts_of judged.calib survey)
+
+-- the summary of its demo, or its refusal
+unfoldable pub demo_of_judged : Judged → Refining → Result (List ℕ) Refusal
+demo_of_judged judged refine = do
+  survey ← or_refused refusal_of (surveyed judged.left judged.right judged.calib refine)
+  Ok (demo_text survey.disp)
 
 -- its certificate, or its refusal
 unfoldable pub certificate_of_judged : Judged → Dir → ℕ → ℕ → ℕ → Result (List ℕ) Refusal

@@ -6,7 +6,7 @@ ghost use Rattle.sgm_outcome.specs.declared.outcome.Refusal.TheVariants as refus
 ghost use Rattle.sgm_app.specs.Changing.{change_for, compared_text, differ_at, grid_texts_of, ground_refusal};
 ghost use Rattle.sgm_app.specs.Judge.{StopsFor};
 ghost use Rattle.sgm_app.specs.Made.{change_texts_in};
-ghost use Rattle.sgm_app.specs.Refusals.{or_refused};
+ghost use Rattle.sgm_app.specs.Refusals.{or_refused, unless};
 
 use crate::stops::TextsError;
 use crate::{Input, Refusal};
@@ -34,10 +34,19 @@ pub(crate) fn change_texts(
 {
     let earlier = judge_grid(alloc, Input::Earlier, earlier)?;
     let later = judge_grid(alloc, Input::Later, later)?;
+    grid_texts(alloc, &earlier, &later)
+}
+
+/// The texts of two grids, or their refusal where they don't lie on the same ground.
+fn grid_texts(alloc: Global, earlier: &Grid, later: &Grid) -> Result<ChangeTexts, TextsError>
+    ensures { MatchResult result
+        (λ made. unless (ground_refusal earlier.now.spec later.now.spec) (grid_texts_of earlier.now later.now) ≡ Ok (change_texts_in made))
+        (StopsFor (unless (ground_refusal earlier.now.spec later.now.spec) (grid_texts_of earlier.now later.now))) }
+{
     if let Some(refusal) = ground_refusal(earlier.spec(), later.spec()) {
         return Err(TextsError::Refused(refusal));
     }
-    let made = ChangeTexts::of(alloc, &earlier, &later)?;
+    let made = ChangeTexts::of(alloc, earlier, later)?;
     Ok(made)
 }
 

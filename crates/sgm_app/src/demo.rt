@@ -2,16 +2,18 @@
 ghost use Rattle.std.specs.Prelude.{◌≡◌, Ok, IsTrue, MatchResult, string_bytes};
 ghost use Rattle.sgm_io.specs.Counts.{Counts};
 ghost use Rattle.sgm_words.specs.Ranges.{IsStrips, IsWorkers};
-ghost use Rattle.sgm_app.specs.Judge.{StopsFor};
+ghost use Rattle.sgm_app.specs.Judge.{StopsFor, demo_of_judged};
 ghost use Rattle.sgm_app.specs.Ends.{ShownBy, OutStands, OutUntouched, OutCountsShow, faults};
 ghost use Rattle.sgm_app.specs.Verdict.{demo_for, demoed};
 
+use crate::delivery::deliver_summary;
+use crate::judge::Judged;
 use crate::made::demo_text;
 use crate::stops::TextsError;
-use crate::{Outcome, Output, pair};
+use crate::{Outcome, pair};
 use sgm_base::Size;
 use sgm_calib::Calib;
-use sgm_io::{Sink, write_whole};
+use sgm_io::Sink;
 use sgm_job::survey_refined;
 use sgm_refine::Refine;
 use sgm_work::Gate;
@@ -23,6 +25,41 @@ pub const DEMO_WIDTH: u32 = 256;
 
 /// Its height.
 pub const DEMO_HEIGHT: u32 = 192;
+
+// The summary of a demo over a pair that is judged, its map being refined so.
+fn judged_summary<R: Threads + Sync, G: Gate + Sync>(
+    rt: &R,
+    alloc: Global,
+    judged: &Judged,
+    strips: u32,
+    workers: u32,
+    refine: Refine,
+    gate: &G,
+) -> Result<String, TextsError>
+    requires strips { IsStrips strips }
+    requires workers { IsWorkers workers }
+    ensures { MatchResult result
+        (λ summary. demo_of_judged judged.now refine ≡ Ok (string_bytes summary)) (StopsFor (demo_of_judged judged.now refine)) }
+{
+    let surveyed = match survey_refined(
+        rt,
+        alloc,
+        &judged.left,
+        &judged.right,
+        &judged.calib,
+        strips,
+        workers,
+        refine,
+        gate,
+    ) {
+        Ok(surveyed) => surveyed,
+        Err(error) => return Err(TextsError::from(error)),
+    };
+    match demo_text(alloc, &surveyed.disp) {
+        Ok(summary) => Ok(summary),
+        Err(_) => Err(TextsError::NoMemory),
+    }
+}
 
 // The summary of a demo: the pair that is generated from the number, with the plain settings and a map that is
 // refined so.
@@ -45,19 +82,12 @@ fn demo_summary<R: Threads + Sync, G: Gate + Sync>(
         height: DEMO_HEIGHT,
     };
     let (left, right) = pair(alloc, size, number)?;
-    let surveyed = survey_refined(
-        rt,
-        alloc,
-        &left,
-        &right,
-        &Calib::plain(),
-        strips,
-        workers,
-        refine,
-        gate,
-    )?;
-    let summary = demo_text(alloc, &surveyed.disp)?;
-    Ok(summary)
+    let judged = Judged {
+        left,
+        right,
+        calib: Calib::plain(),
+    };
+    judged_summary(rt, alloc, &judged, strips, workers, refine, gate)
 }
 
 /// Surveys the pair that is generated from the number, and writes the summary.
@@ -79,10 +109,7 @@ pub fn run_demo<R: Threads + Sync, O: Sink, G: Gate + Sync>(
     ensures counts { (reads writes : Counts) → OutCountsShow result (faults reads writes (O.faults out.old)) (faults reads writes (O.faults out.new)) }
 {
     match demo_summary(rt, alloc, number, strips, workers, refine, gate) {
-        Ok(summary) => match write_whole(out, summary.as_bytes()) {
-            Ok(()) => Outcome::Done,
-            Err(_) => Outcome::WriteFault(Output::Summary),
-        },
+        Ok(summary) => deliver_summary(out, summary.as_bytes()),
         Err(stop) => stop.outcome(),
     }
 }

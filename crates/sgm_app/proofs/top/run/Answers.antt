@@ -1,4 +1,4 @@
-use Rattle.sgm_app.proofs.Completing.{distinct_verdict, completes_run, no_file_fault}
+use Rattle.sgm_app.proofs.Completing.{distinct_verdict, completes_run, no_file_fault, usage_by}
 use Rattle.sgm_app.proofs.Holding.{stand}
 use Rattle.sgm_app.proofs.top.run.Goals as goal
 
@@ -35,6 +35,9 @@ returns-clause-finished g c = c.carry_out-outcome.ensures.finished
 
 pub returns-clause-counts : goal.returns-clause-counts
 returns-clause-counts g c = c.carry_out-outcome.ensures.counts
+
+pub returns-clause-usage : goal.returns-clause-usage
+returns-clause-usage g c = usage_by _ _ c.carry_out-outcome.result _ _ c.carry_out-outcome.ensures.counts
 
 pub returns-clause-line : goal.returns-clause-line
 returns-clause-line g c = c.write_fault.ensures.line
