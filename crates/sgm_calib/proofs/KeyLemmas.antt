@@ -8,16 +8,16 @@ use Rattle.serde_json.specs.Find.{get, as_str}
 use Rattle.serde_json.specs.View.{view}
 use Rattle.serde_json.specs.declared.value.Value.{Value}
 use Rattle.sgm_calib.specs.declared.keys.CalibFault.{CalibFault}
-use Rattle.sgm_calib.specs.declared.keys.CalibFault.TheVariants.{Range}
+use Rattle.sgm_calib.specs.declared.keys.CalibFault.TheVariants.{Missing, Range}
 use Rattle.sgm_calib.specs.declared.kind.Kind.TheVariants.{Mesh}
 use Rattle.sgm_calib.specs.declared.place.Place.{Place}
 use Rattle.sgm_calib.specs.declared.place.TheConstants.{PLAIN}
-use Rattle.sgm_calib.specs.Rows.{Row, key_at}
+use Rattle.sgm_calib.specs.Rows.{Row, key_at, is_required}
 use Rattle.sgm_calib.specs.Table as table
 use Rattle.sgm_calib.specs.Table.{rows_in}
 use Rattle.sgm_calib.specs.Checks.{typed_in, or_out_of_range, text_in, key_fault, keys_fault}
 use Rattle.sgm_calib.specs.WarpKeys.{rows_of_kind, mesh_fault}
-use Rattle.sgm_calib.specs.Judge.{sort_of, itself_fault, held_fault, section_fault}
+use Rattle.sgm_calib.specs.Judge.{sort_of, itself_fault_of, itself_fault, held_fault, section_fault}
 
 -- a key that is wrong is the first fault of it and later keys; one that is right leaves the first fault to those
 pub fault-here : (place : Place) (d : Data) (row : Row) (rows : List Row) (fault : CalibFault)
@@ -42,6 +42,14 @@ section_fault-held top row rows found object right there is_found are =
 pub section_fault-itself : (top : Data) (row : Row) (fault : CalibFault) → itself_fault top row ≡ Some fault → section_fault top row ≡ Some fault
 unfolding section_fault
 section_fault-itself top row fault wrong = ap (λ found. option_or found (held_fault row (sort_of top) (get row.name top))) wrong
+
+-- an object that must be there and isn't
+pub itself_fault-missing : (top : Data) (row : Row) → None ≡ get row.name top → true ≡ is_required row.presence top
+    → itself_fault top row ≡ Some (Missing (key_at PLAIN row))
+unfolding itself_fault
+itself_fault-missing top row absent required =
+    ap (itself_fault_of row (sort_of top) (is_required row.presence top)) (sym absent)
+    ∙ ap (λ asked. itself_fault_of row (sort_of top) asked None) (sym required)
 
 -- what is wrong with a text that is there, by its test
 if-result : {A : Type 0} (b : Bool) (a : A) (fault : CalibFault) → result_err (if b then Ok a else Err fault) ≡ (if b then None else Some fault)

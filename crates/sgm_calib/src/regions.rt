@@ -5,6 +5,7 @@ ghost use Rattle.serde_json.specs.View.{view};
 ghost use Rattle.serde_json.specs.Find.{get};
 ghost use Rattle.sgm_report.specs.Areas.{IsArea, LiesIn, IsBase, IsRegionName};
 ghost use Rattle.sgm_calib.specs.Table as table;
+ghost use Rattle.sgm_calib.specs.Rows.{number_of, count_of, IsCount};
 ghost use Rattle.sgm_calib.specs.Checks.{first_of, key_fault, keys_fault, text_of, elements, IsFaultOf};
 ghost use Rattle.sgm_calib.specs.RegionKeys.{region_place, region_number_keys, region_fault, region_faults, regions_fault_of, regions_fault, area_of, area_in, regions_in};
 ghost use Rattle.sgm_calib.specs.Judge.{grid_in};
@@ -14,10 +15,7 @@ use crate::keys::{CalibError, CalibFault};
 use crate::lists::elements;
 use crate::place::{PLAIN, Place};
 use crate::sort::Sort;
-use crate::table::{
-    REGION, REGION_BASE, REGION_COL, REGION_COLS, REGION_NAME, REGION_NUMBERS, REGION_ROW,
-    REGION_ROWS, REGIONS,
-};
+use crate::table::{REGION, REGION_NAME, REGION_NUMBERS, REGIONS};
 use serde_json::Value;
 use sgm_base::MAX_REGIONS;
 use sgm_grid::GridSpec;
@@ -54,16 +52,38 @@ fn region_name<'a>(object: &'a Value, place: Place) -> Result<&'a str, CalibFaul
     ensures kept { IfOk result (λ name. IsRegionName name.now) }
     ensures fault { IfErr result (λ f. key_fault place (view object.now) table.region_name ≡ Some f) }
 {
-    let name = text(object, &REGION_NAME, place)?;
+    let row = &REGION_NAME;
+    let name = text(object, row, place)?;
     if is_region_name(name) {
         Ok(name)
     } else {
-        Err(CalibFault::Range(key_at(&REGION_NAME, place)))
+        Err(CalibFault::Range(key_at(row, place)))
+    }
+}
+
+/// The cells and the base of a region, where they have no fault.
+fn cells_at(object: &Value) -> RegionNumbers
+    requires col { IsCount (number_of table.region_col (view object.now)) }
+    requires row { IsCount (number_of table.region_row (view object.now)) }
+    requires cols { IsCount (number_of table.region_cols (view object.now)) }
+    requires rows { IsCount (number_of table.region_rows (view object.now)) }
+    ensures col { result.col ≡ count_of table.region_col (view object.now) }
+    ensures row { result.row ≡ count_of table.region_row (view object.now) }
+    ensures cols { result.cols ≡ count_of table.region_cols (view object.now) }
+    ensures rows { result.rows ≡ count_of table.region_rows (view object.now) }
+    ensures base { result.base ≡ number_of table.region_base (view object.now) }
+{
+    let [col, row, cols, rows, base] = &REGION_NUMBERS;
+    RegionNumbers {
+        col: count_at(object, col.name),
+        row: count_at(object, row.name),
+        cols: count_at(object, cols.name),
+        rows: count_at(object, rows.name),
+        base: number_at(object, base.name),
     }
 }
 
 /// The cells and the base of a region, once its names are known.
-#[tactic(auto, unfolding(crate::specs::RegionKeys::area_in))]
 fn region_numbers(object: &Value, place: Place) -> Result<RegionNumbers, CalibFault>
     requires { place.shift ≡ 0 }
     ensures ok { OnOk result (keys_fault place (view object.now) region_number_keys ≡ None) }
@@ -75,13 +95,7 @@ fn region_numbers(object: &Value, place: Place) -> Result<RegionNumbers, CalibFa
     ensures fault { IfErr result (λ f. keys_fault place (view object.now) region_number_keys ≡ Some f) }
 {
     check_numbers(object, &REGION_NUMBERS, place)?;
-    Ok(RegionNumbers {
-        col: count_at(object, REGION_COL.name),
-        row: count_at(object, REGION_ROW.name),
-        cols: count_at(object, REGION_COLS.name),
-        rows: count_at(object, REGION_ROWS.name),
-        base: number_at(object, REGION_BASE.name),
-    })
+    Ok(cells_at(object))
 }
 
 /// The name, the cells and the base of a region, or its first fault.
@@ -155,11 +169,12 @@ fn region_list(alloc: Global, list: &Value, grid: GridSpec) -> Result<Vec<Region
     ensures few { IfOk result (λ v. length v.items ≤ MAX_REGIONS) }
     ensures fault { IfErr result (λ e. IsFaultOf (regions_fault_of grid.cols grid.rows (Some (view list.now))) e) }
 {
+    let row = &REGIONS;
     let Some(items) = elements(list) else {
-        return Err(CalibError::Fault(CalibFault::Type_(key_at(&REGIONS, PLAIN))));
+        return Err(CalibError::Fault(CalibFault::Type_(key_at(row, PLAIN))));
     };
     if items.len() > MAX_REGIONS {
-        return Err(CalibError::Fault(CalibFault::Range(key_at(&REGIONS, PLAIN))));
+        return Err(CalibError::Fault(CalibFault::Range(key_at(row, PLAIN))));
     }
     regions_of(alloc, items, grid)
 }

@@ -11,7 +11,7 @@ ghost use Rattle.sgm_height.specs.Camera.{IsCamera};
 ghost use Rattle.sgm_grid.specs.Cells.{IsGridSpec};
 ghost use Rattle.sgm_energy.specs.Pens.{penalties_of as seen};
 ghost use Rattle.sgm_calib.specs.Table as table;
-ghost use Rattle.sgm_calib.specs.Rows.{number_of, count_of, meant, form_meant, presence_meant};
+ghost use Rattle.sgm_calib.specs.Rows.{number_of, count_of, IsCount, meant, form_meant, presence_meant};
 ghost use Rattle.sgm_calib.specs.Checks.{keys_fault, value_of};
 ghost use Rattle.sgm_calib.specs.Table.{given_rows, rows_in, span_of, window_of, penalties_of, camera_of, grid_of};
 ghost use Rattle.sgm_calib.specs.Judge.{section_fault, camera_in, grid_in};
@@ -24,9 +24,8 @@ use crate::keys::CalibFault;
 use crate::place::PLAIN;
 use crate::sort::Sort;
 use crate::table::{
-    ADAPT, BASELINE, CAMERA, CAMERA_KEYS, CELL, CENSUS, COUNT, CX, CY, DISPARITIES, DOFFS, FAR,
-    FIRST, FOCAL, GRID, GRID_COLS, GRID_KEYS, GRID_ROWS, HEIGHT, MOUNT, NEAR, P1, P2, PENALTIES,
-    SOUTH, WEST, WIDTH,
+    ADAPT, CAMERA, CAMERA_KEYS, CENSUS, CENSUS_KEYS, DISPARITIES, DISPARITIES_KEYS, GRID,
+    GRID_KEYS, PENALTIES, PENALTIES_KEYS,
 };
 use serde_json::Value;
 use sgm_base::Span;
@@ -55,8 +54,9 @@ fn span_of(object: &Value) -> Result<Span, CalibFault>
     ensures value { IfOk result (λ span. span ≡ span_of (view object.now)) }
     ensures fault { IfErr result (λ f. keys_fault PLAIN (view object.now) table.disparities_keys ≡ Some f) }
 {
-    let first = whole(object, &FIRST, PLAIN)?;
-    let count = whole(object, &COUNT, PLAIN)?;
+    let [first, count] = &DISPARITIES_KEYS;
+    let first = whole(object, first, PLAIN)?;
+    let count = whole(object, count, PLAIN)?;
     Ok(span(first, count))
 }
 
@@ -94,8 +94,9 @@ fn window_of(object: &Value) -> Result<Window, CalibFault>
     ensures value { IfOk result (λ window. window ≡ window_of (view object.now)) }
     ensures fault { IfErr result (λ f. keys_fault PLAIN (view object.now) table.census_keys ≡ Some f) }
 {
-    let width = odd_or_whole(object, &WIDTH, PLAIN)?;
-    let height = odd_or_whole(object, &HEIGHT, PLAIN)?;
+    let [width, height] = &CENSUS_KEYS;
+    let width = odd_or_whole(object, width, PLAIN)?;
+    let height = odd_or_whole(object, height, PLAIN)?;
     Ok(sides(width, height))
 }
 
@@ -145,10 +146,11 @@ fn pen_of(object: &Value, sort: Sort) -> Result<Pen, CalibFault>
     ensures value { IfOk result (λ pen. seen pen ≡ penalties_of (view object.now)) }
     ensures fault { IfErr result (λ f. keys_fault PLAIN (view object.now) (rows_in table.penalties sort) ≡ Some f) }
 {
-    let p1 = whole(object, &P1, PLAIN)?;
-    let p2 = whole(object, &P2, PLAIN)?;
+    let [p1, p2, adapt] = &PENALTIES_KEYS;
+    let p1 = whole(object, p1, PLAIN)?;
+    let p2 = whole(object, p2, PLAIN)?;
     check_adapt(object, sort)?;
-    Ok(pen(p1, p2, truth_at(object, ADAPT.name)))
+    Ok(pen(p1, p2, truth_at(object, adapt.name)))
 }
 
 /// The penalties of a change of the disparity.
@@ -168,15 +170,16 @@ pub fn penalties(top: &Value) -> Result<Pen, CalibFault>
 fn camera_at(object: &Value) -> Camera
     ensures { result ≡ camera_of (view object.now) }
 {
+    let [focal, baseline, cx, cy, doffs, mount, near, far] = &CAMERA_KEYS;
     Camera {
-        focal: number_at(object, FOCAL.name),
-        baseline: number_at(object, BASELINE.name),
-        cx: number_at(object, CX.name),
-        cy: number_at(object, CY.name),
-        doffs: number_at(object, DOFFS.name),
-        mount: number_at(object, MOUNT.name),
-        near: number_at(object, NEAR.name),
-        far: number_at(object, FAR.name),
+        focal: number_at(object, focal.name),
+        baseline: number_at(object, baseline.name),
+        cx: number_at(object, cx.name),
+        cy: number_at(object, cy.name),
+        doffs: number_at(object, doffs.name),
+        mount: number_at(object, mount.name),
+        near: number_at(object, near.name),
+        far: number_at(object, far.name),
     }
 }
 
@@ -209,21 +212,31 @@ pub fn camera(top: &Value) -> Result<Option<Camera>, CalibFault>
     }
 }
 
-/// The grid that an object is, once its names are known.
+/// The grid that an object without a fault is.
 #[tactic(auto, unfolding(crate::specs::Table::grid_of))]
+fn grid_at(object: &Value) -> GridSpec
+    requires cols { IsCount (number_of table.grid_cols (view object.now)) }
+    requires rows { IsCount (number_of table.grid_rows (view object.now)) }
+    ensures { result ≡ grid_of (view object.now) }
+{
+    let [west, south, cell, cols, rows] = &GRID_KEYS;
+    GridSpec {
+        west: number_at(object, west.name),
+        south: number_at(object, south.name),
+        cell: number_at(object, cell.name),
+        cols: count_at(object, cols.name),
+        rows: count_at(object, rows.name),
+    }
+}
+
+/// The grid that an object is, once its names are known.
 fn grid_of(object: &Value) -> Result<GridSpec, CalibFault>
     ensures ok { OnOk result (keys_fault PLAIN (view object.now) table.grid_keys ≡ None) }
     ensures value { IfOk result (λ g. g ≡ grid_of (view object.now)) }
     ensures fault { IfErr result (λ f. keys_fault PLAIN (view object.now) table.grid_keys ≡ Some f) }
 {
     check_numbers(object, &GRID_KEYS, PLAIN)?;
-    Ok(GridSpec {
-        west: number_at(object, WEST.name),
-        south: number_at(object, SOUTH.name),
-        cell: number_at(object, CELL.name),
-        cols: count_at(object, GRID_COLS.name),
-        rows: count_at(object, GRID_ROWS.name),
-    })
+    Ok(grid_at(object))
 }
 
 /// The grid, where there is one.

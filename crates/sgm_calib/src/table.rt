@@ -1,5 +1,6 @@
 //! The key table: one row for each key of a calibration file, in the order of the checks. The names of an
 //! object, the keys' paths and the order of the checks follow from it, in code and in the definitions.
+//! Lists of rows are statics: a constant is written out anew at each use, and so is its proof.
 
 ghost use Rattle.std.specs.Prelude.{◌≡◌, map};
 ghost use Rattle.sgm_calib.specs.Rows.{meant};
@@ -126,23 +127,32 @@ pub const VERSION: Row = key_row!(2 in 1 "" "version": Form::Between(1, 2));
 
 pub const DISPARITIES: Row = key_row!(3 in 1 "" "disparities": Form::Object);
 
-pub const FIRST: Row = key_row!(4 in 3 "disparities." "first": FIRSTS);
+const FIRST: Row = key_row!(4 in 3 "disparities." "first": FIRSTS);
 
-pub const COUNT: Row = key_row!(5 in 3 "disparities." "count": Form::Between(1, MAX_COUNT as i64));
+const COUNT: Row = key_row!(5 in 3 "disparities." "count": Form::Between(1, MAX_COUNT as i64));
+
+/// The keys of the disparities, in the order of the checks.
+pub static DISPARITIES_KEYS: [Row; 2] = [FIRST, COUNT];
 
 pub const CENSUS: Row = key_row!(6 in 1 "" "census": Form::Object);
 
-pub const WIDTH: Row = key_row!(7 in 6 "census." "width": WIDTHS);
+const WIDTH: Row = key_row!(7 in 6 "census." "width": WIDTHS);
 
-pub const HEIGHT: Row = key_row!(8 in 6 "census." "height": HEIGHTS);
+const HEIGHT: Row = key_row!(8 in 6 "census." "height": HEIGHTS);
+
+/// The keys of the window, in the order of the checks.
+pub static CENSUS_KEYS: [Row; 2] = [WIDTH, HEIGHT];
 
 pub const PENALTIES: Row = key_row!(9 in 1 "" "penalties": Form::Object);
 
-pub const P1: Row = key_row!(10 in 9 "penalties." "p1": Form::Between(1, MAX_PENALTY as i64));
+const P1: Row = key_row!(10 in 9 "penalties." "p1": Form::Between(1, MAX_PENALTY as i64));
 
-pub const P2: Row = key_row!(11 in 9 "penalties." "p2": Form::From("p1", MAX_PENALTY as i64));
+const P2: Row = key_row!(11 in 9 "penalties." "p2": Form::From("p1", MAX_PENALTY as i64));
 
 pub const ADAPT: Row = key_row!(50 in 9 "penalties." "adapt": Form::Truth, Presence::OfVersion(2));
+
+/// The keys of the penalties, in the order of the checks.
+pub static PENALTIES_KEYS: [Row; 3] = [P1, P2, ADAPT];
 
 pub const WARP: Row = key_row!(12 in 1 "" "warp": Form::Warps, Presence::Optional);
 
@@ -152,16 +162,16 @@ pub const KIND: Row = key_row!(14 in 13 "warp.left." "kind": Form::Kind);
 
 pub const MATRIX: Row = key_row!(15 in 13 "warp.left." "matrix": ENTRIES, OF_MATRIX);
 
-pub const STEP: Row = key_row!(16 in 13 "warp.left." "step": STEPS, OF_MESH);
+const STEP: Row = key_row!(16 in 13 "warp.left." "step": STEPS, OF_MESH);
 
-pub const MESH_COLS: Row = key_row!(17 in 13 "warp.left." "cols": NODE_COUNTS, OF_MESH);
+const MESH_COLS: Row = key_row!(17 in 13 "warp.left." "cols": NODE_COUNTS, OF_MESH);
 
-pub const MESH_ROWS: Row = key_row!(18 in 13 "warp.left." "rows": NODE_COUNTS, OF_MESH);
+const MESH_ROWS: Row = key_row!(18 in 13 "warp.left." "rows": NODE_COUNTS, OF_MESH);
 
 pub const NODES: Row = key_row!(19 in 13 "warp.left." "nodes": COORDINATES, OF_MESH);
 
 /// The keys of a mesh before its nodes, in the order of the checks.
-pub const SHAPE_KEYS: [Row; 3] = [STEP, MESH_COLS, MESH_ROWS];
+pub static SHAPE_KEYS: [Row; 3] = [STEP, MESH_COLS, MESH_ROWS];
 
 /// The right side has the keys of the left one, seven numbers on.
 pub const RIGHT: Row = key_row!(20 in 12 "warp." "right": Form::Object);
@@ -180,39 +190,39 @@ const RIGHT_NODES: Row = key_row!(26 in 20 "warp.right." "nodes": COORDINATES, O
 
 pub const CAMERA: Row = key_row!(27 in 1 "" "camera": Form::Object, Presence::With("grid"));
 
-pub const FOCAL: Row = key_row!(28 in 27 "camera." "focal": Form::Between(1, MAX_FOCAL));
+const FOCAL: Row = key_row!(28 in 27 "camera." "focal": Form::Between(1, MAX_FOCAL));
 
-pub const BASELINE: Row = key_row!(29 in 27 "camera." "baseline": Form::Between(1, MAX_BASELINE));
+const BASELINE: Row = key_row!(29 in 27 "camera." "baseline": Form::Between(1, MAX_BASELINE));
 
-pub const CX: Row = key_row!(30 in 27 "camera." "cx": OFFSETS);
+const CX: Row = key_row!(30 in 27 "camera." "cx": OFFSETS);
 
-pub const CY: Row = key_row!(31 in 27 "camera." "cy": OFFSETS);
+const CY: Row = key_row!(31 in 27 "camera." "cy": OFFSETS);
 
-pub const DOFFS: Row = key_row!(32 in 27 "camera." "doffs": OFFSETS);
+const DOFFS: Row = key_row!(32 in 27 "camera." "doffs": OFFSETS);
 
-pub const MOUNT: Row = key_row!(33 in 27 "camera." "mount": Form::Between(0, MAX_MOUNT));
+const MOUNT: Row = key_row!(33 in 27 "camera." "mount": Form::Between(0, MAX_MOUNT));
 
-pub const NEAR: Row = key_row!(34 in 27 "camera." "near": Form::Between(1, MAX_DEPTH));
+const NEAR: Row = key_row!(34 in 27 "camera." "near": Form::Between(1, MAX_DEPTH));
 
-pub const FAR: Row = key_row!(35 in 27 "camera." "far": Form::From("near", MAX_DEPTH));
+const FAR: Row = key_row!(35 in 27 "camera." "far": Form::From("near", MAX_DEPTH));
 
 /// The keys of a camera, in the order of the checks.
-pub const CAMERA_KEYS: [Row; 8] = [FOCAL, BASELINE, CX, CY, DOFFS, MOUNT, NEAR, FAR];
+pub static CAMERA_KEYS: [Row; 8] = [FOCAL, BASELINE, CX, CY, DOFFS, MOUNT, NEAR, FAR];
 
 pub const GRID: Row = key_row!(36 in 1 "" "grid": Form::Object, Presence::With("regions"));
 
-pub const WEST: Row = key_row!(37 in 36 "grid." "west": PLACES);
+const WEST: Row = key_row!(37 in 36 "grid." "west": PLACES);
 
-pub const SOUTH: Row = key_row!(38 in 36 "grid." "south": PLACES);
+const SOUTH: Row = key_row!(38 in 36 "grid." "south": PLACES);
 
-pub const CELL: Row = key_row!(39 in 36 "grid." "cell": Form::Between(1, MAX_CELL));
+const CELL: Row = key_row!(39 in 36 "grid." "cell": Form::Between(1, MAX_CELL));
 
-pub const GRID_COLS: Row = key_row!(40 in 36 "grid." "cols": GRID_LINES);
+const GRID_COLS: Row = key_row!(40 in 36 "grid." "cols": GRID_LINES);
 
-pub const GRID_ROWS: Row = key_row!(41 in 36 "grid." "rows": GRID_LINES);
+const GRID_ROWS: Row = key_row!(41 in 36 "grid." "rows": GRID_LINES);
 
 /// The keys of a grid, in the order of the checks.
-pub const GRID_KEYS: [Row; 5] = [WEST, SOUTH, CELL, GRID_COLS, GRID_ROWS];
+pub static GRID_KEYS: [Row; 5] = [WEST, SOUTH, CELL, GRID_COLS, GRID_ROWS];
 
 pub const REGIONS: Row = key_row!(42 in 1 "" "regions": Form::Regions, Presence::Optional);
 
@@ -220,18 +230,18 @@ pub const REGION: Row = key_row!(43 in 42 "" "]": Form::Object);
 
 pub const REGION_NAME: Row = key_row!(44 in 43 "]." "name": Form::Name);
 
-pub const REGION_COL: Row = key_row!(45 in 43 "]." "col": Form::Column);
+const REGION_COL: Row = key_row!(45 in 43 "]." "col": Form::Column);
 
-pub const REGION_ROW: Row = key_row!(46 in 43 "]." "row": Form::Line);
+const REGION_ROW: Row = key_row!(46 in 43 "]." "row": Form::Line);
 
-pub const REGION_COLS: Row = key_row!(47 in 43 "]." "cols": Form::ColumnsFrom("col"));
+const REGION_COLS: Row = key_row!(47 in 43 "]." "cols": Form::ColumnsFrom("col"));
 
-pub const REGION_ROWS: Row = key_row!(48 in 43 "]." "rows": Form::LinesFrom("row"));
+const REGION_ROWS: Row = key_row!(48 in 43 "]." "rows": Form::LinesFrom("row"));
 
-pub const REGION_BASE: Row = key_row!(49 in 43 "]." "base": BASES);
+const REGION_BASE: Row = key_row!(49 in 43 "]." "base": BASES);
 
 /// The keys of a region behind its name, in the order of the checks.
-pub const REGION_NUMBERS: [Row; 5] = [
+pub static REGION_NUMBERS: [Row; 5] = [
     REGION_COL,
     REGION_ROW,
     REGION_COLS,

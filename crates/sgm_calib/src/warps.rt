@@ -1,13 +1,13 @@
 //! The warps of the two images.
 
-ghost use Rattle.std.specs.Prelude.{◌≡◌, ◌+◌, ◌*◌, ◌/◌, ◌<◌, ◌≤◌, pos, map, length, All, IfOk, IfErr, OnOk, unwrap_or, Some, None};
+ghost use Rattle.std.specs.Prelude.{◌≡◌, [], ◌∷◌, ◌+◌, ◌*◌, ◌/◌, ◌<◌, ◌≤◌, pos, map, length, All, IfOk, IfErr, OnOk, unwrap_or, Some, None};
 ghost use Rattle.serde_json.specs.View.{view};
 ghost use Rattle.sgm_rectify.specs.Warps.{IsWarp, IsEntry, IsNode, IsCoordinate};
 ghost use Rattle.sgm_rectify.specs.declared.limits.TheConstants.{MIN_STEP, MAX_STEP, MIN_NODE_COUNT, MAX_NODE_COUNT};
 ghost use Rattle.sgm_calib.specs.declared.kind.Kind.TheVariants.{Mesh};
 ghost use Rattle.sgm_calib.specs.Table as table;
-ghost use Rattle.sgm_calib.specs.Rows.{whole, count_of, meant, form_meant, presence_meant};
-ghost use Rattle.sgm_calib.specs.Checks.{object_fault, key_fault, keys_fault, numbers_fault, value_of, IsFaultOf};
+ghost use Rattle.sgm_calib.specs.Rows.{whole, number_of, count_of, IsCount, meant, form_meant, presence_meant};
+ghost use Rattle.sgm_calib.specs.Checks.{first_of, object_fault, key_fault, keys_fault, numbers_fault, value_of, IsFaultOf};
 ghost use Rattle.sgm_calib.specs.WarpKeys.{kind_of, rows_of_kind, shape_keys, mesh_fault, matrix_in, pairs, side_fault, side_warp, warp_of_kind, warps_fault, warp_in};
 
 use crate::checks::{check_numbers, check_object, count_at, key_at, text};
@@ -16,9 +16,7 @@ use crate::kind::{Kind, kind_named};
 use crate::lists::{number, numbers};
 use crate::place::{PLAIN, Place, RIGHT_SIDE};
 use crate::sort::Sort;
-use crate::table::{
-    KIND, LEFT, MATRIX, MESH_COLS, MESH_ROWS, NODES, RIGHT, Row, SHAPE_KEYS, STEP, WARP,
-};
+use crate::table::{KIND, LEFT, MATRIX, NODES, RIGHT, Row, SHAPE_KEYS, WARP};
 use serde_json::Value;
 use sgm_rectify::{Nodes, Warp};
 use std::alloc::{AllocError, Global};
@@ -39,9 +37,10 @@ fn side_kind(side: &Value, place: Place) -> Result<Kind, CalibFault>
     ensures value { IfOk result (λ k. k ≡ kind_of (view side.now)) }
     ensures fault { IfErr result (λ f. key_fault place (view side.now) table.side_kind ≡ Some f) }
 {
-    let name = text(side, &KIND, place)?;
+    let row = &KIND;
+    let name = text(side, row, place)?;
     match kind_named(name) {
-        None => Err(CalibFault::Range(key_at(&KIND, place))),
+        None => Err(CalibFault::Range(key_at(row, place))),
         Some(kind) => Ok(kind),
     }
 }
@@ -63,6 +62,23 @@ fn matrix(side: &Value, place: Place) -> Result<[i64; 9], CalibFault>
     Ok(entries)
 }
 
+/// The step, the columns and the rows of a side that is a mesh, where they have no fault.
+fn shape_at(side: &Value) -> Shape
+    requires step { IsCount (number_of table.mesh_step (view side.now)) }
+    requires cols { IsCount (number_of table.mesh_cols (view side.now)) }
+    requires rows { IsCount (number_of table.mesh_rows (view side.now)) }
+    ensures step { result.step ≡ count_of table.mesh_step (view side.now) }
+    ensures cols { result.cols ≡ count_of table.mesh_cols (view side.now) }
+    ensures rows { result.rows ≡ count_of table.mesh_rows (view side.now) }
+{
+    let [step, cols, rows] = &SHAPE_KEYS;
+    Shape {
+        step: count_at(side, step.name),
+        cols: count_at(side, cols.name),
+        rows: count_at(side, rows.name),
+    }
+}
+
 /// The step, the columns and the rows of a side that is a mesh.
 fn mesh_shape(side: &Value, place: Place) -> Result<Shape, CalibFault>
     requires { place.shift ≤ 7 }
@@ -76,11 +92,7 @@ fn mesh_shape(side: &Value, place: Place) -> Result<Shape, CalibFault>
     ensures fault { IfErr result (λ f. keys_fault place (view side.now) shape_keys ≡ Some f) }
 {
     check_numbers(side, &SHAPE_KEYS, place)?;
-    Ok(Shape {
-        step: count_at(side, STEP.name),
-        cols: count_at(side, MESH_COLS.name),
-        rows: count_at(side, MESH_ROWS.name),
-    })
+    Ok(shape_at(side))
 }
 
 /// The node that two numbers are.
@@ -164,15 +176,32 @@ fn side(alloc: Global, warp: &Value, row: &Row, place: Place) -> Result<Warp, Ca
     ensures kept { IfOk result (λ w. IsWarp w) }
     ensures fault { IfErr result (λ e. IsFaultOf (side_fault place row.now.name.now (view warp.now)) e) }
 {
+    let left = &LEFT;
     let Some(side) = warp.get(row.name) else {
-        return Err(CalibError::Fault(CalibFault::Missing(key_at(&LEFT, place))));
+        return Err(CalibError::Fault(CalibFault::Missing(key_at(left, place))));
     };
     let Some(_) = side.as_object() else {
-        return Err(CalibError::Fault(CalibFault::Type_(key_at(&LEFT, place))));
+        return Err(CalibError::Fault(CalibFault::Type_(key_at(left, place))));
     };
     let kind = side_kind(side, place)?;
-    check_object(side, &LEFT, place, Sort::Side(kind))?;
+    check_object(side, left, place, Sort::Side(kind))?;
     warp_of_kind(alloc, side, place, kind)
+}
+
+/// The warps of the two sides of the object `warp`.
+fn sides(alloc: Global, warp: &Value) -> Result<(Warp, Warp), CalibError>
+    ensures ok { OnOk result (first_of (side_fault PLAIN table.left.name (view warp.now)
+        ∷ side_fault RIGHT_SIDE table.right.name (view warp.now) ∷ []) ≡ None) }
+    ensures left { IfOk result (λ w. w.0 ≡ side_warp (value_of table.left (view warp.now))) }
+    ensures right { IfOk result (λ w. w.1 ≡ side_warp (value_of table.right (view warp.now))) }
+    ensures left_kept { IfOk result (λ w. IsWarp w.0) }
+    ensures right_kept { IfOk result (λ w. IsWarp w.1) }
+    ensures fault { IfErr result (λ e. IsFaultOf (first_of (side_fault PLAIN table.left.name (view warp.now)
+        ∷ side_fault RIGHT_SIDE table.right.name (view warp.now) ∷ [])) e) }
+{
+    let left = side(alloc, warp, &LEFT, PLAIN)?;
+    let right = side(alloc, warp, &RIGHT, RIGHT_SIDE)?;
+    Ok((left, right))
 }
 
 /// The warps of the left and the right image: the identity for both where the value has none. Memory is
@@ -186,11 +215,10 @@ pub fn warps(alloc: Global, top: &Value) -> Result<(Warp, Warp), CalibError>
     ensures right_kept { IfOk result (λ w. IsWarp w.1) }
     ensures fault { IfErr result (λ e. IsFaultOf (warps_fault (view top.now)) e) }
 {
-    let Some(warp) = top.get(WARP.name) else {
+    let row = &WARP;
+    let Some(warp) = top.get(row.name) else {
         return Ok((Warp::Identity, Warp::Identity));
     };
-    check_object(warp, &WARP, PLAIN, Sort::Plain)?;
-    let left = side(alloc, warp, &LEFT, PLAIN)?;
-    let right = side(alloc, warp, &RIGHT, RIGHT_SIDE)?;
-    Ok((left, right))
+    check_object(warp, row, PLAIN, Sort::Plain)?;
+    sides(alloc, warp)
 }

@@ -4,7 +4,7 @@ ghost use Rattle.sgm_words.specs.Commands.{entry_of, is_named, command_named};
 
 use crate::Output;
 
-#[derive(Clone, Copy, Debug, PartialEq, Eq)]
+#[derive(Clone, Copy)]
 pub enum Command {
     Match,
     Demo,

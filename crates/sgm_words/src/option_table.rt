@@ -54,7 +54,7 @@ const OPTION_TABLE: [OptionRow; OPTION_COUNT] = [
 ];
 
 /// An option, by its place in the table, and the value that it is set to.
-#[derive(Clone, Copy, Debug, PartialEq, Eq)]
+#[derive(Clone, Copy)]
 pub struct Setting {
     pub place: usize,
     pub value: u32,

@@ -1,4 +1,4 @@
-use Rattle.std.proofs.Common.{◌≡◌, drop, arith}
+use Rattle.std.proofs.Common.{◌≡◌, drop, arith, refl}
 use Rattle.sgm_words.specs.Faults.{options_at}
 use Rattle.sgm_words.specs.Operands.{bytes_of}
 use Rattle.sgm_words.specs.OptionTable.{setting_of}
@@ -26,7 +26,7 @@ returns-in-Match-clause-exact c =
     let workers : c.value_at-workers.result ≡ setting_of 1 later = value_is 1 later c.args.settings.now _ (omega arith) c.requires c.value_at-workers.ensures in
     let peak : c.value_at-peak.result ≡ setting_of 2 later = value_is 2 later c.args.settings.now _ (omega arith) c.requires c.value_at-peak.ensures in
     let fill : c.value_at-fill.result ≡ setting_of 3 later = value_is 3 later c.args.settings.now _ (omega arith) c.requires c.value_at-fill.ensures in
-    rw c.in-Match.is (cc)
+    rw (strips, workers, peak, fill, c.in-Match.is) refl
 
 pub returns-in-Demo-clause-exact : goal.returns-in-Demo-clause-exact
 returns-in-Demo-clause-exact c =
@@ -35,4 +35,8 @@ returns-in-Demo-clause-exact c =
     let workers : c.value_at-workers.result ≡ setting_of 1 later = value_is 1 later c.args.settings.now _ (omega arith) c.requires c.value_at-workers.ensures in
     let peak : c.value_at-peak.result ≡ setting_of 2 later = value_is 2 later c.args.settings.now _ (omega arith) c.requires c.value_at-peak.ensures in
     let fill : c.value_at-fill.result ≡ setting_of 3 later = value_is 3 later c.args.settings.now _ (omega arith) c.requires c.value_at-fill.ensures in
-    rw c.in-Demo.is (cc)
+    rw (c.number_at.ensures, strips, workers, peak, fill, c.in-Demo.is) refl
+
+pub returns-in-Trace-clause-exact : goal.returns-in-Trace-clause-exact
+returns-in-Trace-clause-exact c =
+    rw (c.direction_at.ensures, c.number_at-in-Trace.ensures, c.number_at-in-Trace-2.ensures, c.number_at-in-Trace-3.ensures, c.in-Trace.is) refl
