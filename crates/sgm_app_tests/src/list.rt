@@ -6,11 +6,11 @@ use std::process::Abort;
 use std::test::Fail;
 
 /// The first fault of a list under the name `list`; None where it has none.
-fn fault_of(alloc: Global, bytes: &[u8]) -> Result<Option<ListFault>, AllocError> {
+fn fault_of(alloc: Global, bytes: &[u8], list: &str) -> Result<Option<ListFault>, AllocError> {
     if bytes.len() > MAX_LIST_BYTES {
         return Ok(Some(ListFault::TooLong));
     }
-    match read_list(alloc, bytes, "list.txt") {
+    match read_list(alloc, bytes, list) {
         Ok(_) => Ok(None),
         Err(ListError::Fault(fault)) => Ok(Some(fault)),
         Err(ListError::NoMemory) => Err(AllocError),
@@ -29,16 +29,21 @@ fn assert_entry(rt: &impl Abort, entry: &Entry, words: [&str; 4]) {
     assert!(rt; entry.out.as_str() == out);
 }
 
+/// That these are the two entries of the text below.
+fn assert_entries(rt: &impl Abort, entries: &[Entry]) {
+    assert!(rt; entries.len() == 2);
+    assert_entry(rt, &entries[0], ["l.pgm", "r.pgm", "-", "o1"]);
+    let second = ["l.pgm", "r\u{e9}.pgm", "c.json", "o\u{c}2"];
+    assert_entry(rt, &entries[1], second);
+}
+
 #[test]
 fn lines_with_four_words_are_entries(rt: HostRuntime) -> Result<(), Fail> {
     let text = "l.pgm r.pgm - o1\r\n\n \t\r\n\tl.pgm  r\u{e9}.pgm\tc.json  o\u{c}2";
     let entries = read_list(rt.alloc(), text.as_bytes(), "list")
         .ok()
         .ok_or("a list")?;
-    assert!(rt; entries.len() == 2);
-    assert_entry(&rt, &entries[0], ["l.pgm", "r.pgm", "-", "o1"]);
-    let second = ["l.pgm", "r\u{e9}.pgm", "c.json", "o\u{c}2"];
-    assert_entry(&rt, &entries[1], second);
+    assert_entries(&rt, &entries);
     Ok(())
 }
 
@@ -86,7 +91,10 @@ const FAULTS: [(&[u8], Option<ListFault>); 16] = [
 #[test]
 fn each_fault_is_the_first_that_stands(rt: HostRuntime) -> Result<(), Fail> {
     for (bytes, fault) in &FAULTS {
-        assert!(rt; fault_of(rt.alloc(), bytes)? == *fault, "{bytes:?}");
+        assert!(rt;
+            fault_of(rt.alloc(), bytes, "list.txt")? == *fault,
+            "{bytes:?}"
+        );
     }
     Ok(())
 }
@@ -98,8 +106,8 @@ fn no_output_is_the_list(rt: HostRuntime) -> Result<(), Fail> {
         ("o", None),
         ("a", None),
     ] {
-        let read = read_list(rt.alloc(), b"a b - p\na b - o", list);
-        assert!(rt; read.err() == fault.map(ListError::Fault), "{list}");
+        let found = fault_of(rt.alloc(), b"a b - p\na b - o", list)?;
+        assert!(rt; found == *fault, "{list}");
     }
     Ok(())
 }
@@ -113,14 +121,18 @@ fn list_of(alloc: Global, entries: u32) -> Result<String, AllocError> {
     Ok(text)
 }
 
+/// The first fault of a list of so many entries.
+fn fault_of_entries(alloc: Global, entries: u32) -> Result<Option<ListFault>, AllocError> {
+    let text = list_of(alloc, entries)?;
+    fault_of(alloc, text.as_bytes(), "list.txt")
+}
+
 #[test]
 fn there_are_at_most_a_thousand_entries(rt: HostRuntime) -> Result<(), Fail> {
     let alloc = rt.alloc();
-    let most = list_of(alloc, 1000)?;
-    assert!(rt; fault_of(alloc, most.as_bytes())? == None);
-    let more = list_of(alloc, 1001)?;
+    assert!(rt; fault_of_entries(alloc, 1000)? == None);
     let fault = Some(ListFault::TooMany { entries: 1001 });
-    assert!(rt; fault_of(alloc, more.as_bytes())? == fault);
+    assert!(rt; fault_of_entries(alloc, 1001)? == fault);
     Ok(())
 }
 

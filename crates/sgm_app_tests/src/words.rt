@@ -4,6 +4,7 @@ use sgm_energy::Dir;
 use sgm_refine::Refine;
 use sgm_words::{ChangeWords, Input, OperandWords, Options, Output, UsageFault, read_words};
 use std::alloc::{AllocError, Global};
+use std::process::Abort;
 use std::test::Fail;
 
 /// The words of a line, between which single spaces stand.
@@ -13,6 +14,24 @@ fn words_of(alloc: Global, line: &str) -> Result<Vec<String>, AllocError> {
         words.push(String::from_str(alloc, word)?)?;
     }
     Ok(words)
+}
+
+/// What the words of a line ask for, or their fault.
+fn read_line(alloc: Global, line: &str) -> Result<Result<Options, UsageFault>, AllocError> {
+    let words = words_of(alloc, line)?;
+    Ok(read_words(&words))
+}
+
+/// That the words of each line ask for these options.
+fn assert_options(
+    rt: &impl Abort,
+    alloc: Global,
+    lines: &[(&str, Options)],
+) -> Result<(), AllocError> {
+    for (line, options) in lines {
+        assert!(rt; read_line(alloc, line)? == Ok(*options), "{line}");
+    }
+    Ok(())
 }
 
 #[test]
@@ -56,18 +75,14 @@ fn each_fault_is_the_first_that_stands(rt: HostRuntime) -> Result<(), Fail> {
             UsageFault::OutputIsInput { position: 2 },
         ),
     ] {
-        assert!(rt;
-            read_words(&words_of(alloc, line)?) == Err(*fault),
-            "{line}"
-        );
+        assert!(rt; read_line(alloc, line)? == Err(*fault), "{line}");
     }
     Ok(())
 }
 
 #[test]
 fn options_stand_in_any_order(rt: HostRuntime) -> Result<(), Fail> {
-    let alloc = rt.alloc();
-    for (line, options) in &[
+    let lines = &[
         (
             "match a b - o fill=01 workers=16 peak=16777216 strips=064",
             Options::Match {
@@ -91,19 +106,14 @@ fn options_stand_in_any_order(rt: HostRuntime) -> Result<(), Fail> {
                 },
             },
         ),
-    ] {
-        assert!(rt;
-            read_words(&words_of(alloc, line)?) == Ok(*options),
-            "{line}"
-        );
-    }
+    ];
+    assert_options(&rt, rt.alloc(), lines)?;
     Ok(())
 }
 
 #[test]
 fn trace_and_change_have_no_options(rt: HostRuntime) -> Result<(), Fail> {
-    let alloc = rt.alloc();
-    for (line, options) in &[
+    let lines = &[
         (
             "trace a b - upleft 2 1 0",
             Options::Trace {
@@ -114,12 +124,8 @@ fn trace_and_change_have_no_options(rt: HostRuntime) -> Result<(), Fail> {
             },
         ),
         ("change a b o", Options::Change),
-    ] {
-        assert!(rt;
-            read_words(&words_of(alloc, line)?) == Ok(*options),
-            "{line}"
-        );
-    }
+    ];
+    assert_options(&rt, rt.alloc(), lines)?;
     Ok(())
 }
 

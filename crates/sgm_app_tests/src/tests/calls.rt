@@ -1,10 +1,10 @@
 //! A run makes exactly the calls that it needs, one after the other.
 
-use super::fixtures::{example, words_of};
+use super::ended::run_line;
+use super::fixtures::example;
 use super::recording::{RecordingShelf, sink_of};
 use super::trips::{Call, trips_of};
-use sgm_app::run;
-use sgm_io::MemoryShelf;
+use sgm_io::{MemoryShelf, Shelf};
 use sgm_work::OpenGate;
 use std::alloc::{AllocError, Global};
 use std::cell::RefCell;
@@ -23,6 +23,21 @@ fn shelf_of<'a>(
     Ok(RecordingShelf { shelf, calls })
 }
 
+/// Runs a line over a shelf and notes the calls of both streams, of which `out` fails at this length.
+fn note_streams<R: Threads + Sync, S: Shelf>(
+    rt: &R,
+    alloc: Global,
+    line: &str,
+    shelf: &mut S,
+    stop: Option<usize>,
+    calls: &RefCell<String>,
+) -> Result<(), AllocError> {
+    let mut out = sink_of(alloc, "out ", stop, calls)?;
+    let mut err = sink_of(alloc, "err ", None, calls)?;
+    run_line(rt, alloc, line, shelf, &mut out, &mut err, &OpenGate)?;
+    Ok(())
+}
+
 /// Runs a line over the worked example and notes the calls. This call of a name fails, and `out` fails at this length.
 fn note_calls<R: Threads + Sync>(
     rt: &R,
@@ -32,11 +47,21 @@ fn note_calls<R: Threads + Sync>(
     stop: Option<usize>,
     calls: &RefCell<String>,
 ) -> Result<(), AllocError> {
-    let words = words_of(alloc, line)?;
     let mut shelf = shelf_of(alloc, trips, calls)?;
-    let mut out = sink_of(alloc, "out", stop, calls)?;
-    let mut err = sink_of(alloc, "err", None, calls)?;
-    let _outcome = run(rt, alloc, &words, &mut shelf, &mut out, &mut err, &OpenGate);
+    note_streams(rt, alloc, line, &mut shelf, stop, calls)
+}
+
+/// That these calls were made.
+fn assert_made(
+    rt: &impl Abort,
+    calls: &RefCell<String>,
+    wanted: &str,
+    line: &str,
+) -> Result<(), Fail> {
+    let Ok(made) = calls.try_borrow() else {
+        return Err(Fail::new("the calls are lent"));
+    };
+    assert!(rt; made.as_str() == wanted, "{line}");
     Ok(())
 }
 
@@ -52,11 +77,7 @@ fn assert_calls<R: Abort + Threads + Sync>(
 ) -> Result<(), Fail> {
     let calls = RefCell::new(String::new(alloc));
     note_calls(rt, alloc, line, trips, stop, &calls)?;
-    let Ok(made) = calls.try_borrow() else {
-        return Err(Fail::new("the calls are lent"));
-    };
-    assert!(rt; made.as_str() == wanted, "{line}");
-    Ok(())
+    assert_made(rt, &calls, wanted, line)
 }
 
 #[test]

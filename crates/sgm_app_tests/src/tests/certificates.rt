@@ -1,6 +1,6 @@
 //! What a trace prints, and how it ends else.
 
-use super::ended::{End, assert_end, assert_ended, end_by, shelf_of};
+use super::ended::{End, assert_end, assert_end_by, shelf_of};
 use super::fixtures::example;
 use sgm_work::OpenGate;
 use std::alloc::Global;
@@ -76,7 +76,5 @@ fn a_certificate_that_cannot_be_written_is_begun_at_most(rt: HostRuntime) -> Res
         outputs: [None; 3],
     };
     let mut shelf = shelf_of(alloc, example(alloc)?)?;
-    let ended = end_by(&rt, alloc, line, &mut shelf, Some(6), &OpenGate)?;
-    assert_ended(&rt, &ended, end, line);
-    Ok(())
+    assert_end_by(&rt, alloc, line, &mut shelf, Some(6), &OpenGate, end)
 }

@@ -5,7 +5,9 @@ use super::fixtures::{HEIGHTS, add};
 use super::trips::{Call, trips_of};
 use sgm_io::MemoryShelf;
 use std::alloc::{AllocError, Global};
+use std::process::Abort;
 use std::test::Fail;
+use std::thread::Threads;
 
 /// The heights of the worked example a month later: the first cell is 1 mm higher, the fourth has come and the fifth
 /// is gone.
@@ -32,6 +34,20 @@ fn grids(
     Ok(files)
 }
 
+/// That the run of a line over two grids ends with this status and this line, and writes nothing.
+fn assert_no_change<R: Abort + Threads + Sync>(
+    rt: &R,
+    alloc: Global,
+    earlier: &[u8],
+    later: &[u8],
+    line: &str,
+    status: u8,
+    err: &str,
+) -> Result<(), Fail> {
+    let files = grids(alloc, earlier, later)?;
+    assert_refused(rt, alloc, files, line, status, err)
+}
+
 #[test]
 fn a_change_writes_the_difference_and_the_volumes(rt: HostRuntime) -> Result<(), Fail> {
     let alloc = rt.alloc();
@@ -55,39 +71,27 @@ fn grids_that_do_not_read_or_suit_are_refused(rt: HostRuntime) -> Result<(), Fai
     let alloc = rt.alloc();
     let line = "change e.asc l.asc o";
     let err = "sgm: earlier: word 0 is not as expected\n";
-    assert_refused(&rt, alloc, grids(alloc, b"", b"")?, line, 3, err)?;
+    assert_no_change(&rt, alloc, b"", b"", line, 3, err)?;
 
     // Without the last value, of eleven bytes, and its line's end.
     let short = &HEIGHTS[..HEIGHTS.len() - 12];
     let err = "sgm: later: 11 heights, 12 needed\n";
-    assert_refused(&rt, alloc, grids(alloc, HEIGHTS, short)?, line, 3, err)?;
+    assert_no_change(&rt, alloc, HEIGHTS, short, line, 3, err)?;
 
     // With cells of 2000.
     let err = "sgm: grids differ at word 9\n";
-    assert_refused(&rt, alloc, grids(alloc, HEIGHTS, COARSE)?, line, 3, err)
+    assert_no_change(&rt, alloc, HEIGHTS, COARSE, line, 3, err)
 }
 
 #[test]
 fn words_and_absent_files_end_a_change(rt: HostRuntime) -> Result<(), Fail> {
     let alloc = rt.alloc();
+    let line = "change o.asc l.asc o";
     let err = "sgm: word 1 is also an output\n";
-    assert_refused(
-        &rt,
-        alloc,
-        grids(alloc, HEIGHTS, LATER)?,
-        "change o.asc l.asc o",
-        2,
-        err,
-    )?;
+    assert_no_change(&rt, alloc, HEIGHTS, LATER, line, 2, err)?;
+    let line = "change e.asc none o";
     let err = "sgm: cannot read later\n";
-    assert_refused(
-        &rt,
-        alloc,
-        grids(alloc, HEIGHTS, LATER)?,
-        "change e.asc none o",
-        4,
-        err,
-    )
+    assert_no_change(&rt, alloc, HEIGHTS, LATER, line, 4, err)
 }
 
 #[test]

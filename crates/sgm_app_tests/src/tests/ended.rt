@@ -2,7 +2,7 @@
 
 use super::fixtures::words_of;
 use sgm_app::run;
-use sgm_io::{MemoryShelf, MemorySink, Shelf, Trip};
+use sgm_io::{MemoryShelf, MemorySink, Shelf, Sink, Trip};
 use sgm_work::{Gate, OpenGate};
 use std::alloc::{AllocError, Global};
 use std::process::Abort;
@@ -17,8 +17,23 @@ pub struct Ended {
     pub err: MemorySink,
 }
 
-/// How the run of a line ends over a shelf, where `out` fails at the length `stop` and the workers pass the gate.
-pub fn end_by<R: Threads + Sync, S: Shelf, G: Gate + Sync>(
+/// The status of the run of a line over these devices.
+pub fn run_line<R: Threads + Sync, S: Shelf, O: Sink, E: Sink, G: Gate + Sync>(
+    rt: &R,
+    alloc: Global,
+    line: &str,
+    shelf: &mut S,
+    out: &mut O,
+    err: &mut E,
+    gate: &G,
+) -> Result<u8, AllocError> {
+    let words = words_of(alloc, line)?;
+    let outcome = run(rt, alloc, &words, shelf, out, err, gate);
+    Ok(outcome.status())
+}
+
+/// How the run of a line over a shelf ends, where `out` fails at the length `stop` and the workers pass the gate.
+fn end_by<R: Threads + Sync, S: Shelf, G: Gate + Sync>(
     rt: &R,
     alloc: Global,
     line: &str,
@@ -26,23 +41,10 @@ pub fn end_by<R: Threads + Sync, S: Shelf, G: Gate + Sync>(
     stop: Option<usize>,
     gate: &G,
 ) -> Result<Ended, AllocError> {
-    let words = words_of(alloc, line)?;
-    let mut ended = Ended {
-        status: 0,
-        out: MemorySink::make(alloc, 4096, stop)?,
-        err: MemorySink::make(alloc, 4096, None)?,
-    };
-    let outcome = run(
-        rt,
-        alloc,
-        &words,
-        shelf,
-        &mut ended.out,
-        &mut ended.err,
-        gate,
-    );
-    ended.status = outcome.status();
-    Ok(ended)
+    let mut out = MemorySink::make(alloc, 4096, stop)?;
+    let mut err = MemorySink::make(alloc, 4096, None)?;
+    let status = run_line(rt, alloc, line, shelf, &mut out, &mut err, gate)?;
+    Ok(Ended { status, out, err })
 }
 
 /// How the run of a line ends over a shelf.
@@ -72,10 +74,26 @@ pub struct End<'a> {
 }
 
 /// That the run ended with this status, and the sinks have received this.
-pub fn assert_ended(rt: &impl Abort, ended: &Ended, end: End, case: &str) {
+fn assert_ended(rt: &impl Abort, ended: &Ended, end: End, case: &str) {
     assert!(rt; ended.err.taken() == end.err, "{case}");
     assert!(rt; ended.out.taken() == end.out, "{case}");
     assert!(rt; ended.status == end.status, "{case}");
+}
+
+/// That the run of a line over a shelf ends with this status, and the sinks have received this, where `out` fails at
+/// the length `stop` and the workers pass the gate.
+fn assert_streams<R: Abort + Threads + Sync, S: Shelf, G: Gate + Sync>(
+    rt: &R,
+    alloc: Global,
+    line: &str,
+    shelf: &mut S,
+    stop: Option<usize>,
+    gate: &G,
+    end: End,
+) -> Result<(), AllocError> {
+    let ended = end_by(rt, alloc, line, shelf, stop, gate)?;
+    assert_ended(rt, &ended, end, line);
+    Ok(())
 }
 
 /// What the shelf holds under the name.
@@ -119,6 +137,20 @@ pub fn assert_held<S: Shelf>(
     assert_holds(rt, alloc, shelf, "o.csv", report, case)
 }
 
+/// That the run of a line over a shelf ends so, where `out` fails at the length `stop` and the workers pass the gate.
+pub fn assert_end_by<R: Abort + Threads + Sync, S: Shelf, G: Gate + Sync>(
+    rt: &R,
+    alloc: Global,
+    line: &str,
+    shelf: &mut S,
+    stop: Option<usize>,
+    gate: &G,
+    end: End,
+) -> Result<(), Fail> {
+    assert_streams(rt, alloc, line, shelf, stop, gate, end)?;
+    assert_held(rt, alloc, shelf, end.outputs, line)
+}
+
 /// That the run of a line over a shelf ends so.
 pub fn assert_end_on<R: Abort + Threads + Sync, S: Shelf>(
     rt: &R,
@@ -127,9 +159,7 @@ pub fn assert_end_on<R: Abort + Threads + Sync, S: Shelf>(
     shelf: &mut S,
     end: End,
 ) -> Result<(), Fail> {
-    let ended = end_on(rt, alloc, line, shelf)?;
-    assert_ended(rt, &ended, end, line);
-    assert_held(rt, alloc, shelf, end.outputs, line)
+    assert_end_by(rt, alloc, line, shelf, None, &OpenGate, end)
 }
 
 /// That the run of a line over these files ends so.

@@ -46,13 +46,22 @@ pub fn joined(alloc: Global, parts: &[&str]) -> Result<String, AllocError> {
     Ok(text)
 }
 
+/// Adds a calibration of these parts.
+fn add_calibration(
+    alloc: Global,
+    files: &mut Vec<(String, Vec<u8>)>,
+    parts: &[&str],
+) -> Result<(), AllocError> {
+    let text = joined(alloc, parts)?;
+    add(alloc, files, "c.json", text.as_bytes())
+}
+
 /// The pair of the worked example, and a calibration of these parts.
 pub fn files_with(alloc: Global, calib: &[&str]) -> Result<Vec<(String, Vec<u8>)>, AllocError> {
-    let text = joined(alloc, calib)?;
     let mut files = Vec::new(alloc);
     add(alloc, &mut files, "l.pgm", LEFT)?;
     add(alloc, &mut files, "r.pgm", RIGHT)?;
-    add(alloc, &mut files, "c.json", text.as_bytes())?;
+    add_calibration(alloc, &mut files, calib)?;
     Ok(files)
 }
 

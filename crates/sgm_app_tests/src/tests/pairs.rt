@@ -1,6 +1,6 @@
 //! The generated pair: a demo, and a whole run over a larger one.
 
-use super::ended::{End, assert_end, assert_holds, end_on, held, shelf_of};
+use super::ended::{End, Ended, assert_end, assert_holds, end_on, held, shelf_of};
 use super::fixtures::{add, files_with};
 use sgm_app::pair;
 use sgm_base::{Image, Size};
@@ -51,12 +51,49 @@ fn add_image(
     add(alloc, files, name, &text)
 }
 
+/// Adds both images of a pair.
+fn add_images(
+    alloc: Global,
+    files: &mut Vec<(String, Vec<u8>)>,
+    left: &Image,
+    right: &Image,
+) -> Result<(), AllocError> {
+    add_image(alloc, files, "left.pgm", left)?;
+    add_image(alloc, files, "right.pgm", right)
+}
+
 /// Adds the generated pair of 640 x 480 and the number 7.
 fn add_pair(alloc: Global, files: &mut Vec<(String, Vec<u8>)>) -> Result<(), Fail> {
     let size = Size::make(640, 480).ok_or("a size")?;
     let (left, right) = pair(alloc, size, 7)?;
-    add_image(alloc, files, "left.pgm", &left)?;
-    add_image(alloc, files, "right.pgm", &right)?;
+    add_images(alloc, files, &left, &right)?;
+    Ok(())
+}
+
+/// A shelf with the generated pair and its calibration.
+fn pair_shelf(alloc: Global) -> Result<MemoryShelf, Fail> {
+    let mut files = files_with(alloc, &[SETTINGS, CAMERA, GRID, REGIONS, END])?;
+    add_pair(alloc, &mut files)?;
+    let shelf = shelf_of(alloc, files)?;
+    Ok(shelf)
+}
+
+/// That a run over the generated pair is done.
+fn assert_done(rt: &impl Abort, ended: &Ended, line: &str) {
+    assert!(rt; ended.status == 0, "{line}");
+    assert!(rt; ended.err.taken() == b"".as_slice(), "{line}");
+    assert!(rt; ended.out.taken().ends_with(b" of 307200\n"), "{line}");
+}
+
+/// Runs a line over a shelf with the generated pair, which is done.
+fn match_pair<R: Abort + Threads + Sync>(
+    rt: &R,
+    alloc: Global,
+    line: &str,
+    shelf: &mut MemoryShelf,
+) -> Result<(), AllocError> {
+    let ended = end_on(rt, alloc, line, shelf)?;
+    assert_done(rt, &ended, line);
     Ok(())
 }
 
@@ -66,14 +103,21 @@ fn shelf_after<R: Abort + Threads + Sync>(
     alloc: Global,
     line: &str,
 ) -> Result<MemoryShelf, Fail> {
-    let mut files = files_with(alloc, &[SETTINGS, CAMERA, GRID, REGIONS, END])?;
-    add_pair(alloc, &mut files)?;
-    let mut shelf = shelf_of(alloc, files)?;
-    let ended = end_on(rt, alloc, line, &mut shelf)?;
-    assert!(rt; ended.status == 0, "{line}");
-    assert!(rt; ended.err.taken() == b"".as_slice(), "{line}");
-    assert!(rt; ended.out.taken().ends_with(b" of 307200\n"), "{line}");
+    let mut shelf = pair_shelf(alloc)?;
+    match_pair(rt, alloc, line, &mut shelf)?;
     Ok(shelf)
+}
+
+/// That two shelves hold the same file of this name.
+fn assert_same_file(
+    rt: &impl Abort,
+    alloc: Global,
+    one: &mut MemoryShelf,
+    other: &mut MemoryShelf,
+    name: &str,
+) -> Result<(), Fail> {
+    let bytes = held(alloc, one, name)?.ok_or("a file is absent")?;
+    assert_holds(rt, alloc, other, name, Some(&bytes), name)
 }
 
 /// That two shelves hold the same files of a match.
@@ -83,9 +127,8 @@ fn assert_same(
     one: &mut MemoryShelf,
     other: &mut MemoryShelf,
 ) -> Result<(), Fail> {
-    for name in ["o.pgm", "o.asc", "o.csv"] {
-        let bytes = held(alloc, one, name)?.ok_or("a file is absent")?;
-        assert_holds(rt, alloc, other, name, Some(&bytes), name)?;
+    for name in &["o.pgm", "o.asc", "o.csv"] {
+        assert_same_file(rt, alloc, one, other, name)?;
     }
     Ok(())
 }
@@ -101,8 +144,7 @@ fn sample_of(text: &[u8], x: u16, y: u16) -> Option<u16> {
 // A pixel of the square, and one in each of the first four bands of the ground and in the band after
 // them, has the shift that its place is generated with, in sixteenths and 16 more, to within the half
 // pixel that an offset can be.
-fn assert_shifts(rt: &impl Abort, alloc: Global, shelf: &mut MemoryShelf) -> Result<(), Fail> {
-    let disparities = held(alloc, shelf, "o.pgm")?.ok_or("o.pgm is absent")?;
+fn assert_shifts(rt: &impl Abort, disparities: &[u8]) -> Result<(), Fail> {
     for (x, y, shift) in &[
         (128, 96, 28),
         (300, 24, 8),
@@ -111,10 +153,27 @@ fn assert_shifts(rt: &impl Abort, alloc: Global, shelf: &mut MemoryShelf) -> Res
         (300, 168, 20),
         (300, 216, 8),
     ] {
-        let sample = sample_of(&disparities, *x, *y).ok_or("o.pgm is too short")?;
+        let sample = sample_of(disparities, *x, *y).ok_or("o.pgm is too short")?;
         assert!(rt; sample.abs_diff(16 * *shift + 16) <= 8, "{x} {y}");
     }
     Ok(())
+}
+
+// The disparity image of the shelf has these shifts.
+fn assert_shifted(rt: &impl Abort, alloc: Global, shelf: &mut MemoryShelf) -> Result<(), Fail> {
+    let disparities = held(alloc, shelf, "o.pgm")?.ok_or("o.pgm is absent")?;
+    assert_shifts(rt, &disparities)
+}
+
+/// That a run of this line over the generated pair writes what the shelf holds.
+fn assert_writes_same<R: Abort + Threads + Sync>(
+    rt: &R,
+    alloc: Global,
+    line: &str,
+    shelf: &mut MemoryShelf,
+) -> Result<(), Fail> {
+    let mut other = shelf_after(rt, alloc, line)?;
+    assert_same(rt, alloc, shelf, &mut other)
 }
 
 #[test]
@@ -122,8 +181,7 @@ fn strips_and_workers_change_no_byte(rt: HostRuntime) -> Result<(), Fail> {
     let alloc = rt.alloc();
     let line = "match left.pgm right.pgm c.json o strips=8 workers=4";
     let mut shelf = shelf_after(&rt, alloc, line)?;
+    assert_shifted(&rt, alloc, &mut shelf)?;
     let line = "match left.pgm right.pgm c.json o strips=1 workers=1";
-    let mut other = shelf_after(&rt, alloc, line)?;
-    assert_shifts(&rt, alloc, &mut shelf)?;
-    assert_same(&rt, alloc, &mut shelf, &mut other)
+    assert_writes_same(&rt, alloc, line, &mut shelf)
 }

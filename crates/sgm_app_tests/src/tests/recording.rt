@@ -3,19 +3,12 @@
 use sgm_io::{FetchError, KeepError, MemorySink, Shelf, Sink, SinkError};
 use std::alloc::{AllocError, Global};
 use std::cell::RefCell;
-use std::fmt::Write;
+use std::fmt::{Display, Write};
 
 // Notes a call and what it is of. Without memory it is left out, and the calls are then not the wanted ones.
-fn note(calls: &RefCell<String>, call: &str, of: &str) {
+fn note(calls: &RefCell<String>, call: &str, of: impl Display + Drop) {
     if let Ok(mut text) = calls.try_borrow_mut() {
         let _ = write!(text, "{call}{of};");
-    }
-}
-
-// Notes a call and the length of the piece that it is given.
-fn note_length(calls: &RefCell<String>, call: &str, length: usize) {
-    if let Ok(mut text) = calls.try_borrow_mut() {
-        let _ = write!(text, "{call} {length};");
     }
 }
 
@@ -54,7 +47,7 @@ impl<'a, S: Shelf> Shelf for RecordingShelf<'a, S> {
     }
 
     fn append(&mut self, piece: &[u8]) -> Result<usize, KeepError> {
-        note_length(self.calls, "append", piece.len());
+        note(self.calls, "append ", piece.len());
         self.shelf.append(piece)
     }
 
@@ -68,7 +61,7 @@ impl<'a, S: Shelf> Shelf for RecordingShelf<'a, S> {
     }
 }
 
-/// A sink that records its calls under a name.
+/// A sink that records its calls under a name, which ends in a space.
 #[derive(Drop)]
 pub struct RecordingSink<'a, O> {
     pub sink: O,
@@ -95,7 +88,7 @@ impl<'a, O: Sink> Sink for RecordingSink<'a, O> {
     ghost faults = { λ r. O.faults r.sink };
 
     fn write(&mut self, piece: &[u8]) -> Result<usize, SinkError> {
-        note_length(self.calls, self.name, piece.len());
+        note(self.calls, self.name, piece.len());
         self.sink.write(piece)
     }
 }

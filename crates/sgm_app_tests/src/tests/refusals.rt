@@ -59,22 +59,21 @@ fn a_pair_that_does_not_suit_is_refused(rt: HostRuntime) -> Result<(), Fail> {
     assert_refused(&rt, alloc, files, "match l.pgm r.pgm c.json o", 3, err)
 }
 
-// The file big.pgm: this header, and as many bytes 7.
+// The file big.pgm: this header, and bytes 7 up to the length.
 fn even_file(
     alloc: Global,
     header: &str,
     length: usize,
 ) -> Result<Vec<(String, Vec<u8>)>, AllocError> {
-    let samples = vec![in alloc; 7u8; length]?;
     let mut bytes = header.as_bytes().to_vec(alloc)?;
-    bytes.extend_from_slice(&samples)?;
+    bytes.resize(length, 7)?;
     with_file(alloc, "big.pgm", &bytes)
 }
 
 #[test]
 fn what_is_too_large_is_refused(rt: HostRuntime) -> Result<(), Fail> {
     let alloc = rt.alloc();
-    let files = even_file(alloc, "P5 4096 4096 255\n", 16_777_216)?;
+    let files = even_file(alloc, "P5 4096 4096 255\n", 17 + 16_777_216)?;
     let err = "sgm: volume of 1073741824 cells is above 268435456\n";
     assert_refused(&rt, alloc, files, "match big.pgm big.pgm - o", 3, err)?;
 

@@ -1,7 +1,7 @@
 //! That a run hands on its strips and its workers, which no clause can say: the gates see it.
 
-use super::ended::{end_by, shelf_of};
-use super::fixtures::{SUMMARY, example};
+use super::ended::{End, assert_end_by, shelf_of};
+use super::fixtures::{DISPARITIES, HEIGHTS, REPORT, SUMMARY, example};
 use sgm_work::Gate;
 use std::alloc::Global;
 use std::process::Abort;
@@ -9,18 +9,21 @@ use std::sync::atomic::{AtomicU64, Ordering};
 use std::test::Fail;
 use std::thread::{Threads, yield_now};
 
-/// Runs a line over the worked example, whose summary is the one that it has.
+/// Runs a line over the worked example, which is written whole.
 fn run_example<R: Abort + Threads + Sync, G: Gate + Sync>(
     rt: &R,
     alloc: Global,
     line: &str,
     gate: &G,
 ) -> Result<(), Fail> {
+    let end = End {
+        status: 0,
+        out: SUMMARY,
+        err: b"",
+        outputs: [Some(DISPARITIES), Some(HEIGHTS), Some(REPORT)],
+    };
     let mut shelf = shelf_of(alloc, example(alloc)?)?;
-    let ended = end_by(rt, alloc, line, &mut shelf, None, gate)?;
-    assert!(rt; ended.status == 0);
-    assert!(rt; ended.out.taken() == SUMMARY);
-    Ok(())
+    assert_end_by(rt, alloc, line, &mut shelf, None, gate, end)
 }
 
 /// Remembers its calls, the last at the end: a digit of 16 for each, four times the worker and the strip and 1.

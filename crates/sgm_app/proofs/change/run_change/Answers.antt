@@ -1,16 +1,20 @@
-use Rattle.std.proofs.Common.{◌∙◌, sym, refl}
+use Rattle.std.proofs.Common.{◌∙◌, sym, refl, subst, List, ℕ, Option}
+use Rattle.sgm_io.specs.Unfinished.{NameSet}
 use Rattle.sgm_words.specs.Operands.{of_change}
 use Rattle.sgm_app.specs.Changing.{change_for}
 use Rattle.sgm_app.specs.Made.{change_texts_in}
 use Rattle.sgm_app.specs.Outputs.{change_files_of}
 use Rattle.sgm_app.specs.Readings.{grid_reading}
+use Rattle.sgm_app.specs.Ends.{WritingStands}
+use Rattle.sgm_app.specs.Unfinished.{UnfinishedStands}
 use Rattle.sgm_app.specs.Verdict.{files}
+use Rattle.sgm_app.proofs.Finishing.{fetch_stands, texts_stands}
 use Rattle.sgm_app.proofs.Counting.{counts_since, texts_counts}
 use Rattle.sgm_app.proofs.Delivering.{settled, delivered, put_along, finished_along, out_along}
 use Rattle.sgm_app.proofs.Reading.{grids_at}
 use Rattle.sgm_app.proofs.Steps.{shown_along, stop_shown, stops_along}
 use Rattle.sgm_app.proofs.VerdictLaws.{none_changed}
-use Rattle.sgm_app.proofs.Stopping.{texts_put, texts_out, texts_not_done}
+use Rattle.sgm_app.proofs.Stopping.{texts_put, texts_out, texts_untouched, texts_writing, texts_not_done, fetch_put, fetch_out, fetch_untouched, fetch_writing, fetch_not_done}
 use Rattle.sgm_app.proofs.change.run_change.Goals as goal
 
 pub returns-in-Err-clause-cause : goal.returns-in-Err-clause-cause
@@ -93,3 +97,46 @@ returns-in-Err-change_texts-clause-out g c = λ told told_out v calls. rw c.outc
 
 pub returns-in-Err-change_texts-clause-finished : goal.returns-in-Err-change_texts-clause-finished
 returns-in-Err-change_texts-clause-finished g c = λ told v calls done. absurd (texts_not_done c.in-Err-change_texts.error (sym c.outcome-in-Err-change_texts.ensures ∙ done))
+
+pub returns-in-Err-clause-files : goal.returns-in-Err-clause-files
+returns-in-Err-clause-files g c = λ told v calls. rw c.outcome.ensures (fetch_put c.in-Err.stop v _ _ (c.in-Err.ensures.held told))
+
+pub returns-in-Err-clause-out : goal.returns-in-Err-clause-out
+returns-in-Err-clause-out g c = λ told told_out v calls. rw c.outcome.ensures (fetch_out c.in-Err.stop v _ _ refl)
+
+pub returns-in-Err-clause-untouched : goal.returns-in-Err-clause-untouched
+returns-in-Err-clause-untouched g c = λ told. rw c.outcome.ensures (fetch_untouched c.in-Err.stop _ _ refl)
+
+pub returns-in-Err-clause-writing : goal.returns-in-Err-clause-writing
+returns-in-Err-clause-writing g c = rw c.outcome.ensures (fetch_writing c.in-Err.stop _ _ c.in-Err.ensures.writing)
+
+pub returns-in-Err-clause-unfinished : goal.returns-in-Err-clause-unfinished
+returns-in-Err-clause-unfinished g c = rw c.outcome.ensures (fetch_stands _ c.in-Err.stop _ _ c.in-Err.ensures.unfinished)
+
+pub returns-in-Err-clause-finished : goal.returns-in-Err-clause-finished
+returns-in-Err-clause-finished g c = λ told v calls done. absurd (fetch_not_done c.in-Err.stop (sym c.outcome.ensures ∙ done))
+
+pub returns-in-Err-clause-counts : goal.returns-in-Err-clause-counts
+returns-in-Err-clause-counts g c = rw c.outcome.ensures (c.in-Err.ensures.counts (of_change c.args.operands.now) (λ input name is. is) _)
+
+pub returns-in-Err-change_texts-clause-untouched : goal.returns-in-Err-change_texts-clause-untouched
+returns-in-Err-change_texts-clause-untouched g c = λ told. rw c.outcome-in-Err-change_texts.ensures (texts_untouched c.in-Err-change_texts.error _ _ refl)
+
+pub returns-in-Err-change_texts-clause-writing : goal.returns-in-Err-change_texts-clause-writing
+returns-in-Err-change_texts-clause-writing g c = rw c.outcome-in-Err-change_texts.ensures (texts_writing c.in-Err-change_texts.error _ _ c.in-Ok.ensures.writing)
+
+pub returns-in-Err-change_texts-clause-unfinished : goal.returns-in-Err-change_texts-clause-unfinished
+returns-in-Err-change_texts-clause-unfinished g c = rw c.outcome-in-Err-change_texts.ensures (texts_stands _ c.in-Err-change_texts.error _ _ c.in-Ok.ensures.unfinished)
+
+pub returns-in-Ok-name_change-clause-untouched : goal.returns-in-Ok-name_change-clause-untouched
+returns-in-Ok-name_change-clause-untouched g c = c.deliver.ensures.untouched
+
+pub returns-in-Ok-name_change-clause-writing : goal.returns-in-Ok-name_change-clause-writing
+returns-in-Ok-name_change-clause-writing g c =
+    let P : Option (List ℕ) → Type 0 = λ w. WritingStands c.deliver.result w (g.S.Shelf.writing c.deliver.new.shelf) in
+    subst P c.in-Ok.ensures.writing c.deliver.ensures.writing
+
+pub returns-in-Ok-name_change-clause-unfinished : goal.returns-in-Ok-name_change-clause-unfinished
+returns-in-Ok-name_change-clause-unfinished g c =
+    let P : NameSet → Type 0 = λ u. UnfinishedStands (of_change c.args.operands.now) c.deliver.result u (g.S.Shelf.unfinished c.deliver.new.shelf) in
+    subst P c.in-Ok.ensures.unfinished (c.deliver.ensures.unfinished (of_change c.args.operands.now) c.in-Ok-name_change.ensures.named)

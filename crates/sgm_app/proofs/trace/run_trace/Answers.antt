@@ -7,6 +7,7 @@ use Rattle.sgm_app.proofs.Counting.{counts_since, texts_counts}
 use Rattle.sgm_app.proofs.Delivering.{settled, out_along}
 use Rattle.sgm_app.proofs.Reading.{image_reads, calib_reads}
 use Rattle.sgm_app.proofs.Steps.{shown_along, stop_shown}
+use Rattle.sgm_app.proofs.Stopping.{texts_out, texts_untouched, fetch_out, fetch_untouched}
 use Rattle.sgm_app.proofs.VerdictLaws.{none_traced}
 use Rattle.sgm_app.proofs.trace.run_trace.Goals as goal
 
@@ -60,3 +61,24 @@ pub returns-clause-counts : goal.returns-clause-counts
 returns-clause-counts g c =
     let kept = c.in-Ok.ensures.counts (of_trace c.args.operands.now) (λ input name is. is) in
     rw c.outcome-in-Err-certificate.ensures (texts_counts (of_trace c.args.operands.now) c.in-Err-certificate.error _ _ (record { reads = kept.0; writes = kept.1; out = refl }))
+
+pub returns-in-Err-clause-held : goal.returns-in-Err-clause-held
+returns-in-Err-clause-held g c = c.in-Err.ensures.held
+
+pub returns-in-Err-clause-out : goal.returns-in-Err-clause-out
+returns-in-Err-clause-out g c = λ told told_out v calls. rw c.outcome.ensures (fetch_out c.in-Err.stop v _ _ refl)
+
+pub returns-in-Err-clause-untouched : goal.returns-in-Err-clause-untouched
+returns-in-Err-clause-untouched g c = λ told. rw c.outcome.ensures (fetch_untouched c.in-Err.stop _ _ refl)
+
+pub returns-in-Err-clause-counts : goal.returns-in-Err-clause-counts
+returns-in-Err-clause-counts g c = rw c.outcome.ensures (c.in-Err.ensures.counts (of_trace c.args.operands.now) (λ input name is. is) _)
+
+pub returns-in-Ok-certificate-clause-untouched : goal.returns-in-Ok-certificate-clause-untouched
+returns-in-Ok-certificate-clause-untouched g c = c.deliver_summary.ensures.untouched
+
+pub returns-clause-out : goal.returns-clause-out
+returns-clause-out g c = λ told told_out v calls. rw c.outcome-in-Err-certificate.ensures (texts_out c.in-Err-certificate.error v _ _ refl)
+
+pub returns-clause-untouched : goal.returns-clause-untouched
+returns-clause-untouched g c = λ told. rw c.outcome-in-Err-certificate.ensures (texts_untouched c.in-Err-certificate.error _ _ refl)
