@@ -286,8 +286,9 @@ fn check_version(top: &Value) -> Result<(), CalibFault>
     ensures ok { OnOk result (version_fault (view top.now) ≡ None) }
     ensures fault { IfErr result (λ f. version_fault (view top.now) ≡ Some f) }
 {
-    let version = typed(top, &VERSION, PLAIN)?;
-    if is_in_range(&VERSION, PLAIN, top, version) {
+    let row = &VERSION;
+    let version = typed(top, row, PLAIN)?;
+    if is_in_range(row, PLAIN, top, version) {
         Ok(())
     } else {
         Err(CalibFault::Version)
@@ -300,9 +301,10 @@ pub fn check_top(top: &Value) -> Result<(), CalibFault>
     ensures ok { OnOk result (top_fault (view top.now) ≡ None) }
     ensures fault { IfErr result (λ f. top_fault (view top.now) ≡ Some f) }
 {
+    let row = &TOP;
     let Some(_) = top.as_object() else {
-        return Err(CalibFault::Type_(key_at(&TOP, PLAIN)));
+        return Err(CalibFault::Type_(key_at(row, PLAIN)));
     };
     check_version(top)?;
-    check_object(top, &TOP, PLAIN, Sort::Plain)
+    check_object(top, row, PLAIN, Sort::Plain)
 }

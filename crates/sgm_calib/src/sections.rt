@@ -134,8 +134,9 @@ fn check_adapt(object: &Value, sort: Sort) -> Result<(), CalibFault>
     ensures ok { OnOk result (keys_fault PLAIN (view object.now) (given_rows sort (table.adapt ∷ [])) ≡ None) }
     ensures fault { IfErr result (λ f. keys_fault PLAIN (view object.now) (given_rows sort (table.adapt ∷ [])) ≡ Some f) }
 {
-    if is_given(&ADAPT, sort) {
-        truth(object, &ADAPT, PLAIN)?;
+    let row = &ADAPT;
+    if is_given(row, sort) {
+        truth(object, row, PLAIN)?;
     }
     Ok(())
 }

@@ -174,7 +174,10 @@ pub const NODES: Row = key_row!(19 in 13 "warp.left." "nodes": COORDINATES, OF_M
 pub static SHAPE_KEYS: [Row; 3] = [STEP, MESH_COLS, MESH_ROWS];
 
 /// The right side has the keys of the left one, seven numbers on.
-pub const RIGHT: Row = key_row!(20 in 12 "warp." "right": Form::Object);
+const RIGHT: Row = key_row!(20 in 12 "warp." "right": Form::Object);
+
+/// The two sides of the warps.
+pub static SIDES: [Row; 2] = [LEFT, RIGHT];
 
 const RIGHT_KIND: Row = key_row!(21 in 20 "warp.right." "kind": Form::Kind);
 

@@ -16,7 +16,7 @@ use crate::kind::{Kind, kind_named};
 use crate::lists::{number, numbers};
 use crate::place::{PLAIN, Place, RIGHT_SIDE};
 use crate::sort::Sort;
-use crate::table::{KIND, LEFT, MATRIX, NODES, RIGHT, Row, SHAPE_KEYS, WARP};
+use crate::table::{KIND, LEFT, MATRIX, NODES, Row, SHAPE_KEYS, SIDES, WARP};
 use serde_json::Value;
 use sgm_rectify::{Nodes, Warp};
 use std::alloc::{AllocError, Global};
@@ -199,8 +199,9 @@ fn sides(alloc: Global, warp: &Value) -> Result<(Warp, Warp), CalibError>
     ensures fault { IfErr result (λ e. IsFaultOf (first_of (side_fault PLAIN table.left.name (view warp.now)
         ∷ side_fault RIGHT_SIDE table.right.name (view warp.now) ∷ [])) e) }
 {
-    let left = side(alloc, warp, &LEFT, PLAIN)?;
-    let right = side(alloc, warp, &RIGHT, RIGHT_SIDE)?;
+    let [left, right] = &SIDES;
+    let left = side(alloc, warp, left, PLAIN)?;
+    let right = side(alloc, warp, right, RIGHT_SIDE)?;
     Ok((left, right))
 }
 
