@@ -149,8 +149,8 @@ fn is_as_wanted(pen: Pen, count: usize, costs: &[u8], right: &[u16], left: &[u16
 }
 
 /// Whether a row of the table is as wanted. None of its rows is too long or has costs too large.
-fn is_right(row: Row) -> bool {
-    let ((p1, p2), count, costs, right, left) = row;
+fn is_right(row: &Row) -> bool {
+    let ((p1, p2), count, costs, right, left) = *row;
     let Some(pen) = Pen::make(p1, p2) else {
         return false;
     };
@@ -164,7 +164,7 @@ fn is_right(row: Row) -> bool {
 
 #[test]
 fn level_rows_have_least_energies(rt: HostRuntime) {
-    for row in ROWS {
+    for row in &ROWS {
         assert!(rt; is_right(row));
     }
 }
@@ -258,7 +258,7 @@ fn follow(
     begin: &[u8; 6],
     middle: &[u8; 6],
     end: &[u8; 6],
-    want: [[u16; 6]; 3],
+    want: &[[u16; 6]; 3],
 ) -> bool
     requires across { is_level dir ≡ false }
     requires begin { All (λ c. c ≤ MAX_COST) begin.now }
@@ -268,13 +268,13 @@ fn follow(
     let first = first_row(dir, pen, begin);
     let second = next_row(dir, pen, middle, &first);
     let third = next_row(dir, pen, end, &second);
-    [first, second, third] == want
+    [first, second, third] == *want
         && adds_first_row(dir, pen, begin, &first)
         && adds_next_row(dir, pen, end, &second, &third)
 }
 
 /// Whether the image's rows have these path values, the upper ones first.
-fn go_down(dir: Dir, pen: Pen, want: [[u16; 6]; 3]) -> bool
+fn go_down(dir: Dir, pen: Pen, want: &[[u16; 6]; 3]) -> bool
     requires across { is_level dir ≡ false }
 {
     let [top, middle, bottom] = IMAGE;
@@ -282,24 +282,30 @@ fn go_down(dir: Dir, pen: Pen, want: [[u16; 6]; 3]) -> bool
 }
 
 /// Whether the image's rows have these path values, the lower ones first.
-fn go_up(dir: Dir, pen: Pen, want: [[u16; 6]; 3]) -> bool
+fn go_up(dir: Dir, pen: Pen, want: &[[u16; 6]; 3]) -> bool
     requires across { is_level dir ≡ false }
 {
     let [top, middle, bottom] = IMAGE;
-    let [above, between, below] = want;
-    follow(dir, pen, &bottom, &middle, &top, [below, between, above])
+    let [above, between, below] = *want;
+    follow(dir, pen, &bottom, &middle, &top, &[below, between, above])
+}
+
+/// Whether the image's rows have these path values, the upper ones first.
+fn has_values(dir: Dir, pen: Pen, want: &[[u16; 6]; 3]) -> bool
+    requires across { is_level dir ≡ false }
+{
+    match dir {
+        Dir::Up | Dir::UpRight | Dir::UpLeft => go_up(dir, pen, want),
+        _ => go_down(dir, pen, want),
+    }
 }
 
 #[test]
 fn rows_of_an_image_have_least_energies(rt: HostRuntime) {
     let pen = Pen::make(2, 5).expect(&rt, "in range");
-    for (dir, want) in VALUES {
+    for (dir, want) in &VALUES {
         assert!(rt; !dir.is_level());
-        let is_right = match dir {
-            Dir::Up | Dir::UpRight | Dir::UpLeft => go_up(dir, pen, want),
-            _ => go_down(dir, pen, want),
-        };
-        assert!(rt; is_right);
+        assert!(rt; has_values(*dir, pen, want));
     }
 }
 
