@@ -114,7 +114,8 @@ def case_of(seed, number):
         files["dir"] = FOLDER
     if draw.chance(10):
         name = draw.of(entries)[3] + draw.of([".pgm", ".asc", ".csv"])
-        if "/" not in name:
+        # (no file can have a name of more than 255 bytes)
+        if "/" not in name and len(name) <= 255:
             files[name] = draw.of([FOLDER, Link("/dev/full"), b"older\n" * 40])
     if draw.chance(10):
         clash(draw, entries)
