@@ -4,13 +4,17 @@
     bench/gate_time.py [--out gate.md] [-- rt ci --anew]
 
 Runs `rt ci --anew` at the top of this repository (or the command behind `--`), whose lines go to standard output
-as they come, and then prints a Markdown table: the processor minutes of each crate's proof, of its tests and of its
-edits, those of one edit in seconds, and the whole run's minutes. The time of the check that a crate's edits begin
-with counts among its edits.
+as they come, and then prints a Markdown table: the processor minutes of each crate's proof, of its tests, of the check
+that its edits begin with (the seed, and the look at it once all were tried), and of its edits; of these also the number
+and the seconds of one; and the whole run's minutes.
 
 The figures are those of /proc, read every second, of each process that the gate starts, so of each the last second
-at most is missing; the last line has the system's own sum of all, which lacks nothing. Run it alone on the machine:
-times taken beside other work say little. Its status is the gate's.
+at most is missing; behind the table stands the system's own sum of all, which lacks nothing. Run it alone on the
+machine: times taken beside other work say little. Its status is the gate's.
+
+The last line tells how fast the machine was: every 20 seconds this script does the same small piece of work, and the
+line has the median of its processor times. Where two runs differ in it, the machine or what else ran there differed,
+and their minutes can't be compared.
 """
 
 import argparse
@@ -18,13 +22,16 @@ import collections
 import os
 import re
 import resource
+import statistics
 import subprocess
 import sys
 import time
 
 TOP = os.path.realpath(os.path.join(os.path.dirname(os.path.abspath(__file__)), ".."))
 TICKS = os.sysconf("SC_CLK_TCK")
-KINDS = ("proof", "tests", "edits")
+KINDS = ("proof", "tests", "seed", "edits")
+# Seconds between two pieces of work that tell how fast the machine is.
+PULSE = 20
 
 
 def processes():
@@ -69,14 +76,27 @@ def task_of(line, folder):
     if not name:
         return None
     if os.path.basename(folder).startswith("rt-edit-"):
-        edit = re.search(r"--incremental \S*/(\d+)( |$)", line)
-        return name[1], "edits", edit[1] if edit else None
+        over = re.search(r"--incremental \S*/(\w+)( |$)", line)
+        if over and over[1] == "seed":
+            return name[1], "seed", None
+        # (a crate with one edit has no seed)
+        return name[1], "edits", over[1] if over else "from nothing"
     return name[1], "tests" if " --test " in line else "proof", None
 
 
+def pulse():
+    """The processor seconds of a small piece of work: sums from all over a list, and a table that grows."""
+    begin = time.process_time()
+    values = list(range(200_000))
+    total = sum(values[at * 7919 % 200_000] & 255 for at in range(0, 200_000, 3))
+    found = {number * 2_654_435_761 & 0xFFFFF: total for number in range(60_000)}
+    assert found
+    return time.process_time() - begin
+
+
 def watch(gate):
-    """The seconds of each process of the gate, by what it works on."""
-    seconds, tasks, parents = {}, {}, {}
+    """The seconds of each process of the gate, by what it works on; and those of each pulse."""
+    seconds, tasks, parents, pulses, begin = {}, {}, {}, [], time.monotonic()
     while gate.poll() is None:
         found = processes()
         for process in below(gate.pid, found):
@@ -87,8 +107,10 @@ def watch(gate):
                 # What a crate's process starts works for the same crate.
                 tasks[key] = task_of(*words(process)) or parents.get(parent)
             parents[process] = tasks[key]
+        if time.monotonic() - begin >= PULSE * len(pulses):
+            pulses.append(pulse())
         time.sleep(1)
-    return seconds, tasks
+    return seconds, tasks, pulses
 
 
 def table(seconds, tasks):
@@ -101,8 +123,8 @@ def table(seconds, tasks):
             spent[crate][kind] += of_process
             if edit is not None:
                 edits[crate].add(edit)
-    yield "| Crate | Proof | Tests | Edits | Together | Edits tried |"
-    yield "|---|---|---|---|---|---|"
+    yield "| Crate | Proof | Tests | Seed | Edits | Together | Edits tried | Seconds of one |"
+    yield "|---|---|---|---|---|---|---|---|"
     for crate in sorted(spent):
         yield row(crate, [spent[crate][kind] for kind in KINDS], len(edits[crate]))
     sums = [sum(of_crate[kind] for of_crate in spent.values()) for kind in KINDS]
@@ -111,7 +133,8 @@ def table(seconds, tasks):
 
 def row(name, figures, edits):
     cells = [f"{figure / 60:.1f}" if figure >= 3 else "" for figure in figures]
-    return f"| {name} | {' | '.join(cells)} | {sum(figures) / 60:.1f} | {edits or ''} |"
+    one = f"{figures[KINDS.index('edits')] / edits:.0f}" if edits else ""
+    return f"| {name} | {' | '.join(cells)} | {sum(figures) / 60:.1f} | {edits or ''} | {one} |"
 
 
 def main():
@@ -125,10 +148,14 @@ def main():
     except OSError as error:
         print(f"gate_time: {error.filename}: {error.strerror}", file=sys.stderr)
         return 1
-    lines = list(table(*watch(gate)))
+    seconds, tasks, pulses = watch(gate)
+    lines = list(table(seconds, tasks))
     used = resource.getrusage(resource.RUSAGE_CHILDREN)
     wall, busy = (time.monotonic() - begin) / 60, (used.ru_utime + used.ru_stime) / 60
     lines.append(f"\n{wall:.1f} minutes, {busy:.1f} of processor time by the system's count.")
+    if pulses:
+        middle, least, most = statistics.median(pulses), min(pulses), max(pulses)
+        lines.append(f"The piece of work took {1000 * middle:.0f} ms of it ({least * 1000:.0f} to {most * 1000:.0f}).")
     text = "\n".join(lines) + "\n"
     print(text, end="")
     if given.out:
