@@ -6,7 +6,12 @@
 //! eight nodes or regions the last alone stands there, after their number.
 
 use crate::escapes;
+use sgm_base::Span;
 use sgm_calib::{Calib, CalibError, CalibFault, Key, read};
+use sgm_census::Window;
+use sgm_energy::Pen;
+use sgm_grid::GridSpec;
+use sgm_height::Camera;
 use sgm_rectify::Warp;
 use sgm_report::Region;
 use std::alloc::{AllocError, Global};
@@ -91,26 +96,45 @@ fn push_regions(text: &mut String, regions: &[Region]) -> Result<(), AllocError>
     Ok(())
 }
 
-fn push_calib(text: &mut String, calib: &Calib) -> Result<(), AllocError> {
-    let (span, window, pen) = (calib.span(), calib.window(), calib.pen());
+fn push_sides(text: &mut String, span: Span, window: Window) -> Result<(), AllocError> {
     let (first, count, width, height) = (span.first, span.count, window.width, window.height);
+    write!(text, "ok {first} {count} {width} {height}")
+}
+
+fn push_pen(text: &mut String, pen: Pen) -> Result<(), AllocError> {
     let (p1, p2) = (pen.p1(), pen.p2());
-    write!(text, "ok {first} {count} {width} {height} {p1} {p2}")?;
-    if pen.is_adaptive() {
-        text.push_str(" adapt")?;
-    }
-    push_warp(text, calib.left())?;
-    push_warp(text, calib.right())?;
+    let adapt = if pen.is_adaptive() { " adapt" } else { "" };
+    write!(text, " {p1} {p2}{adapt}")
+}
+
+fn push_camera(text: &mut String, camera: Camera) -> Result<(), AllocError> {
+    write!(text, " {camera:?}")
+}
+
+fn push_grid(text: &mut String, grid: GridSpec) -> Result<(), AllocError> {
+    write!(text, " {grid:?}")
+}
+
+/// Adds what the calibration has of the ground.
+fn push_ground(text: &mut String, calib: &Calib) -> Result<(), AllocError> {
     if let Some(camera) = calib.camera() {
-        write!(text, " {camera:?}")?;
+        push_camera(text, camera)?;
     }
     if let Some(grid) = calib.grid() {
-        write!(text, " {grid:?}")?;
+        push_grid(text, grid)?;
     }
-    if let Some(regions) = calib.regions() {
-        push_regions(text, regions)?;
+    match calib.regions() {
+        Some(regions) => push_regions(text, regions),
+        None => Ok(()),
     }
-    Ok(())
+}
+
+fn push_calib(text: &mut String, calib: &Calib) -> Result<(), AllocError> {
+    push_sides(text, calib.span(), calib.window())?;
+    push_pen(text, calib.pen())?;
+    push_warp(text, calib.left())?;
+    push_warp(text, calib.right())?;
+    push_ground(text, calib)
 }
 
 fn push_answer(alloc: Global, text: &mut String, bytes: &[u8]) -> Result<(), AllocError> {

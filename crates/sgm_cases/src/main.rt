@@ -29,11 +29,14 @@ fn answer<R: Threads + Sync>(
     match kind {
         "asc" => asc::answer(alloc, rest),
         "calib" => calib::answer(alloc, rest),
-        "line" => line::answer(alloc, rest),
         "run" => run::answer(rt, alloc, rest),
         "words" => words::answer(alloc, rest),
         _ => String::from_str(alloc, "no such kind"),
     }
+}
+
+fn print(rt: &impl Print, case: &str, answer: &str) -> io::Result<()> {
+    println!(rt; "{case}: {answer}")
 }
 
 /// Prints the case where its answer isn't the one that is owed.
@@ -48,7 +51,7 @@ fn compare<R: Print + Threads + Sync>(
     if text.as_str() == owed {
         Ok(())
     } else {
-        println!(rt; "{case}: {text}")
+        print(rt, case, text.as_str())
     }
 }
 

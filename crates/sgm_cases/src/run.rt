@@ -168,24 +168,35 @@ fn push_untold(
     }
 }
 
+/// What a run writes is held under these names.
+const OUTPUTS: [&str; 3] = ["o.pgm", "o.asc", "o.csv"];
+
+fn push_files<S: Shelf>(alloc: Global, text: &mut String, shelf: &mut S) -> Result<(), AllocError> {
+    for name in &OUTPUTS {
+        push_held(alloc, text, shelf, name)?;
+    }
+    Ok(())
+}
+
+fn push_streams(text: &mut String, out: &[u8], err: &[u8]) -> Result<(), AllocError> {
+    text.push_str(" | out ")?;
+    push_quoted(text, out)?;
+    text.push_str(" | err ")?;
+    push_quoted(text, err)
+}
+
 /// Adds how a run ended, what the shelf holds then, and what the two streams received.
 fn push_end<S: Shelf>(
     alloc: Global,
     text: &mut String,
     outcome: Outcome,
     shelf: &mut S,
-    out: &[u8],
-    err: &[u8],
+    (out, err): (&[u8], &[u8]),
 ) -> Result<(), AllocError> {
     let status = outcome.status();
     write!(text, "{status}")?;
-    for name in &["o.pgm", "o.asc", "o.csv"] {
-        push_held(alloc, text, shelf, name)?;
-    }
-    text.push_str(" | out ")?;
-    push_quoted(text, out)?;
-    text.push_str(" | err ")?;
-    push_quoted(text, err)?;
+    push_files(alloc, text, shelf)?;
+    push_streams(text, out, err)?;
     push_untold(alloc, text, outcome, err)
 }
 
@@ -200,7 +211,7 @@ fn end_of<R: Threads + Sync, S: Shelf>(
 ) -> Result<String, AllocError> {
     let outcome = run(rt, alloc, words, shelf, out, err, &OpenGate);
     let mut text = String::new(alloc);
-    push_end(alloc, &mut text, outcome, shelf, out.taken(), err.taken())?;
+    push_end(alloc, &mut text, outcome, shelf, (out.taken(), err.taken()))?;
     Ok(text)
 }
 

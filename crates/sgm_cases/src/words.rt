@@ -2,28 +2,39 @@
 
 use crate::line::line_of;
 use crate::parts::words_of;
+use sgm_energy::Dir;
 use sgm_outcome::Outcome;
 use sgm_refine::Refine;
 use sgm_words::{Options, read_words};
 use std::alloc::{AllocError, Global};
+use std::fmt::Write;
 
-/// How the map is to be refined.
-fn refine_text(alloc: Global, refine: Refine) -> Result<String, AllocError> {
+fn push_refine(text: &mut String, refine: Refine) -> Result<(), AllocError> {
     let Refine { peak, fill } = refine;
     let fill = u32::from(fill);
-    format!(in alloc; "peak={peak} fill={fill}")
+    write!(text, " peak={peak} fill={fill}")
 }
 
-/// What the words ask for.
-fn options_text(alloc: Global, options: Options) -> Result<String, AllocError> {
+fn push_sharing(text: &mut String, strips: u32, workers: u32) -> Result<(), AllocError> {
+    write!(text, " strips={strips} workers={workers}")
+}
+
+fn push_trace(text: &mut String, dir: Dir, pixel: (u32, u32), d: u32) -> Result<(), AllocError> {
+    let (x, y) = pixel;
+    write!(text, "trace dir={dir:?} x={x} y={y} d={d}")
+}
+
+/// Adds what the words ask for.
+fn push_options(text: &mut String, options: Options) -> Result<(), AllocError> {
     match options {
         Options::Match {
             strips,
             workers,
             refine,
         } => {
-            let refine = refine_text(alloc, refine)?;
-            format!(in alloc; "match strips={strips} workers={workers} {refine}")
+            text.push_str("match")?;
+            push_sharing(text, strips, workers)?;
+            push_refine(text, refine)
         }
         Options::Demo {
             number,
@@ -31,14 +42,19 @@ fn options_text(alloc: Global, options: Options) -> Result<String, AllocError> {
             workers,
             refine,
         } => {
-            let refine = refine_text(alloc, refine)?;
-            format!(in alloc; "demo number={number} strips={strips} workers={workers} {refine}")
+            write!(text, "demo number={number}")?;
+            push_sharing(text, strips, workers)?;
+            push_refine(text, refine)
         }
-        Options::Trace { dir, x, y, d } => {
-            format!(in alloc; "trace dir={dir:?} x={x} y={y} d={d}")
-        }
-        Options::Change => String::from_str(alloc, "change"),
+        Options::Trace { dir, x, y, d } => push_trace(text, dir, (x, y), d),
+        Options::Change => text.push_str("change"),
     }
+}
+
+fn options_text(alloc: Global, options: Options) -> Result<String, AllocError> {
+    let mut text = String::new(alloc);
+    push_options(&mut text, options)?;
+    Ok(text)
 }
 
 /// The answer to the case of that text.
