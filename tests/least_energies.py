@@ -6,7 +6,7 @@
 It knows nothing of a recurrence: the least energy is the least over all sequences, and a path value is
 the least energy of the ray among the sequences that end in an index, less the least energy of the ray
 without its last pixel. Where a guide is given, the penalty of a larger change follows it. It prints
-tables, which stand in the tests of sgm_path (crate sgm_kernel_tests). With --check it looks through these
+tables, which stand in the tests of sgm_path (crate sgm_survey_tests). With --check it looks through these
 tests and tries each row that stands there.
 """
 
@@ -17,7 +17,7 @@ import re
 import sys
 from itertools import product
 
-TESTS = os.path.join(os.path.dirname(os.path.abspath(__file__)), "..", "crates", "sgm_kernel_tests", "src", "path.rt")
+TESTS = os.path.join(os.path.dirname(os.path.abspath(__file__)), "..", "crates", "sgm_survey_tests", "src", "path.rt")
 
 OFFSETS = {
     "Right": (1, 0),

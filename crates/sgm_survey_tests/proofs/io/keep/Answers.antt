@@ -1,6 +1,6 @@
 use Rattle.std.proofs.Common.{◌∙◌}
 use Rattle.sgm_io.proofs.UnfinishedLaws.{finished}
-use Rattle.sgm_ground_tests.proofs.io.keep.Goals as goal
+use Rattle.sgm_survey_tests.proofs.io.keep.Goals as goal
 
 pub returns : goal.returns
 returns g c =

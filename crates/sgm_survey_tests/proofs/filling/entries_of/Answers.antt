@@ -1,7 +1,7 @@
 use Rattle.std.proofs.Common.{◌∙◌, ◌||◌, eqb, unwrap_or, ℕ, List, Option, ap, sym}
 use Rattle.std.specs.List.{list_all}
-use Rattle.sgm_job_tests.proofs.Indices.{indices}
-use Rattle.sgm_job_tests.proofs.filling.entries_of.Goals as goal
+use Rattle.sgm_survey_tests.proofs.Indices.{indices}
+use Rattle.sgm_survey_tests.proofs.filling.entries_of.Goals as goal
 
 pub fill-requires-clause-indices : goal.fill-requires-clause-indices
 fill-requires-clause-indices c =
