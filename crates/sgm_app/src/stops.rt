@@ -8,7 +8,7 @@ use sgm_job::{SurveyError, SurveyFault};
 use std::alloc::AllocError;
 
 /// What ends the fetching of the inputs.
-#[derive(Clone, Copy, Debug, PartialEq, Eq)]
+#[derive(Clone, Copy)]
 pub enum FetchStop {
     /// The input can't be read, or isn't there.
     Unread(Input),
@@ -19,7 +19,7 @@ pub enum FetchStop {
 }
 
 /// Why there are no texts.
-#[derive(Clone, Copy, Debug, PartialEq, Eq)]
+#[derive(Clone, Copy)]
 pub enum TextsError {
     /// No texts are called for: this is the first fault of the inputs.
     Refused(Refusal),
@@ -28,7 +28,7 @@ pub enum TextsError {
 }
 
 /// What ends the writing of the outputs.
-#[derive(Clone, Copy, Debug, PartialEq, Eq)]
+#[derive(Clone, Copy)]
 pub enum WriteStop {
     /// The file of this output can't be begun, written or finished.
     Unwritten(Output),

@@ -5,7 +5,7 @@ use crate::Span;
 
 /// Which indices give a column of a row a column of the other image: `len` of them after the first
 /// `skipped`, one column after the other from `start` on.
-#[derive(Clone, Copy, Debug, PartialEq, Eq)]
+#[derive(Clone, Copy, PartialEq, Eq)]
 pub struct Overlap {
     pub skipped: usize,
     pub start: usize,

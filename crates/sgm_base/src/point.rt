@@ -3,7 +3,7 @@ ghost use Rattle.sgm_base.specs.Rounding.{rounded};
 
 /// A point in space. `x` to the right, `y` to the north, `h` upwards from the datum, all in
 /// micrometres.
-#[derive(Clone, Copy, Debug, PartialEq, Eq)]
+#[derive(Clone, Copy, PartialEq, Eq)]
 pub struct Point {
     pub x: i64,
     pub y: i64,

@@ -5,7 +5,7 @@ use crate::limits::MAX_SIDE;
 use std::marker::Model;
 
 /// The sides of an image in pixels, each from 1 to 4096.
-#[derive(Clone, Copy, Debug, PartialEq, Eq)]
+#[derive(Clone, Copy, PartialEq, Eq)]
 pub struct Size {
     pub width: u32,
     pub height: u32,

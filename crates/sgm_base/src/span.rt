@@ -5,7 +5,7 @@ use crate::limits::{MAX_COUNT, MAX_FIRST, MIN_FIRST};
 use std::marker::Model;
 
 /// The disparities that are tried: `count` of them from `first` on. The index `d` stands for `first + d`.
-#[derive(Clone, Copy, Debug, PartialEq, Eq)]
+#[derive(Clone, Copy, PartialEq, Eq)]
 pub struct Span {
     pub first: i32,
     pub count: u32,

@@ -8,7 +8,7 @@ use std::alloc::AllocError;
 
 /// A key of the calibration file: its number in the key table, and for a key of a region the region's
 /// place in the list, else 0.
-#[derive(Clone, Copy, Debug, PartialEq, Eq)]
+#[derive(Clone, Copy, PartialEq, Eq)]
 pub struct Key {
     pub number: u8,
     pub index: u32,
@@ -75,7 +75,7 @@ impl Key {
 }
 
 /// What is wrong with a calibration file.
-#[derive(Clone, Copy, Debug, PartialEq, Eq)]
+#[derive(Clone, Copy, PartialEq, Eq)]
 pub enum CalibFault {
     /// It isn't JSON.
     Json,
@@ -92,7 +92,7 @@ pub enum CalibFault {
 }
 
 /// Why there is no calibration.
-#[derive(Clone, Copy, Debug, PartialEq, Eq)]
+#[derive(Clone, Copy, PartialEq, Eq)]
 pub enum CalibError {
     Fault(CalibFault),
     NoMemory,

@@ -5,7 +5,7 @@ use sgm_base::{MAX_COST, MAX_WINDOW_HEIGHT, MAX_WINDOW_WIDTH, MIN_WINDOW_SIDE};
 use std::marker::Model;
 
 /// The sides of a census window in pixels, both odd: the width is 3, 5, 7 or 9, the height 3, 5 or 7.
-#[derive(Clone, Copy, Debug, PartialEq, Eq)]
+#[derive(Clone, Copy, PartialEq, Eq)]
 pub struct Window {
     pub width: u32,
     pub height: u32,

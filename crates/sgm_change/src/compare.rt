@@ -10,7 +10,7 @@ ghost use Rattle.sgm_change.specs.Counts.{HasRoom, counts_of};
 use sgm_grid::Grid;
 
 /// What changed from an earlier grid to a later one. Volumes are in cubic micrometres.
-#[derive(Clone, Copy, Debug, PartialEq, Eq)]
+#[derive(Clone, Copy, PartialEq, Eq)]
 pub struct Changed {
     /// The number of cells that have a height in both.
     pub both: u64,

@@ -6,7 +6,7 @@ use sgm_base::MAX_PENALTY;
 /// The penalties for a change of the index from one pixel of a ray to the next: `p1` where it
 /// changes by one, `p2` where it changes by more. 1 <= p1 <= p2 <= [`MAX_PENALTY`]. An adaptive pen's
 /// penalty of a change by more follows the image: see [`Pen::far`].
-#[derive(Clone, Copy, Debug, PartialEq, Eq)]
+#[derive(Clone, Copy, PartialEq, Eq)]
 pub struct Pen {
     p1: u16,
     p2: u16,

@@ -6,7 +6,7 @@ use std::alloc::AllocError;
 /// What is wrong with bytes that are no grid's text. Of several faults the one that is listed first, and
 /// of two of one kind the one nearer to the front. Words are the longest runs of bytes other than space,
 /// TAB, CR and LF, and are counted from 0.
-#[derive(Clone, Copy, Debug, PartialEq, Eq)]
+#[derive(Clone, Copy, PartialEq, Eq)]
 pub enum AscFault {
     /// Of the first twelve words, the one at `at` is missing, or isn't the name or the number that has to
     /// stand there.
@@ -21,7 +21,7 @@ pub enum AscFault {
 }
 
 /// Why a grid's text was not read.
-#[derive(Clone, Copy, Debug, PartialEq, Eq)]
+#[derive(Clone, Copy, PartialEq, Eq)]
 pub enum AscError {
     /// The bytes are no grid's text.
     Fault(AscFault),

@@ -9,7 +9,7 @@ use sgm_energy::Dir;
 use std::alloc::{AllocError, Global};
 
 /// The state of the hand-over. It is sound at each moment.
-#[derive(Debug, Drop)]
+#[derive(Drop)]
 pub struct Machine {
     pub(crate) strips: u32,
     // By the number of the front: the strips that it has passed, and the worker that has it.

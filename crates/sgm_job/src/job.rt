@@ -27,7 +27,7 @@ use std::alloc::{AllocError, Global};
 use std::thread::Threads;
 
 /// Why a pair of images is refused.
-#[derive(Clone, Copy, Debug, PartialEq, Eq)]
+#[derive(Clone, Copy, PartialEq, Eq)]
 pub enum SurveyFault {
     /// The widths or the heights differ.
     SizesDiffer { left: Size, right: Size },
@@ -38,7 +38,7 @@ pub enum SurveyFault {
 }
 
 /// Why there is no survey.
-#[derive(Clone, Copy, Debug, PartialEq, Eq)]
+#[derive(Clone, Copy, PartialEq, Eq)]
 pub enum SurveyError {
     Fault(SurveyFault),
     NoMemory,

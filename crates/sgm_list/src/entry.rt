@@ -1,7 +1,7 @@
 use std::marker::Model;
 
 /// A pair that is to be matched.
-#[derive(Debug, Drop)]
+#[derive(Drop)]
 pub struct Entry {
     /// The name of the left image.
     pub left: String,

@@ -4,7 +4,7 @@ ghost use Rattle.sgm_list.specs.declared.fault.ListError.TheVariants.{Fault, NoM
 use std::alloc::AllocError;
 
 /// What is wrong with a list. Of several faults the one that is listed first.
-#[derive(Clone, Copy, Debug, PartialEq, Eq)]
+#[derive(Clone, Copy, PartialEq, Eq)]
 pub enum ListFault {
     /// More bytes than [`crate::MAX_LIST_BYTES`].
     TooLong,
@@ -20,7 +20,7 @@ pub enum ListFault {
 }
 
 /// Why a list was not read.
-#[derive(Clone, Copy, Debug, PartialEq, Eq)]
+#[derive(Clone, Copy, PartialEq, Eq)]
 pub enum ListError {
     Fault(ListFault),
     /// Memory ran out.

@@ -9,7 +9,7 @@ use sgm_rectify::WarpFault;
 use sgm_words::{Input, Output, UsageFault};
 
 /// Why the inputs are refused.
-#[derive(Clone, Copy, Debug, PartialEq, Eq)]
+#[derive(Clone, Copy)]
 pub enum Refusal {
     /// The input has more bytes than are allowed.
     TooLong(Input),
@@ -29,7 +29,7 @@ pub enum Refusal {
 }
 
 /// How a run ended.
-#[derive(Clone, Copy, Debug, PartialEq, Eq)]
+#[derive(Clone, Copy)]
 pub enum Outcome {
     Done,
     Usage(UsageFault),

@@ -5,7 +5,7 @@ use std::alloc::AllocError;
 
 /// What is wrong with bytes that are no PGM text. Of several faults the one that is listed first, and
 /// of two in the header the one nearer to the front.
-#[derive(Clone, Copy, Debug, PartialEq, Eq)]
+#[derive(Clone, Copy, PartialEq, Eq)]
 pub enum PgmFault {
     /// The bytes don't begin with `P5`.
     NotPgm,
@@ -24,7 +24,7 @@ pub enum PgmFault {
 }
 
 /// Why a text was not read.
-#[derive(Clone, Copy, Debug, PartialEq, Eq)]
+#[derive(Clone, Copy, PartialEq, Eq)]
 pub enum PgmError {
     /// The bytes are no PGM text.
     Fault(PgmFault),

@@ -3,7 +3,7 @@ ghost use Rattle.std.specs.Prelude.{◌≡◌};
 use std::marker::Model;
 
 /// The nodes of a mesh, row by row: for each the source place (u, v), in 1/256 of a pixel.
-#[derive(Debug, Drop)]
+#[derive(Drop)]
 pub struct Nodes {
     places: Vec<(i32, i32)>,
 }

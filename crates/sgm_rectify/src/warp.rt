@@ -11,7 +11,7 @@ use crate::place::{affine, meshed, projected};
 use sgm_base::Size;
 
 /// Where the pixels of a rectified image come from.
-#[derive(Debug, Drop)]
+#[derive(Drop)]
 pub enum Warp {
     /// Each pixel from its own place.
     Identity,
@@ -29,7 +29,7 @@ pub enum Warp {
 }
 
 /// Why an image of a size can't be rectified by a warp.
-#[derive(Clone, Copy, Debug, PartialEq, Eq)]
+#[derive(Clone, Copy, PartialEq, Eq)]
 pub enum WarpFault {
     /// The projective denominator is 0 or less at this corner, the first such: 0 is the upper left, 1 the
     /// upper right, 2 the lower left and 3 the lower right.

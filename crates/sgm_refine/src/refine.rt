@@ -8,7 +8,7 @@ pub const MAX_PEAK: u32 = 16_777_216;
 
 /// How a map of disparities is refined: segments of fewer than `peak` pixels are removed, and then,
 /// where `fill` is true, pixels without a disparity are filled. `peak` is at most [`MAX_PEAK`].
-#[derive(Clone, Copy, Debug, PartialEq, Eq)]
+#[derive(Clone, Copy, PartialEq, Eq)]
 pub struct Refine {
     pub peak: u32,
     pub fill: bool,

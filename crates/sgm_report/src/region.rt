@@ -8,7 +8,7 @@ use std::marker::Model;
 pub const MAX_NAME: usize = 64;
 
 /// A named rectangle of cells of a grid, and the height from which its volumes are counted.
-#[derive(Debug, Drop)]
+#[derive(Drop)]
 pub struct Region {
     /// What the report calls it.
     pub name: String,

@@ -11,7 +11,7 @@ use crate::Region;
 use sgm_grid::{Grid, higher};
 
 /// What the cells of a region amount to. Heights are in micrometres, volumes in cubic micrometres.
-#[derive(Clone, Copy, Debug, PartialEq, Eq)]
+#[derive(Clone, Copy, PartialEq, Eq)]
 pub struct RegionTally {
     /// The number of cells that have a height.
     pub cells: u64,

@@ -29,7 +29,7 @@ use std::thread::Threads;
 pub type Answer = Result<MadeTexts, TextsError>;
 
 /// Why nothing was made for a batch.
-#[derive(Clone, Copy, Debug, PartialEq, Eq)]
+#[derive(Clone, Copy)]
 pub enum BatchStop {
     /// An input of the entry at this place couldn't be read.
     Unread { place: usize, input: Input },

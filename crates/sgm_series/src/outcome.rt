@@ -6,7 +6,7 @@ use sgm_app::{Input, Output};
 use sgm_list::ListFault;
 
 /// How a series ended. Entries are counted from 0.
-#[derive(Clone, Copy, Debug, PartialEq, Eq)]
+#[derive(Clone, Copy, PartialEq, Eq)]
 pub enum SeriesOutcome {
     Done,
     Usage(SeriesUsage),

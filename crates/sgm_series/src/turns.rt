@@ -23,14 +23,14 @@ use sgm_outcome::write_line;
 use std::alloc::Global;
 
 /// How the turns went so far: how many entries are refused, and whether `err` has taken every line.
-#[derive(Clone, Copy, Debug, PartialEq, Eq)]
+#[derive(Clone, Copy, PartialEq, Eq)]
 pub struct Tally {
     pub refused: u32,
     pub whole: bool,
 }
 
 /// The turn at this place stopped so.
-#[derive(Clone, Copy, Debug, PartialEq, Eq)]
+#[derive(Clone, Copy)]
 pub struct TurnsStop {
     pub place: usize,
     pub stop: WriteStop,

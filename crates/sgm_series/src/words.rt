@@ -6,7 +6,7 @@ ghost use Rattle.sgm_series.specs.Words.{workers_in, series_words};
 use std::marker::Model;
 
 /// What is wrong with the words.
-#[derive(Clone, Copy, Debug, PartialEq, Eq)]
+#[derive(Clone, Copy, PartialEq, Eq)]
 pub enum SeriesUsage {
     /// There is no word, or the first is empty.
     NoList,

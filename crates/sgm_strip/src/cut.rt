@@ -7,7 +7,7 @@ use std::marker::Model;
 
 /// How the `height` rows of an image are cut into `strips`: 1 <= strips <= [`MAX_STRIPS`], and
 /// strips <= height <= [`MAX_SIDE`].
-#[derive(Clone, Copy, Debug, PartialEq, Eq)]
+#[derive(Clone, Copy, PartialEq, Eq)]
 pub struct Cut {
     pub height: u32,
     pub strips: u32,

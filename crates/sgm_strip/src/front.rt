@@ -9,7 +9,7 @@ use std::marker::Model;
 use std::snapshot::Snapshot;
 
 /// One visit of a front: the strip that it went through, and the worker who passed it on.
-#[derive(Clone, Copy, Debug, PartialEq, Eq)]
+#[derive(Clone, Copy, PartialEq, Eq)]
 pub struct Visit {
     pub strip: u32,
     pub worker: u32,

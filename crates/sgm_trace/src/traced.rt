@@ -1,6 +1,6 @@
 /// One pixel of a ray: its column and row, the index that the sequence has there, the cost of that, and the
 /// penalty of the change from the index before, which is 0 at the ray's first pixel.
-#[derive(Clone, Copy, Debug, PartialEq, Eq)]
+#[derive(Clone, Copy, PartialEq, Eq)]
 pub struct Step {
     pub x: u32,
     pub y: u32,

@@ -8,7 +8,7 @@ use std::alloc::{AllocError, Global};
 pub const MAX_GRID_BYTES: usize = 268_435_456;
 
 /// A file that is read, in the order in which they are fetched.
-#[derive(Clone, Copy, Debug, PartialEq, Eq)]
+#[derive(Clone, Copy, PartialEq, Eq)]
 pub enum Input {
     Left,
     Right,
@@ -18,7 +18,7 @@ pub enum Input {
 }
 
 /// What is written, in this order.
-#[derive(Clone, Copy, Debug, PartialEq, Eq)]
+#[derive(Clone, Copy, PartialEq, Eq)]
 pub enum Output {
     Disparity,
     Heights,

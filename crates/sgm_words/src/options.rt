@@ -3,7 +3,7 @@ use sgm_refine::Refine;
 
 /// What the words ask for. The operands of `match` are the words 1 to 4, those of `change` the words 1 to 3,
 /// and the images and the calibration of `trace` the words 1 to 3.
-#[derive(Clone, Copy, Debug, PartialEq, Eq)]
+#[derive(Clone, Copy, PartialEq, Eq)]
 pub enum Options {
     Match {
         strips: u32,

@@ -1,5 +1,5 @@
 /// The first fault of the words. Positions count from 0.
-#[derive(Clone, Copy, Debug, PartialEq, Eq)]
+#[derive(Clone, Copy, PartialEq, Eq)]
 pub enum UsageFault {
     NoCommand,
     UnknownCommand,
