@@ -225,6 +225,10 @@ pub record IsThrough (w : ℕ) (es : List (Option ℕ)) (least : ℕ) (marks : L
   pub keeping : IsKeeping w es least marks kept
   pub before : (k : ℕ) → k < at → IsMarked marks k
 
+pub through_start : (w : ℕ) (es : List (Option ℕ)) (least : ℕ) (marks : List Bool) (kept : List (Option ℕ)) → marks ≡ replicate (length es) false → kept ≡ es → IsThrough w es least marks kept 0
+through_start w es least marks kept unmarked whole =
+    rw (unmarked, whole) (record { keeping = keeping_start w es least (length es) refl; before = λ k l. absurd (omega arith) })
+
 pub through_next : (w : ℕ) (es : List (Option ℕ)) (least : ℕ) (old marks : List Bool) (before kept : List (Option ℕ)) (at : ℕ) → IsThrough w es least old before at
     → IsKeeping w es least marks kept → ((k : ℕ) → IsMarked old k → IsMarked marks k) → IsMarked marks at → IsThrough w es least marks kept (at + 1)
 through_next w es least old marks before kept at h keeping stays here = record {
