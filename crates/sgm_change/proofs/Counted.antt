@@ -52,6 +52,10 @@ with_both cells s a b up down e pu pd =
     (sum_more (λ cell. fall cell.0 cell.1) cells (Some a, Some b) s.fallen down (ap (λ (t : Counts). t.fallen) e) pd)
 
 -- what the code computes of two heights
+pub code_apart : (a b : ℤ) → IsHeight a → IsHeight b
+    → to_z w64 (of_z w64 (to_z w64 (of_z w64 (to_z w32 (of_z w32 b))) -ℤ to_z w64 (of_z w64 (to_z w32 (of_z w32 a))))) ≡ b -ℤ a
+code_apart a b pa pb = omega (arith, ints, pa.0, pa.1, pb.0, pb.1)
+
 pub code_rise : (a b over : ℤ) → IsHeight a → IsHeight b
     → over ≡ int_max (to_z w64 (of_z w64 (to_z w64 (of_z w64 (to_z w32 (of_z w32 b))) -ℤ to_z w64 (of_z w64 (to_z w32 (of_z w32 a)))))) (pos 0)
     → unsigned_abs (to_z w64 (of_z w64 over)) ≡ above a b

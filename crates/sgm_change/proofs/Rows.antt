@@ -5,7 +5,7 @@ use Rattle.std.proofs.lemmas.List.FromFn.{map-range_with_len_more}
 use Rattle.std.specs.List.{join_with_byte, range_with_len, zip}
 use Rattle.sgm_grid.specs.Cells.{Cells, row_of}
 use Rattle.sgm_grid.specs.Text.{StartsAs, line}
-use Rattle.sgm_grid.proofs.Rows.{starts_append, starts_more, starts_on}
+use Rattle.sgm_grid.proofs.Rows.{starts_append, starts_more, starts_on, starts_with}
 use Rattle.sgm_change.specs.declared.compare.Changed.{Changed}
 use Rattle.sgm_change.specs.Texts.{after_spaces, both_row, cell_text, difference_text, row_text, rows_text, volumes_of, volumes_text}
 
@@ -39,6 +39,21 @@ row_ends (Ok u) old first all new xs ys some same p q s =
     ∙ ap (λ (t : List ℕ). t ++ (10 ∷ [])) (every ∙ ap (λ (t : List ℕ). t ++ rest) p ∙ append_assoc old head rest)
     ∙ append_assoc old (head ++ rest) (10 ∷ [])
     ∙ ap (λ (t : List ℕ). old ++ t) (append_assoc head rest (10 ∷ []) ∙ sym (row_is xs ys some same))
+
+-- where its end wasn't added
+pub row_starts : {E : Type 0} (r : Result (Unit {0}) E) (old first all new a b : List ℕ) → first ≡ old ++ a → all ≡ first ++ b
+    → new ≡ (if is_ok r then all ++ (10 ∷ []) else all) → OnErr r (StartsAs old new)
+row_starts (Ok u) old first all new a b p q s = tt
+row_starts (Err e) old first all new a b p q s = subst (λ (t : List ℕ). StartsAs old t) (sym s) (starts_more old first all b (starts_with old first a p) q)
+
+-- a text that was added, or not
+pub added_ok : {E : Type 0} (r : Result (Unit {0}) E) (old new text more : List ℕ) → new ≡ (if is_ok r then old ++ text else old) → text ≡ more → OnOk r (new ≡ old ++ more)
+added_ok (Ok u) old new text more p q = p ∙ ap (λ (t : List ℕ). old ++ t) q
+added_ok (Err e) old new text more p q = tt
+
+pub added_err : {E : Type 0} (r : Result (Unit {0}) E) (old new text : List ℕ) → new ≡ (if is_ok r then old ++ text else old) → OnErr r (new ≡ old)
+added_err (Ok u) old new text p = tt
+added_err (Err e) old new text p = p
 
 -- one difference more of a row
 pub rest_more : (old sofar spaced new : List ℕ) (xs ys : List (Option ℤ)) (k : ℕ) (x y : Option ℤ)

@@ -1,9 +1,10 @@
-use Rattle.std.proofs.Common.{◌≡◌, ℕ, ◌+◌, ◌-◌, ◌*◌, length, ap, sym, subst, ◌∙◌, arith, to_z, of_z, w64, ℤ}
+use Rattle.std.proofs.Common.{◌≡◌, ℕ, ◌<◌, ◌≤◌, ◌+◌, ◌-◌, ◌*◌, length, take, ap, sym, subst, ◌∙◌, arith, to_z, of_z, w64, ℤ}
+use Rattle.std.proofs.lemmas.Nat.{mul-le}
 use Rattle.std.proofs.lemmas.Int.{ints}
 use Rattle.sgm_grid.specs.declared.grid_spec.GridSpec.{GridSpec}
 use Rattle.sgm_change.specs.Changes.{both_cells, changed_over}
 use Rattle.sgm_change.specs.Counts.{HasRoom, counts_of}
-use Rattle.sgm_change.proofs.Counted.{all_cells, counts_more}
+use Rattle.sgm_change.proofs.Counted.{all_cells, counts_more, room_at_first, room_less}
 use Rattle.sgm_change.proofs.compare.change.Goals as goal
 
 pub loop-row-preserved : goal.loop-row-preserved
@@ -35,3 +36,22 @@ returns c =
     let whole : c.loop-row.counts ≡ counts_of (both_cells earlier later) =
     c.loop-row.invariant.value ∙ ap counts_of (all_cells earlier later c.loop-row.row c.spec-spec.ensures.kept.full rows) in
     c.over.ensures (both_cells earlier later) whole ∙ ap (λ (z : ℤ). changed_over z (both_cells earlier later)) side
+
+pub loop-row-init : goal.loop-row-init
+loop-row-init c =
+    let spec = c.args.earlier.now.spec in
+    let ranges = c.spec-spec.ensures.kept.ranges in
+    let none : 0 ≡ 0 * spec.cols = omega arith in
+    record {
+      value = c.no_counts-counts.ensures ∙ ap (λ (n : ℕ). counts_of (take n (both_cells c.args.earlier.now c.args.later.now))) none;
+      room = room_at_first c.no_counts-counts.result spec.cols (spec.rows - 0) c.no_counts-counts.ensures ranges.cols_in_range.1 (omega (arith, ranges.rows_in_range.1));
+    }
+
+pub with_row-counts-requires-clause-room : goal.with_row-counts-requires-clause-room
+with_row-counts-requires-clause-room c =
+    let spec = c.args.earlier.now.spec in
+    let left = spec.rows - c.loop-row.row in
+    let rows : c.spec-spec.result.rows ≡ spec.rows = ap (λ (s : GridSpec). s.rows) c.spec-spec.ensures.spec in
+    let some : 1 ≤ left = omega (arith, rows, c.loop-row-test.true) in
+    room_less c.loop-row.counts (left * spec.cols) (length c.row.result.now)
+    (omega (arith, c.row.ensures.whole, mul-le 1 spec.cols left spec.cols some (omega arith))) c.loop-row.invariant.room
