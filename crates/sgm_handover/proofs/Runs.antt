@@ -29,6 +29,13 @@ pub legal_here : (m s : Handover) (es : List Event) (k : ℕ) (d : Event) → k 
 legal_here m s es k d h e l =
     subst (λ (o : Option Event). IfSome o (Legal (run m (take k es)))) (sym (slice_get-get_or es k d h)) (subst (λ (t : Handover). Legal t (get_or es k d)) e l)
 
+pub first_illegal : (m s : Handover) (es : List Event) (k : ℕ) (d : Event) → k < length es → s ≡ run m (take k es) → ¬ Legal s (get_or es k d) → ((j : ℕ) → j < k → LegalAt m es j) → FirstIllegal m es k
+first_illegal m s es k d h e not earlier = record {
+  inside = h;
+  illegal = λ l. not (subst (λ (t : Handover). Legal t (get_or es k d)) (sym e) (subst (λ (o : Option Event). IfSome o (Legal (run m (take k es)))) (slice_get-get_or es k d h) l));
+  earlier = earlier;
+}
+
 pub run_more : (m s t : Handover) (es : List Event) (k : ℕ) (d : Event) → k < length es → s ≡ run m (take k es) → t ≡ after s (get_or es k d) → t ≡ run m (take (k + 1) es)
 run_more m s t es k d h e l = l ∙ ap (λ (r : Handover). after r (get_or es k d)) e ∙ sym (fold_more after m es k d h)
 
