@@ -1,4 +1,4 @@
-use Rattle.std.proofs.Common.{◌≡◌, ℕ, ◌∙◌, ◌+◌, ◌-◌, ◌*◌, ◌/◌, ◌≤◌, ◌++◌, ◌∷◌, [], List, length, true, false, not, ◌==◌, vec_len, slice_set, sym, ap, subst, refl, arith}
+use Rattle.std.proofs.Common.{◌≡◌, ◌∙◌, ◌+◌, ◌-◌, ◌*◌, ◌/◌, ◌++◌, ◌∷◌, [], List, length, true, false, not, ◌==◌, vec_len, slice_set, sym, ap, subst, refl, arith}
 use Rattle.std.proofs.lemmas.List.{with_items_is}
 use Rattle.sgm_base.specs.Disparities.{Disparities}
 use Rattle.sgm_base.specs.Values.{Values}
@@ -6,7 +6,7 @@ use Rattle.sgm_energy.specs.Dirs.{position_of}
 use Rattle.sgm_energy.specs.Energies.{path_value, sum_done}
 use Rattle.sgm_energy.specs.Pens.{penalties_of}
 use Rattle.sgm_energy.specs.Rows.{HoldsRow}
-use Rattle.sgm_strip.specs.Cuts.{first_row, rows_of}
+use Rattle.sgm_strip.specs.Cuts.{rows_of}
 use Rattle.sgm_strip.specs.Scenes.{SceneParts, problem_of, row_length}
 use Rattle.sgm_strip.specs.Parcels.{ParcelParts, IsParcel, is_done, parcel_of, with_done}
 use Rattle.sgm_strip.specs.Fronts.{FrontParts, IsFront, front_parts, visit_of}

@@ -1,9 +1,12 @@
-use Rattle.std.proofs.Common.{◌≡◌, ℕ, ◌+◌, ◌*◌, ◌/◌, ◌<◌, ◌≤◌, ◌∙◌, sym, ap, subst, arith, length, slice_index, Some, ◌⊎◌}
+use Rattle.std.proofs.Common.{◌≡◌, ℕ, ◌+◌, ◌*◌, ◌/◌, ◌%◌, ◌<◌, ◌≤◌, ◌∙◌, sym, ap, subst, arith, length, slice_index, Some, ◌⊎◌}
+use Rattle.std.proofs.lemmas.List.Elements.{All-drop, All-take}
+use Rattle.sgm_base.specs.declared.limits.TheConstants.{MAX_COST}
 use Rattle.sgm_base.specs.Sides.{Sides}
 use Rattle.sgm_energy.specs.Pens.{penalties_of}
 use Rattle.sgm_energy.specs.Rays.{row_before}
-use Rattle.sgm_strip.specs.Passing.{ComesBefore}
-use Rattle.sgm_strip.proofs.Sweep.{row_suits, left_more, done_more, all_done, finished}
+use Rattle.sgm_strip.specs.Passing.{ComesBefore, visited}
+use Rattle.sgm_strip.proofs.Rows.{row_ends, row_long}
+use Rattle.sgm_strip.proofs.Sweep.{visited_back, row_suits, left_more, done_more, all_done, finished}
 use Rattle.sgm_strip.proofs.sweeping.pass_rows.Goals as goal
 
 pub loop-i-preserved : goal.loop-i-preserved
@@ -54,3 +57,64 @@ returns-clause-sums c g rows f s some b h =
     finished g dir c.args.top rows (penalties_of c.args.pen) c.args.guide.now c.args.count (length c.args.last.now.items) n c.loop-i.i c.args.begun c.args.costs.now c.args.last.now.items c.loop-i.last.items c.args.sums.now c.loop-i.sums
     s c.loop-i.invariant.row (omega (arith, c.loop-i.invariant.row, c.requires.some)) (omega arith) b (c.loop-i.invariant.done g) in
     all_done g dir c.args.top rows n f c.args.last.now.items c.loop-i.last.items c.args.sums.now c.loop-i.sums it.0.same_row c.loop-i.auto.sums it.1 h
+
+pub overflow_mul-at : goal.overflow_mul-at
+overflow_mul-at c = omega (arith, row_ends c.args.costs.now c.len-row.result c.visited-place.result c.visited-place.ensures.inside)
+
+pub overflow_add-here : goal.overflow_add-here
+overflow_add-here c = omega (arith, row_ends c.args.costs.now c.len-row.result c.visited-place.result c.visited-place.ensures.inside)
+
+pub slice_bounds-here-end : goal.slice_bounds-here-end
+slice_bounds-here-end c = omega (arith, row_ends c.args.costs.now c.len-row.result c.visited-place.result c.visited-place.ensures.inside)
+
+pub row-requires : goal.row-requires
+row-requires c = omega (arith, c.requires.guide_height, ap (λ n. length c.args.costs.now / n) c.loop-i.invariant.row, c.visited-place.ensures.inside)
+
+pub row_from-requires-clause-inside : goal.row_from-requires-clause-inside
+row_from-requires-clause-inside c =
+    omega (arith, c.requires.guide_height, ap (λ n. length c.args.costs.now / n) c.loop-i.invariant.row, c.visited-place.ensures.inside, ap (λ (sides : Sides). sides.height) c.height.view_is, c.size.ensures.height)
+
+pub row-requires-in-loop-i : goal.row-requires-in-loop-i
+row-requires-in-loop-i c = omega (arith, c.row_from.ensures.inside, ap (λ (sides : Sides). sides.height) c.height.view_is, c.size.ensures.height)
+
+pub advance-requires-clause-guide_length : goal.advance-requires-clause-guide_length
+advance-requires-clause-guide_length c =
+    let long = row_long c.args.costs.now c.len-row.result c.visited-place.result c.visited-place.ensures.inside in
+    c.row.ensures.whole ∙ c.requires.guide_width ∙ ap (λ n. n / c.args.count) (sym (long ∙ c.loop-i.invariant.row))
+
+pub advance-requires-clause-guide_before_length : goal.advance-requires-clause-guide_before_length
+advance-requires-clause-guide_before_length c =
+    let long = row_long c.args.costs.now c.len-row.result c.visited-place.result c.visited-place.ensures.inside in
+    c.row-in-loop-i.ensures.whole ∙ c.requires.guide_width ∙ ap (λ n. n / c.args.count) (sym (long ∙ c.loop-i.invariant.row))
+
+pub advance-requires-clause-whole : goal.advance-requires-clause-whole
+advance-requires-clause-whole c =
+    let long = row_long c.args.costs.now c.len-row.result c.visited-place.result c.visited-place.ensures.inside in
+    ap (λ n. n % c.args.count) (long ∙ c.loop-i.invariant.row) ∙ c.requires.whole
+
+pub advance-requires-clause-costs : goal.advance-requires-clause-costs
+advance-requires-clause-costs c = All-take (λ v. v ≤ MAX_COST) _ _ (All-drop (λ v. v ≤ MAX_COST) _ _ c.requires.costs)
+
+pub advance-requires-clause-values : goal.advance-requires-clause-values
+advance-requires-clause-values c = c.loop-i.invariant.bound
+
+pub advance-requires-clause-inside : goal.advance-requires-clause-inside
+advance-requires-clause-inside c =
+    let at = c.visited-place.ensures.inside in
+    omega (
+      arith,
+      row_ends c.args.costs.now c.len-row.result c.visited-place.result at,
+      row_long c.args.costs.now c.len-row.result c.visited-place.result at,
+      c.loop-i.auto.sums,
+      c.requires.sums_length,
+    )
+
+pub advance-requires-clause-room : goal.advance-requires-clause-room
+advance-requires-clause-room c k h =
+    let rows = length c.args.costs.now / c.len-row.result in
+    let n = c.len-row.result in
+    let r = c.visited-place.result in
+    let at = c.visited-place.ensures.inside in
+    let inside : k < n = omega (arith, row_long c.args.costs.now n r at) in
+    let still : c.loop-i.i ≤ visited c.args.dir rows r = omega (arith, ap (visited c.args.dir rows) c.visited-place.ensures.value, visited_back c.args.dir rows c.loop-i.i c.loop-i-test.true) in
+    omega (arith, c.loop-i.invariant.left r k at still inside, c.requires.room (r * n + k) (omega (arith, row_ends c.args.costs.now n r at, c.requires.sums_length)))
