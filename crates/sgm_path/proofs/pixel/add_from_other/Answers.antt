@@ -55,3 +55,21 @@ returns-clause-added c d h =
 
 pub add_follow-requires-clause-costs : goal.add_follow-requires-clause-costs
 add_follow-requires-clause-costs c = All-take (λ v. v ≤ 62) (c.args.at + c.args.count - c.args.at) _ (All-drop (λ v. v ≤ 62) c.args.at _ c.requires.costs)
+
+pub add_follow-requires-clause-prev_length : goal.add_follow-requires-clause-prev_length
+add_follow-requires-clause-prev_length c = omega arith
+
+pub add_follow-requires-clause-costs_length : goal.add_follow-requires-clause-costs_length
+add_follow-requires-clause-costs_length c = omega arith
+
+pub add_follow-requires-clause-sums_length : goal.add_follow-requires-clause-sums_length
+add_follow-requires-clause-sums_length c = omega arith
+
+pub add_follow-requires-clause-penalties : goal.add_follow-requires-clause-penalties
+add_follow-requires-clause-penalties c = c.requires.penalties
+
+pub add_follow-requires-clause-values : goal.add_follow-requires-clause-values
+add_follow-requires-clause-values c = c.requires.values
+
+pub add_follow-requires-clause-room : goal.add_follow-requires-clause-room
+add_follow-requires-clause-room c = omega arith

@@ -81,3 +81,16 @@ returns-clause-other_sums c k h =
 
 pub add_follow-requires-clause-costs : goal.add_follow-requires-clause-costs
 add_follow-requires-clause-costs c = All-take (λ v. v ≤ 62) (c.args.at + c.args.count - c.args.at) _ (All-drop (λ v. v ≤ 62) c.args.at _ c.requires.costs)
+
+pub add_follow-requires-clause-costs_length : goal.add_follow-requires-clause-costs_length
+add_follow-requires-clause-costs_length c = omega arith
+
+pub add_follow-requires-clause-sums_length : goal.add_follow-requires-clause-sums_length
+add_follow-requires-clause-sums_length c = omega arith
+
+pub add_follow-requires-clause-room : goal.add_follow-requires-clause-room
+add_follow-requires-clause-room c = omega arith
+
+pub add_follow-requires-clause-prev_length : goal.add_follow-requires-clause-prev_length
+add_follow-requires-clause-prev_length c =
+    omega (arith, length-take c.args.count c.split_at_mut-front.result.1.now, c.split_at_mut-front.ensures.back_len, c.split_at_mut-here.ensures.back_len, c.split_at_mut-front.ensures.front_len)

@@ -1,7 +1,7 @@
-use Rattle.std.proofs.Common.{◌∙◌, inl, ◌≡◌, ℕ, ◌≤◌, ◌+◌, ◌-◌, ◌*◌, ◌/◌, ap, arith, length}
+use Rattle.std.proofs.Common.{◌∙◌, inl, ◌≡◌, ℕ, ◌≤◌, ◌+◌, ◌-◌, ◌*◌, ◌/◌, ap, arith, length, sym, ◌<◌, slice_index}
 use Rattle.sgm_energy.specs.Pens.{penalties_of}
 use Rattle.sgm_path.specs.Paths.{far_between}
-use Rattle.sgm_path.proofs.PathRows.{added_down, bound_down, left_more}
+use Rattle.sgm_path.proofs.PathRows.{added_down, bound_down, left_more, column_ends}
 use Rattle.sgm_path.proofs.run.add_run_left.Goals as goal
 
 pub loop-x-preserved : goal.loop-x-preserved
@@ -23,3 +23,27 @@ loop-x-preserved g c =
           (λ k h. c.loop-x.invariant.left k (omega (arith, h, ap (λ n. n * count) up)));
       left = λ k h. c.add_left_at.ensures.other_sums k (inl h) ∙ c.loop-x.invariant.left k (omega (arith, h, ap (λ n. n * count) up));
     }
+
+pub add_left_at-requires-clause-costs : goal.add_left_at-requires-clause-costs
+add_left_at-requires-clause-costs g c = c.requires.costs
+
+pub add_left_at-requires-clause-guide_length : goal.add_left_at-requires-clause-guide_length
+add_left_at-requires-clause-guide_length g c = c.requires.guide_length ∙ ap (λ n. n / c.args.count) (sym c.loop-x.auto.into)
+
+pub add_left_at-requires-clause-width : goal.add_left_at-requires-clause-width
+add_left_at-requires-clause-width g c = ap (λ n. n / c.args.count) (sym c.loop-x.auto.into)
+
+pub add_left_at-requires-clause-values : goal.add_left_at-requires-clause-values
+add_left_at-requires-clause-values g c k h l =
+    let x : ℕ = c.loop-x.x - 1 in
+    let up : x + 1 ≡ c.loop-x.x = omega arith in
+    c.loop-x.invariant.bound k (omega (arith, h, ap (λ n. n * c.args.count) up)) l
+
+pub add_left_at-requires-clause-room : goal.add_left_at-requires-clause-room
+add_left_at-requires-clause-room g c d h =
+    let x : ℕ = c.loop-x.x - 1 in
+    let up : x + 1 ≡ c.loop-x.x = omega arith in
+    let at : ℕ = x * c.args.count + d in
+    let left : at < c.loop-x.x * c.args.count = omega (arith, h, ap (λ n. n * c.args.count) up) in
+    let inside : at < length c.args.sums.now = omega (arith, h, c.requires.sums_length, column_ends x c.args.count (length c.args.into.now) c.requires.positive (omega arith)) in
+    omega (arith, c.loop-x.invariant.left at left, c.requires.room at inside)

@@ -1,9 +1,10 @@
+use Rattle.std.proofs.lemmas.Nat.{mul-le}
 use Rattle.std.proofs.Common.{◌≡◌, ℕ, ◌≤◌, ◌+◌, ◌*◌, ◌/◌, ◌∙◌, sym, ap, subst, arith, slice_index, length}
 use Rattle.std.proofs.lemmas.List.Elements.{All-from_get_or}
 use Rattle.sgm_energy.specs.declared.dir.Dir.TheVariants.{Right}
 use Rattle.sgm_energy.specs.Pens.{penalties_of}
 use Rattle.sgm_path.specs.Paths.{far_between, StepsAt}
-use Rattle.sgm_path.proofs.PathRows.{bound_more, begins_right, follows_left, right_more}
+use Rattle.sgm_path.proofs.PathRows.{bound_more, begins_right, follows_left, right_more, column_ends}
 use Rattle.sgm_path.proofs.run.run_right.Goals as goal
 use Rattle.sgm_path.proofs.run.run_right.Goals.{then-x-eq0, else-x-eq0}
 
@@ -49,3 +50,30 @@ returns-clause-bound g c =
     All-from_get_or (λ v. v ≤ 4062) c.loop-x.into 0
     (λ k h. let end : c.loop-x.x ≡ length c.args.into.now / c.args.count = omega arith in
     c.loop-x.invariant.bound k (omega (arith, h, c.requires.positive, c.requires.whole, c.loop-x.auto.into, ap (λ n. n * c.args.count) end)))
+
+pub begin_at-requires-clause-same_length : goal.begin_at-requires-clause-same_length
+begin_at-requires-clause-same_length g c = omega arith
+
+pub begin_at-requires-clause-costs : goal.begin_at-requires-clause-costs
+begin_at-requires-clause-costs g c = c.requires.costs
+
+pub from_left-requires-clause-positive : goal.from_left-requires-clause-positive
+from_left-requires-clause-positive g c = c.requires.positive
+
+pub from_left-requires-clause-costs : goal.from_left-requires-clause-costs
+from_left-requires-clause-costs g c = c.requires.costs
+
+pub from_left-requires-clause-values : goal.from_left-requires-clause-values
+from_left-requires-clause-values g c = omega arith
+
+pub overflow_mul-at : goal.overflow_mul-at
+overflow_mul-at g c = omega (arith, column_ends c.loop-x.x c.args.count (length c.args.into.now) c.requires.positive c.loop-x-test.true)
+
+pub begin_at-requires-clause-inside : goal.begin_at-requires-clause-inside
+begin_at-requires-clause-inside g c = omega (arith, c.loop-x.auto.into, column_ends c.loop-x.x c.args.count (length c.args.into.now) c.requires.positive c.loop-x-test.true)
+
+pub from_left-requires-clause-inside : goal.from_left-requires-clause-inside
+from_left-requires-clause-inside g c = omega (arith, c.loop-x.auto.into, column_ends c.loop-x.x c.args.count (length c.args.into.now) c.requires.positive c.loop-x-test.true)
+
+pub from_left-requires-clause-room : goal.from_left-requires-clause-room
+from_left-requires-clause-room g c = omega (arith, mul-le 1 c.args.count c.loop-x.x c.args.count (omega (arith, c.if-x-eq0.false)) (omega arith))

@@ -59,3 +59,67 @@ returns-else-is_adaptive-clause-each c =
     let pen = penalties_of c.args.pen in
     let far : ℕ → ℕ → ℕ = far_between pen c.args.guide.now c.args.guide_before.now in
     subst (λ o. IfSome o (λ b. RowFollows c.args.dir c.args.count pen.p1 far b.now c.args.costs.now c.add_step_fixed.new.into)) (sym c.in-Some.is) c.add_step_fixed.ensures.each
+
+pub returns-then-is_adaptive-clause-bound : goal.returns-then-is_adaptive-clause-bound
+returns-then-is_adaptive-clause-bound c = c.add_step_from.ensures.bound
+
+pub returns-then-is_adaptive-clause-added : goal.returns-then-is_adaptive-clause-added
+returns-then-is_adaptive-clause-added c = c.add_step_from.ensures.added
+
+pub returns-else-is_adaptive-clause-bound : goal.returns-else-is_adaptive-clause-bound
+returns-else-is_adaptive-clause-bound c = c.add_step_fixed.ensures.bound
+
+pub returns-else-is_adaptive-clause-added : goal.returns-else-is_adaptive-clause-added
+returns-else-is_adaptive-clause-added c = c.add_step_fixed.ensures.added
+
+pub add_step_from-requires-clause-same_length : goal.add_step_from-requires-clause-same_length
+add_step_from-requires-clause-same_length c = c.requires.same_length
+
+pub add_step_from-requires-clause-guide_length : goal.add_step_from-requires-clause-guide_length
+add_step_from-requires-clause-guide_length c = c.requires.guide_length
+
+pub add_step_from-requires-clause-sums_length : goal.add_step_from-requires-clause-sums_length
+add_step_from-requires-clause-sums_length c = c.requires.sums_length
+
+pub add_step_from-requires-clause-whole : goal.add_step_from-requires-clause-whole
+add_step_from-requires-clause-whole c = c.requires.whole
+
+pub add_step_from-requires-clause-costs : goal.add_step_from-requires-clause-costs
+add_step_from-requires-clause-costs c = c.requires.costs
+
+pub add_step_from-requires-clause-room : goal.add_step_from-requires-clause-room
+add_step_from-requires-clause-room c = c.requires.room
+
+pub add_step_fixed-requires-clause-same_length : goal.add_step_fixed-requires-clause-same_length
+add_step_fixed-requires-clause-same_length c = c.requires.same_length
+
+pub add_step_fixed-requires-clause-guide_length : goal.add_step_fixed-requires-clause-guide_length
+add_step_fixed-requires-clause-guide_length c = c.requires.guide_length
+
+pub add_step_fixed-requires-clause-sums_length : goal.add_step_fixed-requires-clause-sums_length
+add_step_fixed-requires-clause-sums_length c = c.requires.sums_length
+
+pub add_step_fixed-requires-clause-whole : goal.add_step_fixed-requires-clause-whole
+add_step_fixed-requires-clause-whole c = c.requires.whole
+
+pub add_step_fixed-requires-clause-costs : goal.add_step_fixed-requires-clause-costs
+add_step_fixed-requires-clause-costs c = c.requires.costs
+
+pub add_step_fixed-requires-clause-room : goal.add_step_fixed-requires-clause-room
+add_step_fixed-requires-clause-room c = c.requires.room
+
+pub begin_at-requires-clause-same_length : goal.begin_at-requires-clause-same_length
+begin_at-requires-clause-same_length c = c.requires.same_length
+
+pub begin_at-requires-clause-costs : goal.begin_at-requires-clause-costs
+begin_at-requires-clause-costs c = c.requires.costs
+
+pub add-requires-clause-same_length : goal.add-requires-clause-same_length
+add-requires-clause-same_length c = omega (arith, c.begin_at.auto.into, c.requires.sums_length)
+
+pub returns-in-None-clause-added : goal.returns-in-None-clause-added
+returns-in-None-clause-added c = c.add.ensures
+
+pub add-requires-clause-fits : goal.add-requires-clause-fits
+add-requires-clause-fits c = λ k h.
+    omega (arith, c.requires.room k h, ap (slice_index c.begin_at.new.into) (zero-add k), c.begin_at.ensures.bound k (omega (arith, c.begin_at.auto.into, c.requires.sums_length)))

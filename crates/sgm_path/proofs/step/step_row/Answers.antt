@@ -65,3 +65,9 @@ returns-else-is_adaptive-clause-each c =
     let pen = penalties_of c.args.pen in
     let far : ℕ → ℕ → ℕ = far_between pen c.args.guide.now c.args.guide_before.now in
     subst (λ o. IfSome o (λ b. RowFollows c.args.dir c.args.count pen.p1 far b.now c.args.costs.now c.step_from-else-is_adaptive.new.into)) (sym c.in-Some.is) c.step_from-else-is_adaptive.ensures.each
+
+pub step_from-requires-else-is_adaptive-clause-costs : goal.step_from-requires-else-is_adaptive-clause-costs
+step_from-requires-else-is_adaptive-clause-costs c = c.requires.costs
+
+pub begin_at-requires-clause-costs : goal.begin_at-requires-clause-costs
+begin_at-requires-clause-costs c = c.requires.costs
