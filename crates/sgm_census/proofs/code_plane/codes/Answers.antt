@@ -1,7 +1,7 @@
-use Rattle.std.proofs.Common.{ℕ, ◌^◌, ◌<◌, List, Bool, ap, ◌∙◌, arith, get_or, length, subst, sym}
+use Rattle.std.proofs.Common.{ℕ, ◌*◌, ◌^◌, ◌<◌, List, Bool, ap, ◌∙◌, arith, get_or, length, subst, sym, ◌≡◌}
 use Rattle.std.proofs.lemmas.List.{with_items_is}
 use Rattle.std.specs.Vec.{with_items}
-use Rattle.sgm_base.specs.Sides.{IsSide}
+use Rattle.sgm_base.specs.Sides.{IsSide, Sides}
 use Rattle.sgm_census.specs.Windows.{WindowSides, IsWindow, greatest_of}
 use Rattle.sgm_census.proofs.CodeRows.{marks_unset, zeros_small}
 use Rattle.sgm_census.specs.Packed.{codes_in}
@@ -37,3 +37,31 @@ invariant_of-result c =
       present_full = ap length present_are ∙ omega (arith, c.in_ok-present.ensures.len, c.pixels-2.ensures.pixels);
       within = λ k. subst (λ (us : List ℕ). get_or us k 0 < 2 ^ greatest_of c.args.window) (sym words_are) (c.code_rows.ensures.within k);
     }
+
+pub code_rows-requires-clause-values : goal.code_rows-requires-clause-values
+code_rows-requires-clause-values c = c.deref.ensures.value ∙ c.in_ok-values.ensures
+
+pub code_rows-requires-clause-there : goal.code_rows-requires-clause-there
+code_rows-requires-clause-there c = c.deref-2.ensures.value ∙ c.in_ok-there.ensures
+
+pub code_rows-requires-clause-kept : goal.code_rows-requires-clause-kept
+code_rows-requires-clause-kept c = c.size-size.ensures.kept
+
+pub code_rows-requires-clause-bits_length : goal.code_rows-requires-clause-bits_length
+code_rows-requires-clause-bits_length c =
+    let width : c.size.inside.width ≡ c.args.plane.now.width = ap (λ (s : Sides). s.width) c.size.view_is ∙ c.size-size.ensures.width in
+    omega (arith, ap length c.as_mut_slice.ensures.value, c.in_ok-bits.ensures.len, width)
+
+pub code_rows-requires-clause-words_length : goal.code_rows-requires-clause-words_length
+code_rows-requires-clause-words_length c =
+    let size = c.size-size in
+    let plane = c.args.plane.now in
+    ap length c.as_mut_slice-2.ensures.value
+    ∙ omega (arith, c.in_ok-words.ensures.len, c.pixels.ensures.pixels, ap (λ n. n * size.result.height) size.ensures.width, ap (λ n. plane.width * n) size.ensures.height)
+
+pub code_rows-requires-clause-present_length : goal.code_rows-requires-clause-present_length
+code_rows-requires-clause-present_length c =
+    let size = c.size-size in
+    let plane = c.args.plane.now in
+    ap length c.as_mut_slice-3.ensures.value
+    ∙ omega (arith, c.in_ok-present.ensures.len, c.pixels-2.ensures.pixels, ap (λ n. n * size.result.height) size.ensures.width, ap (λ n. plane.width * n) size.ensures.height)

@@ -1,4 +1,6 @@
-use Rattle.std.proofs.Common.{◌≡◌, ◌*◌, ◌<◌, ◌≤◌, length, take, ap, ◌∙◌, arith}
+use Rattle.std.proofs.lemmas.Nat.{mul-le}
+use Rattle.sgm_census.specs.Packed.{HoldsSmall}
+use Rattle.std.proofs.Common.{◌≡◌, ◌*◌, ◌<◌, ◌≤◌, length, take, ap, ◌∙◌, arith, sym, subst}
 use Rattle.std.proofs.lemmas.List.Elements.{All-from_get_or}
 use Rattle.sgm_base.specs.Disparities.{Disparities}
 use Rattle.sgm_census.specs.Windows.{WindowSides, greatest_of}
@@ -42,3 +44,29 @@ returns-clause-most c =
       c.greatest-greatest.ensures.most,
       census_cost-le_row left right c.args.span.first x y d c.row-left.result.words.now c.row-left.result.present.now c.row-left.ensures h,
     )))
+
+pub cost_pixel-requires-clause-right_words : goal.cost_pixel-requires-clause-right_words
+cost_pixel-requires-clause-right_words c = omega arith
+
+pub cost_pixel-requires-clause-right_present : goal.cost_pixel-requires-clause-right_present
+cost_pixel-requires-clause-right_present c = omega arith
+
+pub cost_pixel-requires-clause-left_small : goal.cost_pixel-requires-clause-left_small
+cost_pixel-requires-clause-left_small c =
+    let greatest : c.greatest-greatest.result ≡ greatest_of c.args.left.now.window = c.greatest-greatest.ensures.value ∙ ap (λ (w : WindowSides). greatest_of w) c.window.ensures in
+    subst (λ n. HoldsSmall n c.row-left.result.words.now) (sym greatest) (record { within = c.row-left.ensures.within })
+
+pub cost_pixel-requires-clause-right_small : goal.cost_pixel-requires-clause-right_small
+cost_pixel-requires-clause-right_small c =
+    let greatest : c.greatest-greatest.result ≡ greatest_of c.args.right.now.window = c.greatest-greatest.ensures.value ∙ ap (λ (w : WindowSides). greatest_of w) (c.window.ensures ∙ c.requires.same_window) in
+    subst (λ n. HoldsSmall n c.row-right.result.words.now) (sym greatest) (record { within = c.row-right.ensures.within })
+
+pub cost_pixel-requires-clause-whole : goal.cost_pixel-requires-clause-whole
+cost_pixel-requires-clause-whole c = c.split_at_mut-cells.ensures.front_len ∙ ap (λ (s : Disparities). s.count) c.span.view_is
+
+pub overflow_mul-x : goal.overflow_mul-x
+overflow_mul-x c =
+    let width = c.args.left.now.width in
+    let count = c.span.inside.count in
+    let whole : width * count ≡ width * c.args.span.count = ap (λ (s : Disparities). width * s.count) c.span.view_is in
+    omega (arith, c.requires.whole, whole, mul-le c.loop-x.x count width count (omega (arith, c.row-left.ensures.words_full)) (omega arith))

@@ -91,3 +91,12 @@ pub code_row-requires-clause-there_length : goal.code_row-requires-clause-there_
 code_row-requires-clause-there_length c =
     let entries = c.args.plane.now.entries in
     ap length c.requires.there ∙ length-map entries is_some ∙ sym (ap length c.requires.values ∙ length-map entries plain)
+
+pub returns-then-width-across-clause-within : goal.returns-then-width-across-clause-within
+returns-then-width-across-clause-within c = c.requires.within
+
+pub code_row-requires-clause-bits_length : goal.code_row-requires-clause-bits_length
+code_row-requires-clause-bits_length c = omega arith
+
+pub code_row-requires-clause-present_length : goal.code_row-requires-clause-present_length
+code_row-requires-clause-present_length c = omega arith

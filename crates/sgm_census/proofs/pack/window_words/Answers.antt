@@ -1,11 +1,19 @@
 use Rattle.std.proofs.Common.{◌≡◌, ℕ, ◌+◌, ◌-◌, ◌*◌, ◌/◌, ◌^◌, ◌≤◌, List, ap, ◌∙◌, arith, drop, length, slice_index, subst, sym, take}
 use Rattle.std.proofs.lemmas.List.{length-take}
 use Rattle.std.specs.List.{flat_map, range_with_len}
-use Rattle.sgm_census.specs.Windows.{WindowSides}
+use Rattle.sgm_census.specs.Windows.{WindowSides, IsWindow}
 use Rattle.sgm_census.specs.Packed.{centre_in, lesser, pushed}
 use Rattle.sgm_census.proofs.CodeLists.{part_at}
 use Rattle.sgm_census.proofs.RowBits.{ends_in, words_more, words_room, words_small}
 use Rattle.sgm_census.proofs.pack.window_words.Goals as goal
+
+-- the centres of a row of windows stand within the rows of the values
+centres_end : (inside window : WindowSides) (top width len size : ℕ) → inside ≡ window → IsWindow inside.width inside.height → len + window.width ≡ width + 1 → (top + window.height) * width ≤ size
+    → (top + inside.height / 2) * width + inside.width / 2 + len ≤ size
+centres_end inside window top width len size same range columns rows =
+    let high : inside.height ≡ window.height = ap (λ (s : WindowSides). s.height) same in
+    let wide : inside.width ≡ window.width = ap (λ (s : WindowSides). s.width) same in
+    omega (arith, wide, columns, range.odd_width, ends_in top (inside.height / 2) window.height width size (omega (arith, high, range.odd_height)) rows)
 
 pub overflow_mul-centre : goal.overflow_mul-centre
 overflow_mul-centre c =
@@ -78,3 +86,21 @@ returns c = λ k h.
     subst (λ n. slice_index c.loop-j.words k ≡ pushed 0 (lesser (centre_in c.args.width c.args.values.now c.args.window k c.args.top)
     (flat_map (λ j. take c.args.window.width (drop k (take c.args.width (drop ((c.args.top + j) * c.args.width) c.args.values.now)))) (range_with_len 0 n))))
     j (c.loop-j.invariant k h)
+
+pub loop-j-init : goal.loop-j-init
+loop-j-init c = omega arith
+
+pub push_row-requires-clause-bits_length : goal.push_row-requires-clause-bits_length
+push_row-requires-clause-bits_length c = omega arith
+
+pub overflow_add-centre-2 : goal.overflow_add-centre-2
+overflow_add-centre-2 c = omega (arith, centres_end record { width = c.window.inside.width; height = c.window.inside.height } c.args.window c.args.top c.args.width (length c.args.words.now) (length c.args.values.now) c.window.view_is c.window.invariant c.requires.columns c.requires.rows)
+
+pub overflow_add-centre-in-loop-j : goal.overflow_add-centre-in-loop-j
+overflow_add-centre-in-loop-j c = omega (arith, centres_end record { width = c.window.inside.width; height = c.window.inside.height } c.args.window c.args.top c.args.width (length c.args.words.now) (length c.args.values.now) c.window.view_is c.window.invariant c.requires.columns c.requires.rows)
+
+pub offset_bounds-values-centre : goal.offset_bounds-values-centre
+offset_bounds-values-centre c = omega (arith, centres_end record { width = c.window.inside.width; height = c.window.inside.height } c.args.window c.args.top c.args.width (length c.args.words.now) (length c.args.values.now) c.window.view_is c.window.invariant c.requires.columns c.requires.rows)
+
+pub slice_bounds-push_row-end : goal.slice_bounds-push_row-end
+slice_bounds-push_row-end c = omega (arith, centres_end record { width = c.window.inside.width; height = c.window.inside.height } c.args.window c.args.top c.args.width (length c.args.words.now) (length c.args.values.now) c.window.view_is c.window.invariant c.requires.columns c.requires.rows)
