@@ -31,3 +31,12 @@ returns c =
           ∙ rows_held g.width g.height (λ q y. option_map (λ d. 16 * d) (matched g first q y)) top n new some (omega (arith, to, low, kept.same_height)) full c.match_rows.ensures
           ∙ ap (λ k. rows_between (matches_of g first) top k) to;
     }
+
+pub match_rows-requires-clause-indices_length : goal.match_rows-requires-clause-indices_length
+match_rows-requires-clause-indices_length c = omega (arith, ap length c.as_mut_slice.ensures.value, c.in_ok-indices.ensures.len, c.requires.width)
+
+pub match_rows-requires-clause-whole : goal.match_rows-requires-clause-whole
+match_rows-requires-clause-whole c =
+    let parcel = c.args.parcel.now in
+    let rows : c.rows-rows.result ≡ rows_of parcel.cut parcel.strip = c.rows-rows.ensures.rows ∙ ap (λ k. rows_of k c.strip.result) c.cut.ensures ∙ ap (rows_of parcel.cut) c.strip.ensures.value in
+    omega (arith, ap length c.as_mut_slice-2.ensures.value, c.in_ok-entries.ensures.len, ap (λ k. c.rows-rows.result * k) c.requires.width, ap (λ k. k * parcel.scene.left.width) rows)
