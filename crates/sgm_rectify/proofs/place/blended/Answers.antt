@@ -43,3 +43,6 @@ returns c =
     result_kept ∙ c.floor_div.ensures
     ∙ ap (λ (d : ℤ). int_div_euclid (to_z w64 (of_z w64 (to_z w64 (of_z w64 (to_z w64 (of_z w64 (to_z w64 (of_z w64 c.share.result) +ℤ to_z w64 (of_z w64 c.share-2.result))) +ℤ to_z w64 (of_z w64 c.share-3.result))) +ℤ to_z w64 (of_z w64 c.share-4.result)))) d) area
     ∙ ap (λ (n : ℤ). int_div_euclid n (pos (s * s))) is_sum
+
+pub overflow_sub-step : goal.overflow_sub-step
+overflow_sub-step c = omega arith

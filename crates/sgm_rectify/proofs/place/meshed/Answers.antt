@@ -1,3 +1,4 @@
+use Rattle.std.proofs.lemmas.Nat.{mod_below}
 use Rattle.std.proofs.Common.{◌≡◌, ◌%◌, ℤ, w64, to_z, of_z, ◌∙◌, arith}
 use Rattle.std.proofs.lemmas.Int.{ints}
 use Rattle.sgm_rectify.specs.Places.{blended}
@@ -25,3 +26,21 @@ returns-clause-v c =
     (kept32 c.node-u10.result.1 c.node-u10.ensures.kept.1 ∙ c.node-u10.ensures.v)
     (kept32 c.node-u01.result.1 c.node-u01.ensures.kept.1 ∙ c.node-u01.ensures.v)
     (kept32 c.node-u11.result.1 c.node-u11.ensures.kept.1 ∙ c.node-u11.ensures.v)
+
+pub blended-v-requires-clause-positive : goal.blended-v-requires-clause-positive
+blended-v-requires-clause-positive c = c.requires.positive
+
+pub blended-v-requires-clause-step : goal.blended-v-requires-clause-step
+blended-v-requires-clause-step c = c.requires.step
+
+pub blended-u-requires-clause-a : goal.blended-u-requires-clause-a
+blended-u-requires-clause-a c = mod_below c.args.x c.args.step c.requires.positive
+
+pub blended-u-requires-clause-b : goal.blended-u-requires-clause-b
+blended-u-requires-clause-b c = mod_below c.args.y c.args.step c.requires.positive
+
+pub blended-v-requires-clause-a : goal.blended-v-requires-clause-a
+blended-v-requires-clause-a c = mod_below c.args.x c.args.step c.requires.positive
+
+pub blended-v-requires-clause-b : goal.blended-v-requires-clause-b
+blended-v-requires-clause-b c = mod_below c.args.y c.args.step c.requires.positive
