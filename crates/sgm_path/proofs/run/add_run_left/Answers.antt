@@ -1,4 +1,4 @@
-use Rattle.std.proofs.Common.{◌∙◌, inl, ◌≡◌, ℕ, ◌≤◌, ◌+◌, ◌-◌, ◌*◌, ◌/◌, ap, arith, length, sym, ◌<◌, slice_index}
+use Rattle.std.proofs.Common.{◌∙◌, inl, ◌≡◌, ℕ, ◌≤◌, ◌+◌, ◌-◌, ◌*◌, ◌/◌, ap, arith, length, sym, ◌<◌}
 use Rattle.sgm_energy.specs.Pens.{penalties_of}
 use Rattle.sgm_path.specs.Paths.{far_between}
 use Rattle.sgm_path.proofs.PathRows.{added_down, bound_down, left_more, column_ends}
