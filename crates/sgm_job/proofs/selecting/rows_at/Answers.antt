@@ -1,0 +1,65 @@
+use Rattle.std.proofs.Common.{◌≡◌, ◌<◌, ◌∙◌, ℕ, List, length, get_or, Option, Some, Result, Ok, Err, sym, ap, subst}
+use Rattle.std.specs.Prelude.{IfOk, IfSome}
+use Rattle.std.specs.Result.{result_ok}
+use Rattle.std.proofs.lemmas.List.Elements.{All-get_or}
+use Rattle.std.proofs.lemmas.Option.{slice_get-get_or}
+use Rattle.sgm_base.specs.Values.{Values}
+use Rattle.sgm_strip.specs.Cuts.{CutParts}
+use Rattle.sgm_strip.specs.Parcels.{ParcelParts, IsComplete}
+use Rattle.sgm_strip.specs.Scenes.{SceneParts, problem_of}
+use Rattle.sgm_strip.specs.Strips.{AreStrips, IsStripOf}
+use Rattle.sgm_select.specs.Selection.{disparities_of}
+use Rattle.sgm_select.specs.Strips.{rows_of_strip}
+use Rattle.sgm_job.proofs.selecting.rows_at.Goals as goal
+
+strip_at : (scene : SceneParts) (cut : CutParts) (parcels : List ParcelParts) (strip : ℕ) (parcel : ParcelParts) → AreStrips scene cut parcels → strip < length parcels
+    → parcel ≡ get_or parcels strip parcel → IsStripOf scene cut strip parcel
+strip_at scene cut parcels strip parcel are inside is =
+    are.each strip parcel (slice_get-get_or parcels strip parcel inside ∙ ap (λ (p : ParcelParts). Some p) (sym is))
+
+same_rows : (scene : SceneParts) (cut : CutParts) (left right : Values) (strip : ℕ) (parcel : ParcelParts) → IsStripOf scene cut strip parcel
+    → rows_of_strip (disparities_of (problem_of parcel.scene) left right parcel.scene.span.first) parcel.cut parcel.strip ≡ rows_of_strip (disparities_of (problem_of scene) left right scene.span.first) cut strip
+same_rows scene cut left right strip parcel is =
+    ap (λ (s : SceneParts). rows_of_strip (disparities_of (problem_of s) left right s.span.first) parcel.cut parcel.strip) is.same_scene
+    ∙ ap (λ (k : CutParts). rows_of_strip (disparities_of (problem_of scene) left right scene.span.first) k parcel.strip) is.same_cut
+    ∙ ap (λ n. rows_of_strip (disparities_of (problem_of scene) left right scene.span.first) cut n) is.same_strip
+
+if_ok_some : {V E : Type 0} {P Q : V → Type 0} (r : Result V E) → ((v : V) → P v → Q v) → IfOk r P → IfSome (result_ok r) Q
+if_ok_some (Ok v) f h = f v h
+if_ok_some (Err e) f h = tt
+
+pub select_strip-requires-clause-left_width : goal.select_strip-requires-clause-left_width
+select_strip-requires-clause-left_width c =
+    let can = c.requires.can_select in
+    can.left_width ∙ sym (ap (λ (s : SceneParts). s.left.width) (strip_at can.scene can.complete.cut c.args.parcels.now c.args.strip c.index-parcels-strip.result can.complete.strips c.requires.strip c.index-parcels-strip.is).same_scene)
+
+pub select_strip-requires-clause-left_height : goal.select_strip-requires-clause-left_height
+select_strip-requires-clause-left_height c =
+    let can = c.requires.can_select in
+    can.left_height ∙ sym (ap (λ (s : SceneParts). s.left.height) (strip_at can.scene can.complete.cut c.args.parcels.now c.args.strip c.index-parcels-strip.result can.complete.strips c.requires.strip c.index-parcels-strip.is).same_scene)
+
+pub select_strip-requires-clause-right_width : goal.select_strip-requires-clause-right_width
+select_strip-requires-clause-right_width c =
+    let can = c.requires.can_select in
+    can.right_width ∙ sym (ap (λ (s : SceneParts). s.left.width) (strip_at can.scene can.complete.cut c.args.parcels.now c.args.strip c.index-parcels-strip.result can.complete.strips c.requires.strip c.index-parcels-strip.is).same_scene)
+
+pub select_strip-requires-clause-right_height : goal.select_strip-requires-clause-right_height
+select_strip-requires-clause-right_height c =
+    let can = c.requires.can_select in
+    can.right_height ∙ sym (ap (λ (s : SceneParts). s.left.height) (strip_at can.scene can.complete.cut c.args.parcels.now c.args.strip c.index-parcels-strip.result can.complete.strips c.requires.strip c.index-parcels-strip.is).same_scene)
+
+pub select_strip-requires-clause-complete : goal.select_strip-requires-clause-complete
+select_strip-requires-clause-complete c =
+    let parcels = c.args.parcels.now in
+    let parcel = c.index-parcels-strip.result in
+    let can = c.requires.can_select in
+    subst (λ (p : ParcelParts). IsComplete p.done) (sym c.index-parcels-strip.is)
+    (All-get_or (λ (p : ParcelParts). IsComplete p.done) parcels c.args.strip parcel c.requires.strip can.complete.complete)
+
+pub returns : goal.returns
+returns c scene cut are =
+    let parcel = c.index-parcels-strip.result in
+    let is = strip_at scene cut c.args.parcels.now c.args.strip parcel are c.requires.strip c.index-parcels-strip.is in
+    let rows : List (Option ℕ) = rows_of_strip (disparities_of (problem_of scene) c.args.left.now c.args.right.now scene.span.first) cut c.args.strip in
+    subst (λ o. IfSome o (λ v. v.items ≡ rows)) (sym c.ok.ensures.value)
+    (if_ok_some c.select_strip.result (λ v e. e ∙ same_rows scene cut c.args.left.now c.args.right.now c.args.strip parcel is) c.select_strip.ensures.exact)
