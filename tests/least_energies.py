@@ -6,8 +6,8 @@
 It knows nothing of a recurrence: the least energy is the least over all sequences, and a path value is
 the least energy of the ray among the sequences that end in an index, less the least energy of the ray
 without its last pixel. Where a guide is given, the penalty of a larger change follows it. It prints
-tables, which stand in the tests of sgm_path (crate sgm_survey_tests). With --check it looks through these
-tests and tries each row that stands there.
+tables, rows of which stand in the tests of sgm_path (crate sgm_survey_tests); tests/definitions.py compares the
+definitions with them. With --check it looks through these tests and tries each row that stands there.
 """
 
 import argparse

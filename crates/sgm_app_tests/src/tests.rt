@@ -2,7 +2,7 @@ mod calls;
 mod certificates;
 mod changes;
 mod ended;
-mod fixtures;
+pub(crate) mod fixtures;
 mod outputs;
 mod pairs;
 mod recording;

@@ -1,37 +1,14 @@
-//! The words, one check after the other.
+//! The words, one check after the other. More are stored cases of `sgm_cases`.
 
-use sgm_energy::Dir;
-use sgm_refine::Refine;
-use sgm_words::{ChangeWords, Input, OperandWords, Options, Output, UsageFault, read_words};
+use crate::tests::fixtures::words_of;
+use sgm_words::{OperandWords, UsageFault, read_words};
 use std::alloc::{AllocError, Global};
-use std::process::Abort;
 use std::test::Fail;
 
-/// The words of a line, between which single spaces stand.
-fn words_of(alloc: Global, line: &str) -> Result<Vec<String>, AllocError> {
-    let mut words = Vec::new(alloc);
-    for word in line.split(' ') {
-        words.push(String::from_str(alloc, word)?)?;
-    }
-    Ok(words)
-}
-
-/// What the words of a line ask for, or their fault.
-fn read_line(alloc: Global, line: &str) -> Result<Result<Options, UsageFault>, AllocError> {
+/// The fault of the words of a line; None where they have none.
+fn fault_of(alloc: Global, line: &str) -> Result<Option<UsageFault>, AllocError> {
     let words = words_of(alloc, line)?;
-    Ok(read_words(&words))
-}
-
-/// That the words of each line ask for these options.
-fn assert_options(
-    rt: &impl Abort,
-    alloc: Global,
-    lines: &[(&str, Options)],
-) -> Result<(), AllocError> {
-    for (line, options) in lines {
-        assert!(rt; read_line(alloc, line)? == Ok(*options), "{line}");
-    }
-    Ok(())
+    Ok(read_words(&words).err())
 }
 
 #[test]
@@ -54,128 +31,22 @@ fn each_fault_is_the_first_that_stands(rt: HostRuntime) -> Result<(), Fail> {
             UsageFault::BadOption { position: 5 },
         ),
         (
-            "match a b - o peak=16777217",
-            UsageFault::BadOption { position: 5 },
-        ),
-        ("demo 7 fill=2", UsageFault::BadOption { position: 2 }),
-        (
-            "trace a b - right 2 1 1 strips=1",
-            UsageFault::BadOption { position: 8 },
-        ),
-        (
-            "match a b - o peak=0 strips=2 peak=0",
-            UsageFault::RepeatedOption { position: 7 },
+            "match a b - o strips=2 strips=2",
+            UsageFault::RepeatedOption { position: 6 },
         ),
         (
             "match o.pgm b - o",
             UsageFault::OutputIsInput { position: 1 },
         ),
-        (
-            "change a o.csv o",
-            UsageFault::OutputIsInput { position: 2 },
-        ),
     ] {
-        assert!(rt; read_line(alloc, line)? == Err(*fault), "{line}");
+        assert!(rt; fault_of(alloc, line)? == Some(*fault));
     }
     Ok(())
 }
 
 #[test]
-fn options_stand_in_any_order(rt: HostRuntime) -> Result<(), Fail> {
-    let lines = &[
-        (
-            "match a b - o fill=01 workers=16 peak=16777216 strips=064",
-            Options::Match {
-                strips: 64,
-                workers: 16,
-                refine: Refine {
-                    peak: 16_777_216,
-                    fill: true,
-                },
-            },
-        ),
-        (
-            "demo 007 strips=2",
-            Options::Demo {
-                number: 7,
-                strips: 2,
-                workers: 1,
-                refine: Refine {
-                    peak: 0,
-                    fill: false,
-                },
-            },
-        ),
-    ];
-    assert_options(&rt, rt.alloc(), lines)?;
-    Ok(())
-}
-
-#[test]
-fn trace_and_change_have_no_options(rt: HostRuntime) -> Result<(), Fail> {
-    let lines = &[
-        (
-            "trace a b - upleft 2 1 0",
-            Options::Trace {
-                dir: Dir::UpLeft,
-                x: 2,
-                y: 1,
-                d: 0,
-            },
-        ),
-        ("change a b o", Options::Change),
-    ];
-    assert_options(&rt, rt.alloc(), lines)?;
-    Ok(())
-}
-
-/// Whether these are the operands.
-fn are_operands(
-    operands: &OperandWords<'_>,
-    left: &str,
-    right: &str,
-    calib: &str,
-    out: &str,
-) -> bool {
-    operands.left() == left
-        && operands.right() == right
-        && operands.calib() == calib
-        && operands.out() == out
-        && !operands.is_plain()
-}
-
-fn are_of_match(words: &[String]) -> bool {
-    words.len() > 4 && are_operands(&OperandWords::of(words), "l", "r", "c", "o")
-}
-
-fn are_of_change(words: &[String]) -> bool {
-    if words.len() <= 3 {
-        return false;
-    }
-    let change = ChangeWords::of(words);
-    change.earlier() == "l" && change.later() == "r" && change.out() == "c"
-}
-
-#[test]
-fn operands_have_names(rt: HostRuntime) -> Result<(), Fail> {
-    let words = words_of(rt.alloc(), "match l r c o")?;
-    assert!(rt; are_of_match(&words));
-    assert!(rt; are_of_change(&words));
-    Ok(())
-}
-
-#[test]
-fn inputs_and_outputs_have_names(rt: HostRuntime) -> Result<(), Fail> {
-    let name = Output::Heights.file_name(rt.alloc(), "o")?;
-    assert!(rt; name.as_str() == "o.asc");
-    assert!(rt; Input::Right.word() == "right");
-    assert!(rt; Output::Difference.word() == "difference");
-    Ok(())
-}
-
-#[test]
-fn operands_by_name_have_each_name_in_its_place(rt: HostRuntime) -> Result<(), Fail> {
+fn operands_by_name_have_each_name_in_its_place(rt: HostRuntime) {
     let operands = OperandWords::named("west", "east", "survey", "mine");
-    assert!(rt; are_operands(&operands, "west", "east", "survey", "mine"));
-    Ok(())
+    assert!(rt; operands.left() == "west" && operands.right() == "east");
+    assert!(rt; operands.calib() == "survey" && operands.out() == "mine");
 }

@@ -1,7 +1,9 @@
+//! Codes and costs of small planes. Stored cases of `sgm_cases` have windows of all sides, and disparities beyond the row.
+
 ghost use Rattle.std.specs.Prelude.{◌≡◌, ◌*◌, ◌<◌, ◌≤◌, length, IsTrue};
 
 use sgm_base::{Plane, Size, Span};
-use sgm_census::{CodePlane, Window, codes, cost_at, cost_row};
+use sgm_census::{CodePlane, Window, codes, cost_row};
 use std::alloc::Global;
 use std::test::Fail;
 
@@ -89,15 +91,6 @@ fn windows_have_these_sides_alone(rt: HostRuntime) {
     }
 }
 
-#[test]
-fn greatest_costs(rt: HostRuntime) -> Result<(), Fail> {
-    for (width, height, want) in &[(3, 3, 8), (9, 7, 62), (9, 3, 26), (3, 7, 20)] {
-        let window = Window::make(*width, *height).ok_or("window")?;
-        assert!(rt; window.greatest() == *want);
-    }
-    Ok(())
-}
-
 /// Whether the codes in the row 1 of two planes, with a window as large as they are, differ in so many places.
 fn planes_differ_by(
     alloc: Global,
@@ -146,46 +139,7 @@ fn costs_of_a_pair(rt: HostRuntime) -> Result<(), Fail> {
         (1, [8, 8, 6, 8, 6, 0, 6, 0, 8, 8]),
         (2, [8, 8, 8, 8, 8, 8, 8, 8, 8, 8]),
     ] {
-        assert!(rt; pair_has_costs(rt.alloc(), 0, *y, want)?, "row {y}");
-    }
-    Ok(())
-}
-
-/// The cost of one place of the pair, with two disparities from `first` on; None where it is none.
-fn cost_of(
-    left: &CodePlane,
-    right: &CodePlane,
-    first: i32,
-    (x, y, d): (u32, u32, u32),
-) -> Option<u8> {
-    let span = Span::make(first, 2)?;
-    if are_alike(left, right, y) && x < left.size().width && d < span.count {
-        Some(cost_at(left, right, span, x, y, d))
-    } else {
-        None
-    }
-}
-
-/// [`cost_of`] of the pair.
-fn pair_cost(alloc: Global, first: i32, place: (u32, u32, u32)) -> Result<Option<u8>, Fail> {
-    let (left, right) = pair(alloc)?;
-    Ok(cost_of(&left, &right, first, place))
-}
-
-#[test]
-fn costs_of_single_places(rt: HostRuntime) -> Result<(), Fail> {
-    for (first, place, want) in &[
-        (0, (1, 1, 0), Some(6)),
-        (0, (1, 1, 1), Some(8)),
-        (0, (2, 1, 0), Some(6)),
-        (0, (2, 1, 1), Some(0)),
-        (0, (3, 1, 1), Some(0)),
-        (0, (2, 0, 1), Some(8)),
-        (1, (3, 1, 1), Some(6)),
-        (-1, (4, 1, 0), Some(8)),
-        (0, (5, 1, 0), None),
-    ] {
-        assert!(rt; pair_cost(rt.alloc(), *first, *place)? == *want);
+        assert!(rt; pair_has_costs(rt.alloc(), 0, *y, want)?);
     }
     Ok(())
 }
@@ -195,19 +149,6 @@ fn costs_of_negative_disparities(rt: HostRuntime) -> Result<(), Fail> {
     // The same pair the other way round, with the disparities -1 and 0.
     let (right, left) = pair(rt.alloc())?;
     assert!(rt; have_costs(&left, &right, (-1, 2), 1, &[8, 8, 0, 6, 0, 6, 8, 6, 8, 8]));
-    Ok(())
-}
-
-#[test]
-fn columns_beyond_the_row_cost_the_most(rt: HostRuntime) -> Result<(), Fail> {
-    for first in &[-1024, -6, -5, 4, 5, 1024] {
-        assert!(rt;
-            pair_has_costs(rt.alloc(), *first, 1, &[8; 10])?,
-            "first {first}"
-        );
-    }
-    // Only x = 3 and q = 1 have codes and lie two columns apart: six neighbours of the latter are less.
-    assert!(rt; pair_has_costs(rt.alloc(), 2, 1, &[8, 8, 8, 8, 8, 8, 6, 8, 8, 8])?);
     Ok(())
 }
 
@@ -229,40 +170,5 @@ fn void_pixels_have_no_code(rt: HostRuntime) -> Result<(), Fail> {
     entries[0] = Some(7);
     entries[7] = None;
     assert!(rt; voids_give(rt.alloc(), &entries, &[8; 5])?);
-    Ok(())
-}
-
-/// Whether no pixel of a plane of five columns and three rows has a code with this window, so that each costs the
-/// most.
-fn has_no_code(alloc: Global, window: (u32, u32), most: u8) -> Result<bool, Fail> {
-    let plane = codes_of(alloc, (5, 3), &[7; 15], window)?;
-    let want = [most; 5];
-    Ok(
-        differ_by(&plane, &plane, 0, &want)
-            && differ_by(&plane, &plane, 1, &want)
-            && differ_by(&plane, &plane, 2, &want),
-    )
-}
-
-#[test]
-fn a_window_larger_than_the_image(rt: HostRuntime) -> Result<(), Fail> {
-    for (window, most) in &[((7, 3), 20), ((3, 5), 14), ((9, 7), 62)] {
-        assert!(rt; has_no_code(rt.alloc(), *window, *most)?);
-    }
-    Ok(())
-}
-
-#[test]
-fn a_window_wider_than_high(rt: HostRuntime) -> Result<(), Fail> {
-    // Only the middle pixel has a code of fourteen truth values, 10001 01 10 00100; its centre is 5.
-    let values = [1, 9, 9, 9, 1, 9, 1, 5, 1, 9, 5, 5, 1, 5, 5];
-    for (others, want) in &[
-        ([0, 7, 7, 7, 0, 7, 0, 7, 0, 7, 7, 7, 0, 7, 7], 0),
-        ([7; 15], 5),
-        ([5, 1, 1, 1, 5, 1, 5, 3, 5, 1, 1, 1, 5, 1, 1], 14),
-    ] {
-        let want = [14, 14, *want, 14, 14];
-        assert!(rt; planes_differ_by(rt.alloc(), (5, 3), &values, others, &want)?);
-    }
     Ok(())
 }

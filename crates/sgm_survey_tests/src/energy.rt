@@ -10,11 +10,7 @@ fn penalties_in_range(rt: HostRuntime) {
         (3, 2, false),
         (1, 4001, false),
     ] {
-        let pen = Pen::make(*p1, *p2);
-        assert!(rt; pen.is_some() == *within, "at {p1}, {p2}");
-        if let Some(pen) = pen {
-            assert!(rt; (pen.p1(), pen.p2()) == (*p1, *p2));
-        }
+        assert!(rt; Pen::make(*p1, *p2).is_some() == *within);
     }
 }
 

@@ -1,4 +1,4 @@
-//! Filling: the worked rows, and pixels with values all around.
+//! Filling: the worked rows. More are stored runs of `sgm_cases`.
 
 ghost use Rattle.std.specs.Prelude.{◌≡◌, ◌||◌, ◌==◌, IfOk, unwrap_or};
 ghost use Rattle.std.specs.List.{list_all};
@@ -99,38 +99,5 @@ fn one_value(rt: HostRuntime) -> Result<(), Fail> {
     assert!(rt; fills(alloc, 3, 1, &none, &none, &THERE, &none)?);
     let void = [Some(5), None, Some(5)];
     assert!(rt; fills(alloc, 3, 1, &GAP, &none, &void, &GAP)?);
-    Ok(())
-}
-
-/// The value that the pixel of this number gets in the map of 5 x 5 pixels with these entries.
-fn value_at(
-    alloc: Global,
-    entries: &[Option<u16>; 25],
-    matched: &[Option<u16>; 25],
-    at: usize,
-) -> Result<Option<u16>, Fail> {
-    let made = filled(alloc, 5, 5, entries, matched, &[Some(5); 25])?;
-    Ok(made.get(at).copied().ok_or("pixel")?)
-}
-
-#[test]
-fn all_around(rt: HostRuntime) -> Result<(), Fail> {
-    let alloc = rt.alloc();
-    let mut entries = [None; 25];
-    // The middle of 5 x 5 pixels meets 8 values, each in another distance.
-    entries[10] = Some(80);
-    entries[13] = Some(10);
-    entries[2] = Some(70);
-    entries[17] = Some(20);
-    entries[0] = Some(60);
-    entries[8] = Some(30);
-    entries[16] = Some(50);
-    entries[24] = Some(40);
-    let mut matched = [None; 25];
-    assert!(rt; value_at(alloc, &entries, &matched, 12)? == Some(20));
-    // The one of 3 that is in the middle of the last row's end.
-    assert!(rt; value_at(alloc, &entries, &matched, 4)? == Some(40));
-    matched[11] = Some(16);
-    assert!(rt; value_at(alloc, &entries, &matched, 12)? == Some(40));
     Ok(())
 }

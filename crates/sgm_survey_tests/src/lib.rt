@@ -12,8 +12,6 @@ mod calib;
 #[cfg(test)]
 mod census;
 #[cfg(test)]
-mod change;
-#[cfg(test)]
 mod check;
 #[cfg(test)]
 mod energy;

@@ -1,5 +1,6 @@
-// The tables are printed by tests/least_energies.py at the top of the repository, which tries every
-// sequence along whole rays.
+//! Path values of worked rows. The table is printed by tests/least_energies.py at the top of the repository, which tries
+//! every sequence along whole rays; certificates of rays in all directions are stored cases of `sgm_cases`.
+
 ghost use Rattle.std.specs.Prelude.{◌≡◌, ◌+◌, ◌/◌, ◌%◌, ◌^◌, ◌<◌, ◌≤◌, length, All, IfSome, IsTrue, false};
 ghost use Rattle.sgm_energy.specs.Dirs.{is_level};
 
@@ -15,7 +16,7 @@ type Row = (
     &'static [u16],
 );
 
-const ROWS: [Row; 10] = [
+const ROWS: [Row; 4] = [
     (
         (1, 3),
         2,
@@ -23,43 +24,13 @@ const ROWS: [Row; 10] = [
         &[0, 5, 5, 1, 1, 5],
         &[1, 5, 5, 1, 0, 5],
     ),
-    (
-        (1, 6),
-        3,
-        &[0, 9, 9, 9, 9, 0],
-        &[0, 9, 9, 9, 10, 6],
-        &[6, 10, 9, 9, 9, 0],
-    ),
-    (
-        (1, 2),
-        3,
-        &[0, 9, 9, 9, 9, 0],
-        &[0, 9, 9, 9, 10, 2],
-        &[2, 10, 9, 9, 9, 0],
-    ),
-    ((7, 9), 1, &[4], &[4], &[4]),
     ((7, 9), 1, &[4, 62, 0], &[4, 62, 0], &[4, 62, 0]),
-    ((3, 5), 3, &[2, 7, 1], &[2, 7, 1], &[2, 7, 1]),
-    (
-        (2, 2),
-        2,
-        &[8, 3, 1, 6, 4, 4, 9, 0],
-        &[8, 3, 3, 6, 4, 6, 9, 2],
-        &[8, 5, 3, 6, 6, 4, 9, 0],
-    ),
     (
         (1, 4),
         3,
         &[3, 0, 8, 7, 7, 2, 0, 5, 5, 6, 1, 9],
         &[3, 0, 8, 8, 7, 3, 4, 6, 5, 6, 2, 10],
         &[4, 1, 8, 7, 8, 6, 1, 5, 6, 6, 1, 9],
-    ),
-    (
-        (5, 40),
-        3,
-        &[10, 30, 62, 62, 3, 20, 41, 0, 17],
-        &[10, 30, 62, 62, 8, 45, 46, 0, 22],
-        &[15, 30, 67, 67, 3, 25, 41, 0, 17],
     ),
     (
         (4000, 4000),
@@ -127,14 +98,6 @@ fn are_sums(sums: &[u16], first: &[u16], second: &[u16]) -> bool {
     true
 }
 
-#[test]
-fn three_pixels_to_the_right(rt: HostRuntime) {
-    // the costs are (0, 5), (5, 0), (0, 5)
-    let pen = Pen::make(1, 3).expect(&rt, "in range");
-    let costs = [0, 5, 5, 0, 0, 5];
-    assert!(rt; runs_to(Dir::Right, pen, &costs, &[None; 3], 2, &[0, 5, 5, 1, 1, 5]));
-}
-
 /// Whether a row of at most 12 values is as wanted, to the right, to the left, and both together.
 fn is_as_wanted(pen: Pen, count: usize, costs: &[u8], right: &[u16], left: &[u16]) -> bool
     requires room { length costs.now ≤ 12 }
@@ -166,146 +129,6 @@ fn is_right(row: &Row) -> bool {
 fn level_rows_have_least_energies(rt: HostRuntime) {
     for row in &ROWS {
         assert!(rt; is_right(row));
-    }
-}
-
-const IMAGE: [[u8; 6]; 3] = [[0, 6, 9, 2, 4, 4], [7, 1, 3, 3, 0, 8], [5, 0, 2, 9, 6, 1]];
-
-/// A fixed pen doesn't look at it.
-const GREY: [Option<u8>; 3] = [Some(0), None, Some(200)];
-
-const VALUES: [(Dir, [[u16; 6]; 3]); 6] = [
-    (
-        Dir::Down,
-        [[0, 6, 9, 2, 4, 4], [7, 3, 5, 3, 0, 8], [7, 0, 4, 9, 6, 3]],
-    ),
-    (
-        Dir::DownRight,
-        [[0, 6, 9, 2, 4, 4], [7, 1, 3, 5, 2, 8], [5, 0, 4, 9, 6, 3]],
-    ),
-    (
-        Dir::DownLeft,
-        [[0, 6, 9, 2, 4, 4], [9, 1, 3, 3, 0, 8], [5, 0, 2, 11, 6, 1]],
-    ),
-    (
-        Dir::Up,
-        [[2, 6, 9, 4, 4, 6], [9, 1, 3, 5, 2, 8], [5, 0, 2, 9, 6, 1]],
-    ),
-    (
-        Dir::UpRight,
-        [[0, 6, 11, 2, 6, 4], [7, 1, 5, 3, 0, 10], [5, 0, 2, 9, 6, 1]],
-    ),
-    (
-        Dir::UpLeft,
-        [[2, 6, 9, 4, 4, 4], [7, 3, 5, 3, 0, 8], [5, 0, 2, 9, 6, 1]],
-    ),
-];
-
-/// The path values of a row of the image, the first that the direction comes to.
-fn first_row(dir: Dir, pen: Pen, costs: &[u8; 6]) -> [u16; 6]
-    requires across { is_level dir ≡ false }
-    requires costs { All (λ c. c ≤ MAX_COST) costs.now }
-    ensures len { length result ≡ 6 }
-    ensures bound { All (λ v. v ≤ MAX_PATH_VALUE) result }
-{
-    let mut values = [0; 6];
-    step_row(dir, pen, costs, None, &GREY, &[], 2, &mut values);
-    values
-}
-
-/// The path values of a row of the image that comes after a row with these values.
-fn next_row(dir: Dir, pen: Pen, costs: &[u8; 6], before: &[u16; 6]) -> [u16; 6]
-    requires across { is_level dir ≡ false }
-    requires costs { All (λ c. c ≤ MAX_COST) costs.now }
-    requires values { All (λ v. v ≤ MAX_PATH_VALUE) before.now }
-    ensures len { length result ≡ 6 }
-    ensures bound { All (λ v. v ≤ MAX_PATH_VALUE) result }
-{
-    let mut values = [0; 6];
-    step_row(dir, pen, costs, Some(before), &GREY, &GREY, 2, &mut values);
-    values
-}
-
-/// Whether a step into the first row that adds writes these values, and adds just them.
-fn adds_first_row(dir: Dir, pen: Pen, costs: &[u8; 6], values: &[u16; 6]) -> bool
-    requires across { is_level dir ≡ false }
-    requires costs { All (λ c. c ≤ MAX_COST) costs.now }
-{
-    let (mut again, mut sums) = ([7; 6], [30000; 6]);
-    add_step_row(dir, pen, costs, None, &GREY, &[], 2, &mut again, &mut sums);
-    again == *values && are_sums(&sums, &[30000; 6], values)
-}
-
-/// Whether a step into a next row that adds writes these values, and adds just them.
-fn adds_next_row(dir: Dir, pen: Pen, costs: &[u8; 6], before: &[u16; 6], values: &[u16; 6]) -> bool
-    requires across { is_level dir ≡ false }
-    requires costs { All (λ c. c ≤ MAX_COST) costs.now }
-    requires before { All (λ v. v ≤ MAX_PATH_VALUE) before.now }
-{
-    let (mut again, mut sums) = ([7; 6], [100; 6]);
-    let before = Some(&before[..]);
-    add_step_row(
-        dir, pen, costs, before, &GREY, &GREY, 2, &mut again, &mut sums,
-    );
-    again == *values && are_sums(&sums, &[100; 6], values)
-}
-
-/// Whether three rows of costs have these path values one after the other, the first and the last also where
-/// they are added.
-fn follow(
-    dir: Dir,
-    pen: Pen,
-    begin: &[u8; 6],
-    middle: &[u8; 6],
-    end: &[u8; 6],
-    want: &[[u16; 6]; 3],
-) -> bool
-    requires across { is_level dir ≡ false }
-    requires begin { All (λ c. c ≤ MAX_COST) begin.now }
-    requires middle { All (λ c. c ≤ MAX_COST) middle.now }
-    requires end { All (λ c. c ≤ MAX_COST) end.now }
-{
-    let first = first_row(dir, pen, begin);
-    let second = next_row(dir, pen, middle, &first);
-    let third = next_row(dir, pen, end, &second);
-    [first, second, third] == *want
-        && adds_first_row(dir, pen, begin, &first)
-        && adds_next_row(dir, pen, end, &second, &third)
-}
-
-/// Whether the image's rows have these path values, the upper ones first.
-fn go_down(dir: Dir, pen: Pen, want: &[[u16; 6]; 3]) -> bool
-    requires across { is_level dir ≡ false }
-{
-    let [top, middle, bottom] = IMAGE;
-    follow(dir, pen, &top, &middle, &bottom, want)
-}
-
-/// Whether the image's rows have these path values, the lower ones first.
-fn go_up(dir: Dir, pen: Pen, want: &[[u16; 6]; 3]) -> bool
-    requires across { is_level dir ≡ false }
-{
-    let [top, middle, bottom] = IMAGE;
-    let [above, between, below] = *want;
-    follow(dir, pen, &bottom, &middle, &top, &[below, between, above])
-}
-
-/// Whether the image's rows have these path values, the upper ones first.
-fn has_values(dir: Dir, pen: Pen, want: &[[u16; 6]; 3]) -> bool
-    requires across { is_level dir ≡ false }
-{
-    match dir {
-        Dir::Up | Dir::UpRight | Dir::UpLeft => go_up(dir, pen, want),
-        _ => go_down(dir, pen, want),
-    }
-}
-
-#[test]
-fn rows_of_an_image_have_least_energies(rt: HostRuntime) {
-    let pen = Pen::make(2, 5).expect(&rt, "in range");
-    for (dir, want) in &VALUES {
-        assert!(rt; !dir.is_level());
-        assert!(rt; has_values(*dir, pen, want));
     }
 }
 

@@ -1,120 +1,64 @@
-//! A run makes exactly the calls that it needs, one after the other.
+//! A run makes exactly the calls on its shelf that it needs, one after the other, which no clause can say.
 
-use super::ended::run_line;
-use super::fixtures::example;
-use super::recording::{RecordingShelf, sink_of};
-use super::trips::{Call, trips_of};
-use sgm_io::{MemoryShelf, Shelf};
+use super::fixtures::{example, words_of};
+use super::recording::RecordingShelf;
+use sgm_app::run;
+use sgm_io::{MemoryShelf, MemorySink, Shelf, Trip};
 use sgm_work::OpenGate;
 use std::alloc::{AllocError, Global};
 use std::cell::RefCell;
-use std::process::Abort;
 use std::test::Fail;
 use std::thread::Threads;
 
-/// A shelf of the worked example whose calls of these names fail, and which records its calls.
-fn shelf_of<'a>(
-    alloc: Global,
-    trips: &[(&str, Call)],
-    calls: &'a RefCell<String>,
-) -> Result<RecordingShelf<'a, MemoryShelf>, AllocError> {
-    let trips = trips_of(alloc, trips)?;
-    let shelf = MemoryShelf::make(alloc, example(alloc)?, trips)?;
-    Ok(RecordingShelf { shelf, calls })
-}
-
-/// Runs a line over a shelf and notes the calls of both streams, of which `out` fails at this length.
-fn note_streams<R: Threads + Sync, S: Shelf>(
+/// Runs a match of the worked example over a shelf.
+fn run_over<R: Threads + Sync, S: Shelf>(
     rt: &R,
     alloc: Global,
-    line: &str,
     shelf: &mut S,
-    stop: Option<usize>,
-    calls: &RefCell<String>,
 ) -> Result<(), AllocError> {
-    let mut out = sink_of(alloc, "out ", stop, calls)?;
-    let mut err = sink_of(alloc, "err ", None, calls)?;
-    run_line(rt, alloc, line, shelf, &mut out, &mut err, &OpenGate)?;
+    let words = words_of(alloc, "match l.pgm r.pgm c.json o")?;
+    let mut out = MemorySink::make(alloc, 4096, None)?;
+    let mut err = MemorySink::make(alloc, 4096, None)?;
+    run(rt, alloc, &words, shelf, &mut out, &mut err, &OpenGate);
     Ok(())
 }
 
-/// Runs a line over the worked example and notes the calls. This call of a name fails, and `out` fails at this length.
+/// Notes the calls that this match makes over a shelf with these trips.
 fn note_calls<R: Threads + Sync>(
     rt: &R,
     alloc: Global,
-    line: &str,
-    trips: &[(&str, Call)],
-    stop: Option<usize>,
+    trips: Vec<Trip>,
     calls: &RefCell<String>,
 ) -> Result<(), AllocError> {
-    let mut shelf = shelf_of(alloc, trips, calls)?;
-    note_streams(rt, alloc, line, &mut shelf, stop, calls)
+    let shelf = MemoryShelf::make(alloc, example(alloc)?, trips)?;
+    run_over(rt, alloc, &mut RecordingShelf { shelf, calls })
 }
 
-/// That these calls were made.
-fn assert_made(
-    rt: &impl Abort,
-    calls: &RefCell<String>,
-    wanted: &str,
-    line: &str,
-) -> Result<(), Fail> {
-    let Ok(made) = calls.try_borrow() else {
-        return Err(Fail::new("the calls are lent"));
-    };
-    assert!(rt; made.as_str() == wanted, "{line}");
-    Ok(())
-}
-
-/// That a run of this line over the worked example makes these calls, where this call of a name fails and `out`
-/// fails at this length.
-fn assert_calls<R: Abort + Threads + Sync>(
+/// Whether this match makes these calls over a shelf with these trips.
+fn makes<R: Threads + Sync>(
     rt: &R,
     alloc: Global,
-    line: &str,
-    trips: &[(&str, Call)],
-    stop: Option<usize>,
+    trips: Vec<Trip>,
     wanted: &str,
-) -> Result<(), Fail> {
+) -> Result<bool, Fail> {
     let calls = RefCell::new(String::new(alloc));
-    note_calls(rt, alloc, line, trips, stop, &calls)?;
-    assert_made(rt, &calls, wanted, line)
+    note_calls(rt, alloc, trips, &calls)?;
+    Ok(calls.into_inner().as_str() == wanted)
 }
 
 #[test]
 fn a_run_that_is_done_makes_each_call_once(rt: HostRuntime) -> Result<(), Fail> {
     let calls =
-        "fetch l.pgm;fetch r.pgm;fetch c.json;create o.pgm;append 43;finish;create o.asc;append 176;finish;create o.csv;append 92;finish;out 15;";
-    let line = "match l.pgm r.pgm c.json o";
-    assert_calls(&rt, rt.alloc(), line, &[], None, calls)
-}
-
-#[test]
-fn words_and_inputs_that_are_refused_touch_no_output(rt: HostRuntime) -> Result<(), Fail> {
-    let alloc = rt.alloc();
-    assert_calls(&rt, alloc, "match", &[], None, "err 41;")?;
-    let line = "match l.pgm r.pgm l.pgm o";
-    let calls = "fetch l.pgm;fetch r.pgm;fetch l.pgm;err 27;";
-    assert_calls(&rt, alloc, line, &[], None, calls)
+        "fetch l.pgm;fetch r.pgm;fetch c.json;create o.pgm;append 43;finish;create o.asc;append 176;finish;create o.csv;append 92;finish;";
+    assert!(rt; makes(&rt, rt.alloc(), Vec::new(rt.alloc()), calls)?);
+    Ok(())
 }
 
 #[test]
 fn the_first_failed_call_ends_the_run(rt: HostRuntime) -> Result<(), Fail> {
-    let alloc = rt.alloc();
-    let line = "match l.pgm r.pgm c.json o";
-    let right = [("r.pgm", Call::Fetch)];
-    let calls = "fetch l.pgm;fetch r.pgm;err 23;";
-    assert_calls(&rt, alloc, line, &right, None, calls)
-}
-
-#[test]
-fn a_failed_write_is_the_last_call_but_the_line(rt: HostRuntime) -> Result<(), Fail> {
-    let alloc = rt.alloc();
-    let line = "match l.pgm r.pgm c.json o";
-    let grid = [("o.asc", Call::AppendAt(47))];
-    let calls =
-        "fetch l.pgm;fetch r.pgm;fetch c.json;create o.pgm;append 43;finish;create o.asc;append 176;append 129;err 26;";
-    assert_calls(&rt, alloc, line, &grid, None, calls)?;
-    let calls =
-        "fetch l.pgm;fetch r.pgm;fetch c.json;create o.pgm;append 43;finish;create o.asc;append 176;finish;create o.csv;append 92;finish;out 15;out 9;err 26;";
-    assert_calls(&rt, alloc, line, &[], Some(6), calls)
+    let mut trips = Vec::new(rt.alloc());
+    let name = String::from_str(rt.alloc(), "r.pgm")?;
+    trips.push(Trip::Fetch { name })?;
+    assert!(rt; makes(&rt, rt.alloc(), trips, "fetch l.pgm;fetch r.pgm;")?);
+    Ok(())
 }

@@ -1,11 +1,8 @@
-//! What a change writes, and how it ends else.
+//! What a change writes, and how it ends else. More are stored cases of `sgm_cases`.
 
-use super::ended::{End, assert_end, assert_end_on, assert_refused};
+use super::ended::{End, ends, refused};
 use super::fixtures::{HEIGHTS, add};
-use super::trips::{Call, trips_of};
-use sgm_io::MemoryShelf;
 use std::alloc::{AllocError, Global};
-use std::process::Abort;
 use std::test::Fail;
 use std::thread::Threads;
 
@@ -34,76 +31,43 @@ fn grids(
     Ok(files)
 }
 
-/// That the run of a line over two grids ends with this status and this line, and writes nothing.
-fn assert_no_change<R: Abort + Threads + Sync>(
+/// Whether a change between two grids ends so.
+fn change_ends<R: Threads + Sync>(
     rt: &R,
     alloc: Global,
     earlier: &[u8],
     later: &[u8],
-    line: &str,
-    status: u8,
-    err: &str,
-) -> Result<(), Fail> {
+    end: End,
+) -> Result<bool, Fail> {
     let files = grids(alloc, earlier, later)?;
-    assert_refused(rt, alloc, files, line, status, err)
+    ends(rt, alloc, files, "change e.asc l.asc o", end)
 }
 
 #[test]
 fn a_change_writes_the_difference_and_the_volumes(rt: HostRuntime) -> Result<(), Fail> {
-    let alloc = rt.alloc();
     let end = End {
         status: 0,
         out: b"compared 8 of 12\n",
         err: b"",
         outputs: [None, Some(DIFFERENCE), Some(VOLUMES)],
     };
-    assert_end(
-        &rt,
-        alloc,
-        grids(alloc, HEIGHTS, LATER)?,
-        "change e.asc l.asc o",
-        end,
-    )
+    assert!(rt; change_ends(&rt, rt.alloc(), HEIGHTS, LATER, end)?);
+    Ok(())
 }
 
 #[test]
 fn grids_that_do_not_read_or_suit_are_refused(rt: HostRuntime) -> Result<(), Fail> {
     let alloc = rt.alloc();
-    let line = "change e.asc l.asc o";
-    let err = "sgm: earlier: word 0 is not as expected\n";
-    assert_no_change(&rt, alloc, b"", b"", line, 3, err)?;
+    let end = refused(3, "sgm: earlier: word 0 is not as expected\n");
+    assert!(rt; change_ends(&rt, alloc, b"", b"", end)?);
 
     // Without the last value, of eleven bytes, and its line's end.
     let short = &HEIGHTS[..HEIGHTS.len() - 12];
-    let err = "sgm: later: 11 heights, 12 needed\n";
-    assert_no_change(&rt, alloc, HEIGHTS, short, line, 3, err)?;
+    let end = refused(3, "sgm: later: 11 heights, 12 needed\n");
+    assert!(rt; change_ends(&rt, alloc, HEIGHTS, short, end)?);
 
     // With cells of 2000.
-    let err = "sgm: grids differ at word 9\n";
-    assert_no_change(&rt, alloc, HEIGHTS, COARSE, line, 3, err)
-}
-
-#[test]
-fn words_and_absent_files_end_a_change(rt: HostRuntime) -> Result<(), Fail> {
-    let alloc = rt.alloc();
-    let line = "change o.asc l.asc o";
-    let err = "sgm: word 1 is also an output\n";
-    assert_no_change(&rt, alloc, HEIGHTS, LATER, line, 2, err)?;
-    let line = "change e.asc none o";
-    let err = "sgm: cannot read later\n";
-    assert_no_change(&rt, alloc, HEIGHTS, LATER, line, 4, err)
-}
-
-#[test]
-fn volumes_that_cannot_be_written_leave_the_difference_whole(rt: HostRuntime) -> Result<(), Fail> {
-    let alloc = rt.alloc();
-    let trips = trips_of(alloc, &[("o.csv", Call::AppendAt(5))])?;
-    let mut shelf = MemoryShelf::make(alloc, grids(alloc, HEIGHTS, LATER)?, trips)?;
-    let end = End {
-        status: 5,
-        out: b"",
-        err: b"sgm: cannot write volumes\n",
-        outputs: [None, Some(DIFFERENCE), Some(b"both,".as_slice())],
-    };
-    assert_end_on(&rt, alloc, "change e.asc l.asc o", &mut shelf, end)
+    let end = refused(3, "sgm: grids differ at word 9\n");
+    assert!(rt; change_ends(&rt, alloc, HEIGHTS, COARSE, end)?);
+    Ok(())
 }

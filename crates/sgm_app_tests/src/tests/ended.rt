@@ -2,66 +2,11 @@
 
 use super::fixtures::words_of;
 use sgm_app::run;
-use sgm_io::{MemoryShelf, MemorySink, Shelf, Sink, Trip};
+use sgm_io::{MemoryShelf, MemorySink, Shelf};
 use sgm_work::{Gate, OpenGate};
 use std::alloc::{AllocError, Global};
-use std::process::Abort;
 use std::test::Fail;
 use std::thread::Threads;
-
-/// How a run ended: the outcome's status, and what each sink has received.
-#[derive(Drop)]
-pub struct Ended {
-    pub status: u8,
-    pub out: MemorySink,
-    pub err: MemorySink,
-}
-
-/// The status of the run of a line over these devices.
-pub fn run_line<R: Threads + Sync, S: Shelf, O: Sink, E: Sink, G: Gate + Sync>(
-    rt: &R,
-    alloc: Global,
-    line: &str,
-    shelf: &mut S,
-    out: &mut O,
-    err: &mut E,
-    gate: &G,
-) -> Result<u8, AllocError> {
-    let words = words_of(alloc, line)?;
-    let outcome = run(rt, alloc, &words, shelf, out, err, gate);
-    Ok(outcome.status())
-}
-
-/// How the run of a line over a shelf ends, where `out` fails at the length `stop` and the workers pass the gate.
-fn end_by<R: Threads + Sync, S: Shelf, G: Gate + Sync>(
-    rt: &R,
-    alloc: Global,
-    line: &str,
-    shelf: &mut S,
-    stop: Option<usize>,
-    gate: &G,
-) -> Result<Ended, AllocError> {
-    let mut out = MemorySink::make(alloc, 4096, stop)?;
-    let mut err = MemorySink::make(alloc, 4096, None)?;
-    let status = run_line(rt, alloc, line, shelf, &mut out, &mut err, gate)?;
-    Ok(Ended { status, out, err })
-}
-
-/// How the run of a line ends over a shelf.
-pub fn end_on<R: Threads + Sync, S: Shelf>(
-    rt: &R,
-    alloc: Global,
-    line: &str,
-    shelf: &mut S,
-) -> Result<Ended, AllocError> {
-    end_by(rt, alloc, line, shelf, None, &OpenGate)
-}
-
-/// A shelf in memory without trips.
-pub fn shelf_of(alloc: Global, files: Vec<(String, Vec<u8>)>) -> Result<MemoryShelf, AllocError> {
-    let trips: Vec<Trip> = Vec::new(alloc);
-    MemoryShelf::make(alloc, files, trips)
-}
 
 /// How a run is to end: its status, what the two streams receive, and what o.pgm, o.asc and o.csv hold, where they are
 /// there.
@@ -73,33 +18,54 @@ pub struct End<'a> {
     pub outputs: [Option<&'a [u8]>; 3],
 }
 
-/// That the run ended with this status, and the sinks have received this.
-fn assert_ended(rt: &impl Abort, ended: &Ended, end: End, case: &str) {
-    assert!(rt; ended.err.taken() == end.err, "{case}");
-    assert!(rt; ended.out.taken() == end.out, "{case}");
-    assert!(rt; ended.status == end.status, "{case}");
+/// An end with this status and this line, before anything is written.
+pub fn refused(status: u8, err: &str) -> End<'_> {
+    End {
+        status,
+        out: b"",
+        err: err.as_bytes(),
+        outputs: [None; 3],
+    }
 }
 
-/// That the run of a line over a shelf ends with this status, and the sinks have received this, where `out` fails at
-/// the length `stop` and the workers pass the gate.
-fn assert_streams<R: Abort + Threads + Sync, S: Shelf, G: Gate + Sync>(
+/// A shelf in memory without trips.
+pub fn shelf_of(alloc: Global, files: Vec<(String, Vec<u8>)>) -> Result<MemoryShelf, AllocError> {
+    MemoryShelf::make(alloc, files, Vec::new(alloc))
+}
+
+/// The status of the run of a line over a shelf and two streams, whose workers pass the gate.
+pub fn run_line<R: Threads + Sync, G: Gate + Sync>(
     rt: &R,
     alloc: Global,
     line: &str,
-    shelf: &mut S,
-    stop: Option<usize>,
+    shelf: &mut MemoryShelf,
+    out: &mut MemorySink,
+    err: &mut MemorySink,
+    gate: &G,
+) -> Result<u8, AllocError> {
+    let words = words_of(alloc, line)?;
+    Ok(run(rt, alloc, &words, shelf, out, err, gate).status())
+}
+
+/// Whether the run of a line over a shelf, whose workers pass the gate, has this status, and the streams receive this.
+fn tells<R: Threads + Sync, G: Gate + Sync>(
+    rt: &R,
+    alloc: Global,
+    line: &str,
+    shelf: &mut MemoryShelf,
     gate: &G,
     end: End,
-) -> Result<(), AllocError> {
-    let ended = end_by(rt, alloc, line, shelf, stop, gate)?;
-    assert_ended(rt, &ended, end, line);
-    Ok(())
+) -> Result<bool, AllocError> {
+    let mut out = MemorySink::make(alloc, 4096, None)?;
+    let mut err = MemorySink::make(alloc, 4096, None)?;
+    let status = run_line(rt, alloc, line, shelf, &mut out, &mut err, gate)?;
+    Ok(status == end.status && out.taken() == end.out && err.taken() == end.err)
 }
 
 /// What the shelf holds under the name.
-pub fn held<S: Shelf>(
+pub fn held(
     alloc: Global,
-    shelf: &mut S,
+    shelf: &mut MemoryShelf,
     name: &str,
 ) -> Result<Option<Vec<u8>>, AllocError> {
     let mut bytes = Vec::new(alloc);
@@ -109,85 +75,40 @@ pub fn held<S: Shelf>(
     }
 }
 
-/// That the name holds this, or is absent.
-pub fn assert_holds<S: Shelf>(
-    rt: &impl Abort,
-    alloc: Global,
-    shelf: &mut S,
-    name: &str,
-    wanted: Option<&[u8]>,
-    case: &str,
-) -> Result<(), Fail> {
-    let found = held(alloc, shelf, name)?;
-    assert!(rt; found.as_deref() == wanted, "{case}: {name}");
-    Ok(())
+/// Whether the name holds this, or is absent.
+fn holds(shelf: &mut MemoryShelf, alloc: Global, name: &str, wanted: Option<&[u8]>) -> bool {
+    match held(alloc, shelf, name) {
+        Ok(found) => found.as_deref() == wanted,
+        Err(_) => false,
+    }
 }
 
-/// That o.pgm, o.asc and o.csv hold this, or are absent.
-pub fn assert_held<S: Shelf>(
-    rt: &impl Abort,
-    alloc: Global,
-    shelf: &mut S,
-    outputs: [Option<&[u8]>; 3],
-    case: &str,
-) -> Result<(), Fail> {
-    let [disparities, heights, report] = outputs;
-    assert_holds(rt, alloc, shelf, "o.pgm", disparities, case)?;
-    assert_holds(rt, alloc, shelf, "o.asc", heights, case)?;
-    assert_holds(rt, alloc, shelf, "o.csv", report, case)
-}
-
-/// That the run of a line over a shelf ends so, where `out` fails at the length `stop` and the workers pass the gate.
-pub fn assert_end_by<R: Abort + Threads + Sync, S: Shelf, G: Gate + Sync>(
+/// Whether the run of a line over a shelf, whose workers pass the gate, ends so.
+pub fn ends_by<R: Threads + Sync, G: Gate + Sync>(
     rt: &R,
     alloc: Global,
     line: &str,
-    shelf: &mut S,
-    stop: Option<usize>,
+    shelf: &mut MemoryShelf,
     gate: &G,
     end: End,
-) -> Result<(), Fail> {
-    assert_streams(rt, alloc, line, shelf, stop, gate, end)?;
-    assert_held(rt, alloc, shelf, end.outputs, line)
+) -> Result<bool, Fail> {
+    let [disparities, heights, report] = end.outputs;
+    Ok(
+        tells(rt, alloc, line, shelf, gate, end)?
+            && holds(shelf, alloc, "o.pgm", disparities)
+            && holds(shelf, alloc, "o.asc", heights)
+            && holds(shelf, alloc, "o.csv", report),
+    )
 }
 
-/// That the run of a line over a shelf ends so.
-pub fn assert_end_on<R: Abort + Threads + Sync, S: Shelf>(
-    rt: &R,
-    alloc: Global,
-    line: &str,
-    shelf: &mut S,
-    end: End,
-) -> Result<(), Fail> {
-    assert_end_by(rt, alloc, line, shelf, None, &OpenGate, end)
-}
-
-/// That the run of a line over these files ends so.
-pub fn assert_end<R: Abort + Threads + Sync>(
+/// Whether the run of a line over these files ends so.
+pub fn ends<R: Threads + Sync>(
     rt: &R,
     alloc: Global,
     files: Vec<(String, Vec<u8>)>,
     line: &str,
     end: End,
-) -> Result<(), Fail> {
+) -> Result<bool, Fail> {
     let mut shelf = shelf_of(alloc, files)?;
-    assert_end_on(rt, alloc, line, &mut shelf, end)
-}
-
-/// That the run of a line over these files ends with this status and this line, and writes nothing.
-pub fn assert_refused<R: Abort + Threads + Sync>(
-    rt: &R,
-    alloc: Global,
-    files: Vec<(String, Vec<u8>)>,
-    line: &str,
-    status: u8,
-    err: &str,
-) -> Result<(), Fail> {
-    let end = End {
-        status,
-        out: b"",
-        err: err.as_bytes(),
-        outputs: [None; 3],
-    };
-    assert_end(rt, alloc, files, line, end)
+    ends_by(rt, alloc, line, &mut shelf, &OpenGate, end)
 }

@@ -1,12 +1,11 @@
 //! What a match writes.
 
-use super::ended::{End, assert_end};
+use super::ended::{End, ends};
 use super::fixtures::{DISPARITIES, HEIGHTS, REPORT, SUMMARY, add, example, files_with, joined};
 use sgm_app::{MadeTexts, Refine, texts};
-use sgm_example::{CALIBRATION, CAMERA, END, GRID, LEFT, RIGHT, SETTINGS};
+use sgm_example::{CALIBRATION, CAMERA, END, GRID, LEFT, REGIONS, RIGHT, SETTINGS};
 use sgm_work::OpenGate;
 use std::alloc::{AllocError, Global};
-use std::process::Abort;
 use std::test::Fail;
 
 /// A run that is done, with these outputs.
@@ -27,36 +26,28 @@ fn the_worked_example_is_written_whole(rt: HostRuntime) -> Result<(), Fail> {
         "match l.pgm r.pgm c.json o strips=1",
         "match l.pgm r.pgm c.json o strips=3 workers=2",
     ] {
-        assert_end(&rt, alloc, example(alloc)?, line, end)?;
+        assert!(rt; ends(&rt, alloc, example(alloc)?, line, end)?);
     }
     Ok(())
 }
 
-/// That these are the texts of the worked example.
-fn assert_texts(rt: &impl Abort, made: &MadeTexts) {
-    assert!(rt; made.disparity.as_slice() == DISPARITIES);
-    assert!(rt; made.heights.as_deref() == Some(HEIGHTS));
-    assert!(rt; made.report.as_deref() == Some(REPORT));
-    assert!(rt; made.summary.as_slice() == SUMMARY);
+/// Whether these are the texts of the worked example.
+fn are_texts(made: &MadeTexts) -> bool {
+    made.disparity.as_slice() == DISPARITIES
+        && made.heights.as_deref() == Some(HEIGHTS)
+        && made.report.as_deref() == Some(REPORT)
+        && made.summary.as_slice() == SUMMARY
 }
 
 #[test]
 fn the_texts_of_the_worked_example_are_those_that_are_written(rt: HostRuntime) -> Result<(), Fail> {
     let alloc = rt.alloc();
     let calib = joined(alloc, &CALIBRATION)?;
-    match texts(
-        &rt,
-        alloc,
-        LEFT,
-        RIGHT,
-        Some(calib.as_bytes()),
-        3,
-        2,
-        Refine::PLAIN,
-        &OpenGate,
-    ) {
+    let calib = Some(calib.as_bytes());
+    let refine = Refine::PLAIN;
+    match texts(&rt, alloc, LEFT, RIGHT, calib, 3, 2, refine, &OpenGate) {
         Ok(made) => {
-            assert_texts(&rt, &made);
+            assert!(rt; are_texts(&made));
             Ok(())
         }
         Err(_) => Err(Fail::new("the worked example is refused")),
@@ -68,24 +59,27 @@ fn the_calibration_asks_for_the_files(rt: HostRuntime) -> Result<(), Fail> {
     let alloc = rt.alloc();
     let end = done([Some(DISPARITIES), None, None]);
     let files = files_with(alloc, &[SETTINGS, END])?;
-    assert_end(&rt, alloc, files, "match l.pgm r.pgm c.json o", end)
+    assert!(rt; ends(&rt, alloc, files, "match l.pgm r.pgm c.json o", end)?);
+    Ok(())
 }
 
-// A calibration without regions, and a file under each name of an output.
-fn files_that_stood(alloc: Global) -> Result<Vec<(String, Vec<u8>)>, AllocError> {
-    let mut files = files_with(alloc, &[SETTINGS, CAMERA, GRID, END])?;
-    for name in ["o.pgm", "o.asc", "o.csv"] {
-        add(alloc, &mut files, name, LEFT)?;
-    }
-    Ok(files)
-}
+/// What the calibration of the worked example begins with in version 2, with penalties that are fixed, and that follow
+/// the image.
+const SETTINGS_2: [&str; 2] = [
+    "{\"version\":2,\"disparities\":{\"first\":0,\"count\":2},\"census\":{\"width\":3,\"height\":3},\"penalties\":{\"p1\":1,\"p2\":3,\"adapt\":false}",
+    "{\"version\":2,\"disparities\":{\"first\":0,\"count\":2},\"census\":{\"width\":3,\"height\":3},\"penalties\":{\"p1\":1,\"p2\":3,\"adapt\":true}",
+];
 
+// Two indices never differ by more than 1, so it doesn't matter what a greater change costs.
 #[test]
-fn files_that_stood_are_replaced_where_they_are_asked_for(rt: HostRuntime) -> Result<(), Fail> {
+fn penalties_may_follow_the_image(rt: HostRuntime) -> Result<(), Fail> {
     let alloc = rt.alloc();
-    let end = done([Some(DISPARITIES), Some(HEIGHTS), Some(LEFT)]);
-    let files = files_that_stood(alloc)?;
-    assert_end(&rt, alloc, files, "match l.pgm r.pgm c.json o", end)
+    let end = done([Some(DISPARITIES), Some(HEIGHTS), Some(REPORT)]);
+    for settings in SETTINGS_2 {
+        let files = files_with(alloc, &[settings, CAMERA, GRID, REGIONS, END])?;
+        assert!(rt; ends(&rt, alloc, files, "match l.pgm r.pgm c.json o", end)?);
+    }
+    Ok(())
 }
 
 // A pair of two pixels.
@@ -107,7 +101,7 @@ fn plain_settings_serve_a_pair_of_two_pixels(rt: HostRuntime) -> Result<(), Fail
         "match two.pgm two.pgm - o",
         "match two.pgm two.pgm - o strips=64 workers=16",
     ] {
-        assert_end(&rt, alloc, two_pixels(alloc)?, line, end)?;
+        assert!(rt; ends(&rt, alloc, two_pixels(alloc)?, line, end)?);
     }
     Ok(())
 }

@@ -1,13 +1,13 @@
 //! The generated pair: a demo, and a whole run over a larger one.
 
-use super::ended::{End, Ended, assert_end, assert_holds, end_on, held, shelf_of};
+use super::ended::{End, ends, held, run_line, shelf_of};
 use super::fixtures::{add, files_with};
 use sgm_app::pair;
 use sgm_base::{Image, Size};
 use sgm_example::{CAMERA, END, GRID, REGIONS};
-use sgm_io::MemoryShelf;
+use sgm_io::{MemoryShelf, MemorySink};
+use sgm_work::OpenGate;
 use std::alloc::{AllocError, Global};
-use std::process::Abort;
 use std::test::Fail;
 use std::thread::Threads;
 
@@ -21,7 +21,7 @@ fn a_demo_has_two_lines_and_no_file(rt: HostRuntime) -> Result<(), Fail> {
         outputs: [None; 3],
     };
     for line in ["demo 0", "demo 0 workers=3 strips=5"] {
-        assert_end(&rt, alloc, files_with(alloc, &[])?, line, end)?;
+        assert!(rt; ends(&rt, alloc, files_with(alloc, &[])?, line, end)?);
     }
     Ok(())
 }
@@ -78,57 +78,33 @@ fn pair_shelf(alloc: Global) -> Result<MemoryShelf, Fail> {
     Ok(shelf)
 }
 
-/// That a run over the generated pair is done.
-fn assert_done(rt: &impl Abort, ended: &Ended, line: &str) {
-    assert!(rt; ended.status == 0, "{line}");
-    assert!(rt; ended.err.taken() == b"".as_slice(), "{line}");
-    assert!(rt; ended.out.taken().ends_with(b" of 307200\n"), "{line}");
-}
-
-/// Runs a line over a shelf with the generated pair, which is done.
-fn match_pair<R: Abort + Threads + Sync>(
+/// Whether the run of a line over the generated pair is done.
+fn is_done<R: Threads + Sync>(
     rt: &R,
     alloc: Global,
     line: &str,
     shelf: &mut MemoryShelf,
-) -> Result<(), AllocError> {
-    let ended = end_on(rt, alloc, line, shelf)?;
-    assert_done(rt, &ended, line);
-    Ok(())
+) -> Result<bool, AllocError> {
+    let mut out = MemorySink::make(alloc, 4096, None)?;
+    let mut err = MemorySink::make(alloc, 4096, None)?;
+    let status = run_line(rt, alloc, line, shelf, &mut out, &mut err, &OpenGate)?;
+    Ok(status == 0 && err.taken().is_empty() && out.taken().ends_with(b" of 307200\n"))
 }
 
-/// The shelf after a run over the generated pair with these options, which is done.
-fn shelf_after<R: Abort + Threads + Sync>(
+/// Adds what a run of this line over the generated pair, which is done, writes: one file after the other.
+fn add_written<R: Threads + Sync>(
     rt: &R,
     alloc: Global,
     line: &str,
-) -> Result<MemoryShelf, Fail> {
+    into: &mut Vec<u8>,
+) -> Result<(), Fail> {
     let mut shelf = pair_shelf(alloc)?;
-    match_pair(rt, alloc, line, &mut shelf)?;
-    Ok(shelf)
-}
-
-/// That two shelves hold the same file of this name.
-fn assert_same_file(
-    rt: &impl Abort,
-    alloc: Global,
-    one: &mut MemoryShelf,
-    other: &mut MemoryShelf,
-    name: &str,
-) -> Result<(), Fail> {
-    let bytes = held(alloc, one, name)?.ok_or("a file is absent")?;
-    assert_holds(rt, alloc, other, name, Some(&bytes), name)
-}
-
-/// That two shelves hold the same files of a match.
-fn assert_same(
-    rt: &impl Abort,
-    alloc: Global,
-    one: &mut MemoryShelf,
-    other: &mut MemoryShelf,
-) -> Result<(), Fail> {
-    for name in &["o.pgm", "o.asc", "o.csv"] {
-        assert_same_file(rt, alloc, one, other, name)?;
+    if !is_done(rt, alloc, line, &mut shelf)? {
+        return Err(Fail::new("the run isn't done"));
+    }
+    for name in ["o.pgm", "o.asc", "o.csv"] {
+        let file = held(alloc, &mut shelf, name)?.ok_or("a file is absent")?;
+        into.extend_from_slice(&file)?;
     }
     Ok(())
 }
@@ -144,7 +120,7 @@ fn sample_of(text: &[u8], x: u16, y: u16) -> Option<u16> {
 // A pixel of the square, and one in each of the first four bands of the ground and in the band after
 // them, has the shift that its place is generated with, in sixteenths and 16 more, to within the half
 // pixel that an offset can be.
-fn assert_shifts(rt: &impl Abort, disparities: &[u8]) -> Result<(), Fail> {
+fn are_shifted(disparities: &[u8]) -> bool {
     for (x, y, shift) in &[
         (128, 96, 28),
         (300, 24, 8),
@@ -153,35 +129,22 @@ fn assert_shifts(rt: &impl Abort, disparities: &[u8]) -> Result<(), Fail> {
         (300, 168, 20),
         (300, 216, 8),
     ] {
-        let sample = sample_of(disparities, *x, *y).ok_or("o.pgm is too short")?;
-        assert!(rt; sample.abs_diff(16 * *shift + 16) <= 8, "{x} {y}");
+        match sample_of(disparities, *x, *y) {
+            Some(sample) if sample.abs_diff(16 * *shift + 16) <= 8 => {}
+            _ => return false,
+        }
     }
-    Ok(())
-}
-
-// The disparity image of the shelf has these shifts.
-fn assert_shifted(rt: &impl Abort, alloc: Global, shelf: &mut MemoryShelf) -> Result<(), Fail> {
-    let disparities = held(alloc, shelf, "o.pgm")?.ok_or("o.pgm is absent")?;
-    assert_shifts(rt, &disparities)
-}
-
-/// That a run of this line over the generated pair writes what the shelf holds.
-fn assert_writes_same<R: Abort + Threads + Sync>(
-    rt: &R,
-    alloc: Global,
-    line: &str,
-    shelf: &mut MemoryShelf,
-) -> Result<(), Fail> {
-    let mut other = shelf_after(rt, alloc, line)?;
-    assert_same(rt, alloc, shelf, &mut other)
+    true
 }
 
 #[test]
 fn strips_and_workers_change_no_byte(rt: HostRuntime) -> Result<(), Fail> {
     let alloc = rt.alloc();
+    let (mut some, mut one) = (Vec::new(alloc), Vec::new(alloc));
     let line = "match left.pgm right.pgm c.json o strips=8 workers=4";
-    let mut shelf = shelf_after(&rt, alloc, line)?;
-    assert_shifted(&rt, alloc, &mut shelf)?;
+    add_written(&rt, alloc, line, &mut some)?;
     let line = "match left.pgm right.pgm c.json o strips=1 workers=1";
-    assert_writes_same(&rt, alloc, line, &mut shelf)
+    add_written(&rt, alloc, line, &mut one)?;
+    assert!(rt; are_shifted(&some) && some.as_slice() == one.as_slice());
+    Ok(())
 }

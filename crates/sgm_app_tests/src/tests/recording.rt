@@ -1,7 +1,6 @@
-//! Devices that record their calls.
+//! A shelf that records its calls.
 
-use sgm_io::{FetchError, KeepError, MemorySink, Shelf, Sink, SinkError};
-use std::alloc::{AllocError, Global};
+use sgm_io::{FetchError, KeepError, Shelf};
 use std::cell::RefCell;
 use std::fmt::{Display, Write};
 
@@ -58,37 +57,5 @@ impl<'a, S: Shelf> Shelf for RecordingShelf<'a, S> {
 
     fn is_writing(&self) -> bool {
         self.shelf.is_writing()
-    }
-}
-
-/// A sink that records its calls under a name, which ends in a space.
-#[derive(Drop)]
-pub struct RecordingSink<'a, O> {
-    pub sink: O,
-    pub name: &'a str,
-    pub calls: &'a RefCell<String>,
-}
-
-/// A sink in memory that fails at the length `stop`, and records its calls.
-pub fn sink_of<'a>(
-    alloc: Global,
-    name: &'a str,
-    stop: Option<usize>,
-    calls: &'a RefCell<String>,
-) -> Result<RecordingSink<'a, MemorySink>, AllocError> {
-    let sink = MemorySink::make(alloc, 4096, stop)?;
-    Ok(RecordingSink { sink, name, calls })
-}
-
-impl<'a, O: Sink> Sink for RecordingSink<'a, O> {
-    ghost tells = { O.tells };
-
-    ghost written = { λ r. O.written r.sink };
-
-    ghost faults = { λ r. O.faults r.sink };
-
-    fn write(&mut self, piece: &[u8]) -> Result<usize, SinkError> {
-        note(self.calls, self.name, piece.len());
-        self.sink.write(piece)
     }
 }

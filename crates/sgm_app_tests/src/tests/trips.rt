@@ -1,36 +1,25 @@
-//! Devices that fail once.
+//! Devices that fail once. More are stored cases of `sgm_cases`.
 
-use super::ended::{End, assert_end_on};
+use super::ended::{End, ends_by};
 use super::fixtures::{DISPARITIES, example};
 use sgm_io::{MemoryShelf, Trip};
+use sgm_work::OpenGate;
 use std::alloc::{AllocError, Global};
 use std::test::Fail;
 
-/// The call of a shelf that fails.
-#[derive(Clone, Copy)]
-pub enum Call {
-    Fetch,
-    AppendAt(usize),
-}
-
-/// The trips that fail these calls of these names.
-pub fn trips_of(alloc: Global, calls: &[(&str, Call)]) -> Result<Vec<Trip>, AllocError> {
+/// A shelf of the worked example whose append to o.asc fails that would reach beyond its first four lines.
+fn shelf_of_four_lines(alloc: Global) -> Result<MemoryShelf, AllocError> {
     let mut trips = Vec::new(alloc);
-    for (name, call) in calls {
-        let name = String::from_str(alloc, name)?;
-        trips.push(match *call {
-            Call::Fetch => Trip::Fetch { name },
-            Call::AppendAt(length) => Trip::AppendAt { name, length },
-        })?;
-    }
-    Ok(trips)
+    trips.push(Trip::AppendAt {
+        name: String::from_str(alloc, "o.asc")?,
+        length: 47,
+    })?;
+    MemoryShelf::make(alloc, example(alloc)?, trips)
 }
 
 #[test]
 fn heights_that_stop_have_their_first_lines(rt: HostRuntime) -> Result<(), Fail> {
-    let alloc = rt.alloc();
-    let trips = trips_of(alloc, &[("o.asc", Call::AppendAt(47))])?;
-    let mut shelf = MemoryShelf::make(alloc, example(alloc)?, trips)?;
+    let mut shelf = shelf_of_four_lines(rt.alloc())?;
     let lines = b"ncols 4\nnrows 3\nxllcorner 2000\nyllcorner -2000\n".as_slice();
     let end = End {
         status: 5,
@@ -38,5 +27,7 @@ fn heights_that_stop_have_their_first_lines(rt: HostRuntime) -> Result<(), Fail>
         err: b"sgm: cannot write heights\n",
         outputs: [Some(DISPARITIES), Some(lines), None],
     };
-    assert_end_on(&rt, alloc, "match l.pgm r.pgm c.json o", &mut shelf, end)
+    let line = "match l.pgm r.pgm c.json o";
+    assert!(rt; ends_by(&rt, rt.alloc(), line, &mut shelf, &OpenGate, end)?);
+    Ok(())
 }

@@ -1,21 +1,20 @@
 //! That a run hands on its strips and its workers, which no clause can say: the gates see it.
 
-use super::ended::{End, assert_end_by, shelf_of};
+use super::ended::{End, ends_by, shelf_of};
 use super::fixtures::{DISPARITIES, HEIGHTS, REPORT, SUMMARY, example};
 use sgm_work::Gate;
 use std::alloc::Global;
-use std::process::Abort;
 use std::sync::atomic::{AtomicU64, Ordering};
 use std::test::Fail;
 use std::thread::{Threads, yield_now};
 
-/// Runs a line over the worked example, which is written whole.
-fn run_example<R: Abort + Threads + Sync, G: Gate + Sync>(
+/// Whether the run of a line over the worked example, whose workers pass the gate, writes it whole.
+fn writes_example<R: Threads + Sync, G: Gate + Sync>(
     rt: &R,
     alloc: Global,
     line: &str,
     gate: &G,
-) -> Result<(), Fail> {
+) -> Result<bool, Fail> {
     let end = End {
         status: 0,
         out: SUMMARY,
@@ -23,7 +22,7 @@ fn run_example<R: Abort + Threads + Sync, G: Gate + Sync>(
         outputs: [Some(DISPARITIES), Some(HEIGHTS), Some(REPORT)],
     };
     let mut shelf = shelf_of(alloc, example(alloc)?)?;
-    assert_end_by(rt, alloc, line, &mut shelf, None, gate, end)
+    ends_by(rt, alloc, line, &mut shelf, gate, end)
 }
 
 /// Remembers its calls, the last at the end: a digit of 16 for each, four times the worker and the strip and 1.
@@ -47,7 +46,7 @@ fn one_worker_by_board(rt: HostRuntime) -> Result<(), Fail> {
         calls: AtomicU64::new(0),
     };
     let line = "match l.pgm r.pgm c.json o strips=3 workers=1";
-    run_example(&rt, rt.alloc(), line, &recorder)?;
+    assert!(rt; writes_example(&rt, rt.alloc(), line, &recorder)?);
     assert!(rt; recorder.calls.load(Ordering::SeqCst) == 0x1_2312_3123);
     Ok(())
 }
@@ -97,7 +96,7 @@ fn two_workers_overlap(rt: HostRuntime) -> Result<(), Fail> {
         ended: AtomicU64::new(0),
     };
     let line = "match l.pgm r.pgm c.json o strips=2 workers=2";
-    run_example(&rt, rt.alloc(), line, &meeting)?;
+    assert!(rt; writes_example(&rt, rt.alloc(), line, &meeting)?);
     for worker in 0..2 {
         assert!(rt; meeting.calls_of(worker).load(Ordering::SeqCst) > 0);
     }
