@@ -57,9 +57,14 @@ fn the_texts_of_the_worked_example_are_those_that_are_written(rt: HostRuntime) -
 #[test]
 fn the_calibration_asks_for_the_files(rt: HostRuntime) -> Result<(), Fail> {
     let alloc = rt.alloc();
+    let line = "match l.pgm r.pgm c.json o";
     let end = done([Some(DISPARITIES), None, None]);
     let files = files_with(alloc, &[SETTINGS, END])?;
-    assert!(rt; ends(&rt, alloc, files, "match l.pgm r.pgm c.json o", end)?);
+    assert!(rt; ends(&rt, alloc, files, line, end)?);
+
+    let end = done([Some(DISPARITIES), Some(HEIGHTS), None]);
+    let files = files_with(alloc, &[SETTINGS, CAMERA, GRID, END])?;
+    assert!(rt; ends(&rt, alloc, files, line, end)?);
     Ok(())
 }
 
