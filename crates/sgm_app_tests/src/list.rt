@@ -61,7 +61,7 @@ const FAULTS: [(&[u8], Option<ListFault>); 7] = [
         b"a b p.asc o\nc d - p\n",
         Some(ListFault::Clash { entry: 0 }),
     ),
-    // The list itself is an input of each entry.
+    // An output of the second entry is the list itself.
     (b"a b - p\na b - list", Some(ListFault::Clash { entry: 1 })),
 ];
 

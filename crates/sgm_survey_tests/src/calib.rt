@@ -30,6 +30,10 @@ const ADAPT: Key = Key {
     index: 0,
 };
 
+/// Version 2, which doesn't say whether its penalties follow the image.
+const WITHOUT_ADAPT: &str =
+    "{\"version\":2,\"disparities\":{\"first\":0,\"count\":2},\"census\":{\"width\":3,\"height\":3},\"penalties\":{\"p1\":1,\"p2\":3}}";
+
 const FAULTS: [(&str, CalibFault); 8] = [
     ("{", CalibFault::Json),
     ("[]", CalibFault::Type_(TOP)),
@@ -44,10 +48,7 @@ const FAULTS: [(&str, CalibFault); 8] = [
         "{\"version\":1,\"disparities\":{\"first\":0,\"count\":1.5}}",
         CalibFault::Type_(COUNT),
     ),
-    (
-        "{\"version\":2,\"disparities\":{\"first\":0,\"count\":64},\"census\":{\"width\":9,\"height\":7},\"penalties\":{\"p1\":10,\"p2\":120}}",
-        CalibFault::Missing(ADAPT),
-    ),
+    (WITHOUT_ADAPT, CalibFault::Missing(ADAPT)),
 ];
 
 #[test]

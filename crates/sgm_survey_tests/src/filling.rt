@@ -39,33 +39,29 @@ fn entries_of(
     Ok(filled.entries().to_vec(alloc)?)
 }
 
-/// What becomes of the map with these entries.
+/// What becomes of the row of three pixels with these entries.
 fn filled(
     alloc: Global,
-    width: u32,
-    height: u32,
     entries: &[Option<u16>],
     matched: &[Option<u16>],
     left: &[Option<u16>],
 ) -> Result<Vec<Option<u16>>, Fail> {
-    let size = Size::make(width, height).ok_or("size")?;
+    let size = Size::make(3, 1).ok_or("size")?;
     let map = map_of(alloc, size, entries)?;
     let matched = map_of(alloc, size, matched)?;
     let left = plane_of(alloc, size, left)?;
     entries_of(alloc, &map, &matched, &left)
 }
 
-/// Whether the map with these entries becomes the wanted one.
+/// Whether the row with these entries becomes the wanted one.
 fn fills(
     alloc: Global,
-    width: u32,
-    height: u32,
     entries: &[Option<u16>],
     matched: &[Option<u16>],
     left: &[Option<u16>],
     wanted: &[Option<u16>],
 ) -> Result<bool, Fail> {
-    let made = filled(alloc, width, height, entries, matched, left)?;
+    let made = filled(alloc, entries, matched, left)?;
     Ok(made.as_slice() == wanted)
 }
 
@@ -76,7 +72,7 @@ const THERE: [Option<u16>; 3] = [Some(5); 3];
 /// Whether a gap of one pixel with these matches is filled by this value.
 fn fills_gap(alloc: Global, matched: [Option<u16>; 3], value: u16) -> Result<bool, Fail> {
     let wanted = [Some(32), Some(value), Some(96)];
-    fills(alloc, 3, 1, &GAP, &matched, &THERE, &wanted)
+    fills(alloc, &GAP, &matched, &THERE, &wanted)
 }
 
 #[test]
@@ -95,9 +91,9 @@ fn one_value(rt: HostRuntime) -> Result<(), Fail> {
     let alloc = rt.alloc();
     let none = [None; 3];
     let one = [Some(32), None, None];
-    assert!(rt; fills(alloc, 3, 1, &one, &none, &THERE, &[Some(32); 3])?);
-    assert!(rt; fills(alloc, 3, 1, &none, &none, &THERE, &none)?);
+    assert!(rt; fills(alloc, &one, &none, &THERE, &[Some(32); 3])?);
+    assert!(rt; fills(alloc, &none, &none, &THERE, &none)?);
     let void = [Some(5), None, Some(5)];
-    assert!(rt; fills(alloc, 3, 1, &GAP, &none, &void, &GAP)?);
+    assert!(rt; fills(alloc, &GAP, &none, &void, &GAP)?);
     Ok(())
 }

@@ -1,4 +1,4 @@
-//! Points that fall into cells. The texts of grids are in `asc`, and more are cases of `sgm_cases`.
+//! Points that fall into cells. The texts of grids are stored cases of `sgm_cases`.
 
 ghost use Rattle.std.specs.Prelude.{◌^◌, IsTrue};
 ghost use Rattle.sgm_base.specs.Ranges.{Within};

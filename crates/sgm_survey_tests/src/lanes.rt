@@ -1,5 +1,5 @@
-//! Each kernel over a chunk and a rest, by numbers worked out by hand. Stored cases of `sgm_cases` survey pairs with
-//! numbers of disparities of every length up to some chunks and a rest.
+//! Each kernel over a chunk of sixteen and a rest, by numbers worked out by hand. Stored cases of `sgm_cases` survey pairs
+//! with 25 numbers of disparities from 3 to 130.
 
 ghost use Rattle.std.specs.Prelude.{◌≡◌, ◌<◌, ◌≤◌, length, All};
 
@@ -51,16 +51,16 @@ fn values_are_added(rt: HostRuntime) {
     assert!(rt; sums == [36_558; 17]);
 }
 
-/// Whether the step from at most four values gives these, alone and where it adds.
+/// Whether the step from at most 17 values gives these, alone and where it adds.
 fn steps_to(prev: &[u16], cost: &[u8], p1: u16, p2: u16, want: &[u16]) -> bool
     requires some { 0 < length prev.now }
-    requires few { length prev.now ≤ 4 }
+    requires few { length prev.now ≤ 17 }
     requires cost_length { length cost.now ≡ length prev.now }
     requires penalties { (p1 ≤ p2) × (p2 ≤ 4000) }
     requires values { All (λ x. x < 4063) prev.now }
     requires costs { All (λ c. c ≤ 62) cost.now }
 {
-    let (mut room, mut again, mut sums) = ([0u16; 4], [0u16; 4], [0u16; 4]);
+    let (mut room, mut again, mut sums) = ([0u16; 17], [0u16; 17], [0u16; 17]);
     let (count, floor) = (prev.len(), least(prev));
     let into = &mut room[..count];
     step(prev, floor, cost, p1, p2, into);
@@ -83,4 +83,8 @@ fn steps_from_values_to_values(rt: HostRuntime) {
     assert!(rt; steps_to(&[7], &[62], 1, 3, &[62]));
     // each of the four ways is the least once
     assert!(rt; steps_to(&[10, 2, 9, 20], &[1, 2, 3, 4], 4, 6, &[5, 2, 7, 10]));
+    // over a chunk's end, whose neighbours are on both sides of it
+    let prev = [0, 9, 9, 9, 9, 9, 9, 9, 9, 9, 9, 9, 9, 9, 9, 9, 0];
+    let want = [2, 3, 5, 5, 5, 5, 5, 5, 5, 5, 5, 5, 5, 5, 5, 3, 2];
+    assert!(rt; steps_to(&prev, &[2; 17], 1, 3, &want));
 }

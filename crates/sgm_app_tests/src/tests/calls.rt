@@ -1,8 +1,8 @@
 //! A run makes exactly the calls on its shelf that it needs, one after the other, which no clause can say.
 
-use super::fixtures::{example, words_of};
+use super::ended::run_line;
+use super::fixtures::example;
 use super::recording::RecordingShelf;
-use sgm_app::run;
 use sgm_io::{MemoryShelf, MemorySink, Shelf, Trip};
 use sgm_work::OpenGate;
 use std::alloc::{AllocError, Global};
@@ -16,10 +16,10 @@ fn run_over<R: Threads + Sync, S: Shelf>(
     alloc: Global,
     shelf: &mut S,
 ) -> Result<(), AllocError> {
-    let words = words_of(alloc, "match l.pgm r.pgm c.json o")?;
+    let line = "match l.pgm r.pgm c.json o";
     let mut out = MemorySink::make(alloc, 4096, None)?;
     let mut err = MemorySink::make(alloc, 4096, None)?;
-    run(rt, alloc, &words, shelf, &mut out, &mut err, &OpenGate);
+    run_line(rt, alloc, line, shelf, &mut out, &mut err, &OpenGate)?;
     Ok(())
 }
 

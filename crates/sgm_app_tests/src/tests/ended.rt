@@ -34,11 +34,11 @@ pub fn shelf_of(alloc: Global, files: Vec<(String, Vec<u8>)>) -> Result<MemorySh
 }
 
 /// The status of the run of a line over a shelf and two streams, whose workers pass the gate.
-pub fn run_line<R: Threads + Sync, G: Gate + Sync>(
+pub fn run_line<R: Threads + Sync, S: Shelf, G: Gate + Sync>(
     rt: &R,
     alloc: Global,
     line: &str,
-    shelf: &mut MemoryShelf,
+    shelf: &mut S,
     out: &mut MemorySink,
     err: &mut MemorySink,
     gate: &G,
@@ -76,7 +76,7 @@ pub fn held(
 }
 
 /// Whether the name holds this, or is absent.
-fn holds(shelf: &mut MemoryShelf, alloc: Global, name: &str, wanted: Option<&[u8]>) -> bool {
+fn holds(alloc: Global, shelf: &mut MemoryShelf, name: &str, wanted: Option<&[u8]>) -> bool {
     match held(alloc, shelf, name) {
         Ok(found) => found.as_deref() == wanted,
         Err(_) => false,
@@ -95,9 +95,9 @@ pub fn ends_by<R: Threads + Sync, G: Gate + Sync>(
     let [disparities, heights, report] = end.outputs;
     Ok(
         tells(rt, alloc, line, shelf, gate, end)?
-            && holds(shelf, alloc, "o.pgm", disparities)
-            && holds(shelf, alloc, "o.asc", heights)
-            && holds(shelf, alloc, "o.csv", report),
+            && holds(alloc, shelf, "o.pgm", disparities)
+            && holds(alloc, shelf, "o.asc", heights)
+            && holds(alloc, shelf, "o.csv", report),
     )
 }
 
