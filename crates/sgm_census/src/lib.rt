@@ -6,8 +6,10 @@ mod code_plane;
 mod cost;
 pub mod laws;
 mod pack;
+mod rule;
 mod window;
 
 pub use code_plane::{CodePlane, codes};
 pub use cost::{cost_at, cost_row};
+pub use rule::CostRule;
 pub use window::Window;
