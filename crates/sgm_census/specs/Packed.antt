@@ -5,6 +5,7 @@ use Rattle.std.specs.Int.{from_bool}
 use Rattle.std.specs.List.{flat_map, list_all, range_with_len}
 use Rattle.sgm_base.specs.Sides.{IsSide}
 use Rattle.sgm_census.specs.Windows.{WindowSides, IsWindow, greatest_of}
+use Rattle.sgm_census.specs.declared.rule.CostRule.{CostRule}
 use Rattle.sgm_census.specs.Codes.{Codes, code_in}
 use Rattle.sgm_base.specs.Values.{row_by_row}
 
@@ -23,12 +24,13 @@ unpacked n words present place =
     if slice_index_or present place false then Some (bits_of n (slice_index words place)) else None
 
 -- the plane of codes in these words
-abbrev pub codes_in : ℕ → ℕ → WindowSides → List ℕ → List Bool → Codes
-codes_in width height window words present =
+abbrev pub codes_in : ℕ → ℕ → WindowSides → CostRule → List ℕ → List Bool → Codes
+codes_in width height window rule words present =
     record {
       width = width;
       height = height;
       window = window;
+      rule = rule;
       codes = row_by_row width height (λ x y. unpacked (greatest_of window) words present (word_place width x y));
     }
 
