@@ -1,13 +1,15 @@
 pub mod Bits
 pub mod Centres
 pub mod CodeLists
+pub mod CodeRows
 pub mod CostRows
 pub mod CostWords
 pub mod Examples
 pub mod InWindow
 pub mod LessThan
 pub mod Limits
-pub mod RowBits
 pub mod PlainCodes
-pub mod CodeRows
+pub mod RowBits
+pub mod SmoothedCodes
+pub mod SmoothedRows
 pub mod Threes

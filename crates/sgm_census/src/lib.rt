@@ -7,6 +7,8 @@ mod cost;
 pub mod laws;
 mod pack;
 mod rule;
+mod smoothed;
+mod stub;
 mod window;
 
 pub use code_plane::{CodePlane, codes};

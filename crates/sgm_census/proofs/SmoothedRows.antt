@@ -1,0 +1,2 @@
+-- Rows of smoothed codes.
+use Rattle.std.proofs.Common.{◌≡◌, ℕ, ◌+◌}
