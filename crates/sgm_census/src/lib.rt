@@ -8,7 +8,6 @@ pub mod laws;
 mod pack;
 mod rule;
 mod smoothed;
-mod stub;
 mod window;
 
 pub use code_plane::{CodePlane, codes};

@@ -13,7 +13,7 @@ ghost use Rattle.sgm_lanes.specs.Middles.{middle_of};
 use crate::Window;
 use crate::pack::{Plain, all_set, code_marks, code_words, without_centre};
 use sgm_base::Plane;
-use crate::stub::{middle, middles};
+use sgm_lanes::{middle, middles};
 
 /// The window of a pixel and those beside it.
 const BESIDE: Window = Window {
@@ -122,13 +122,15 @@ fn inner_middles(plain: Plain, y: usize, into: &mut [u16])
     let (width, values) = (plain.width, plain.values);
     let len = width - 2;
     let (above, here, below) = ((y - 1) * width, y * width, (y + 1) * width);
+    let (_, rest) = into.split_at_mut(1);
+    let (inner, _) = rest.split_at_mut(len);
     middles(
         &values[here + 1..here + 1 + len],
         &values[here + 2..here + 2 + len],
         &values[here..here + len],
         &values[below + 1..below + 1 + len],
         &values[above + 1..above + 1 + len],
-        &mut into[1..1 + len],
+        inner,
     );
 }
 
@@ -141,8 +143,11 @@ fn row_middles(plane: &Plane, plain: Plain, y: usize, into: &mut [u16])
 {
     let _ = plane.size();
     let width = plain.width;
-    let is_inner = 3 <= width && 1 <= y && y + 1 < plain.height;
-    if is_inner && all_set(&plain.there[(y - 1) * width..(y + 2) * width]) {
+    if width < 3 || y < 1 || plain.height <= y + 1 {
+        each_middle(plane, y, into);
+        return;
+    }
+    if all_set(&plain.there[(y - 1) * width..(y + 2) * width]) {
         inner_middles(plain, y, into);
         write_middle(plane, 0, y, into);
         write_middle(plane, width - 1, y, into);
@@ -186,6 +191,8 @@ fn coded(plane: &Plane, window: Window, x: usize, y: usize, middle: u16) -> Opti
     ensures code { option_map (bits_of (greatest_of window)) result ≡ smoothed_code_at plane.now window x y }
     ensures within { IfSome result (λ word. word < 2 ^ greatest_of window) }
 {
+    // Known from here on: the window's range.
+    let _ = &window.width;
     let own = pixel(plane, x, y)?;
     let at = Centre { x, y, own, middle };
     Some(near_word(plane, window, at))
@@ -257,7 +264,7 @@ fn inner_words(
     ensures within { (k : ℕ) → slice_index words.new k < 2 ^ greatest_of window }
 {
     let (across, down) = (window.width as usize / 2, window.height as usize / 2);
-    if plain.width <= 2 * across || y < down || plain.height <= y + down {
+    if plain.width <= 2 * across || y < down || plain.height.saturating_sub(down) <= y {
         return;
     }
     let len = plain.width - 2 * across;
@@ -276,7 +283,7 @@ fn inner_marks(plain: Plain, window: Window, y: usize, present: &mut [bool])
         → IsWhole plain.entry.width plain.entry.height plain.entry.there.now window x y }
 {
     let (across, down) = (window.width as usize / 2, window.height as usize / 2);
-    if plain.width <= 2 * across || y < down || plain.height <= y + down {
+    if plain.width <= 2 * across || y < down || plain.height.saturating_sub(down) <= y {
         return;
     }
     let len = plain.width - 2 * across;
@@ -305,6 +312,9 @@ pub(crate) fn smoothed_rows(
         → unpacked (greatest_of window) words.new present.new (word_place plane.now.width x y) ≡ smoothed_code_at plane.now window x y }
     ensures within { (k : ℕ) → slice_index words.new k < 2 ^ greatest_of window }
 {
+    // Known from here on: what the plane keeps, and the window's range.
+    let _ = plane.size();
+    let _ = &window.width;
     let (width, height) = (plain.width, plain.height);
     let (middles, bits) = room.split_at_mut(width);
     for y in 0..height {

@@ -12,8 +12,8 @@ overflow_mul-from c =
     let high : c.window.inside.height ≡ c.args.window.height = ap (λ (s : WindowSides). s.height) c.window.view_is in
     omega (arith, ends_in c.args.top c.loop-j.j c.args.window.height c.args.plain.width (length c.args.plain.values.now) (omega (arith, high, c.loop-j-test.true)) c.requires.rows)
 
-pub overflow_add-from : goal.overflow_add-from
-overflow_add-from c =
+pub overflow_add-from-in-loop-j : goal.overflow_add-from-in-loop-j
+overflow_add-from-in-loop-j c =
     let high : c.window.inside.height ≡ c.args.window.height = ap (λ (s : WindowSides). s.height) c.window.view_is in
     omega (arith, ends_in c.args.top c.loop-j.j c.args.window.height c.args.plain.width (length c.args.plain.values.now) (omega (arith, high, c.loop-j-test.true)) c.requires.rows)
 
