@@ -13,3 +13,4 @@ pub mod RowBits
 pub mod SmoothedCodes
 pub mod SmoothedRows
 pub mod Threes
+pub mod SmoothCosts
