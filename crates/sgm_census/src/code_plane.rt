@@ -3,9 +3,9 @@ ghost use Rattle.sgm_census.specs.Codes.{Codes, IsCodes, code_at, code_by, codes
 ghost use Rattle.sgm_census.specs.Packed.{codes_in, IsPacked, HoldsAll, HoldsCodes};
 ghost use Rattle.sgm_census.specs.Windows.{greatest_of};
 
-use crate::{CostRule, Window};
 use crate::pack::{Plain, code_rows};
 use crate::smoothed::smoothed_rows;
+use crate::{CostRule, Window};
 use sgm_base::{Plane, Size};
 use std::alloc::{AllocError, Global};
 use std::marker::Model;
@@ -109,16 +109,16 @@ fn plain_codes(
     requires none { (k : ℕ) → slice_index_or present.old k false ≡ false }
     ensures { OnOk result (HoldsAll (greatest_of window) plane.now.width plane.now.height (code_at plane.now window) words.new present.new) }
 {
-    let size = plane.size();
+    let (width, height) = (plane.size().width as usize, plane.size().height as usize);
     let values = values_of(alloc, plane)?;
     let there = marks_of(alloc, plane)?;
     let plain = Plain {
         values: &values,
         there: &there,
-        width: size.width as usize,
-        height: size.height as usize,
+        width,
+        height,
     };
-    let mut bits = vec![in alloc; 0u16; size.width as usize]?;
+    let mut bits = vec![in alloc; 0u16; width]?;
     code_rows(plane, window, plain, bits.as_mut_slice(), words, present);
     Ok(())
 }
@@ -137,15 +137,14 @@ fn smoothed_codes(
     requires none { (k : ℕ) → slice_index_or present.old k false ≡ false }
     ensures { OnOk result (HoldsAll (greatest_of window) plane.now.width plane.now.height (smoothed_code_at plane.now window) words.new present.new) }
 {
-    let size = plane.size();
-    let width = size.width as usize;
+    let (width, height) = (plane.size().width as usize, plane.size().height as usize);
     let values = values_of(alloc, plane)?;
     let there = marks_of(alloc, plane)?;
     let plain = Plain {
         values: &values,
         there: &there,
         width,
-        height: size.height as usize,
+        height,
     };
     let mut room = vec![in alloc; 0u16; 2 * width]?;
     smoothed_rows(plane, window, plain, room.as_mut_slice(), words, present);

@@ -226,7 +226,13 @@ fn window_words(
     words.fill(0);
     for j in 0..high {
         let from = (top + j) * width;
-        push_row(&plain.values[from..from + width], centres, wide, bits, words);
+        push_row(
+            &plain.values[from..from + width],
+            centres,
+            wide,
+            bits,
+            words,
+        );
     }
 }
 
@@ -315,7 +321,14 @@ pub(crate) fn code_rows(
         let (row_words, _) = rest.split_at_mut(len);
         let (_, rest) = present.split_at_mut(from);
         let (row_present, _) = rest.split_at_mut(len);
-        code_words(plain, window, y - down, &plain.values[from..from + len], bits, row_words);
+        code_words(
+            plain,
+            window,
+            y - down,
+            &plain.values[from..from + len],
+            bits,
+            row_words,
+        );
         code_marks(plain, window, y - down, row_present);
     }
 }

@@ -239,7 +239,12 @@ fn complete(
     for x in 0..width {
         let place = width - 1 - x;
         if !present[place] {
-            put(coded(plane, window, x, y, middles[x]), place, words, present);
+            put(
+                coded(plane, window, x, y, middles[x]),
+                place,
+                words,
+                present,
+            );
         }
     }
 }
@@ -271,7 +276,14 @@ fn inner_words(
     let (bits, _) = bits.split_at_mut(len);
     let (_, rest) = words.split_at_mut(across);
     let (inner, _) = rest.split_at_mut(len);
-    code_words(plain, window, y - down, &middles[across..across + len], bits, inner);
+    code_words(
+        plain,
+        window,
+        y - down,
+        &middles[across..across + len],
+        bits,
+        inner,
+    );
 }
 
 /// Marks the pixels of the row `y` whose windows lie in the plane and are all there, from right to left.

@@ -7,6 +7,11 @@ smoothed_rows-requires-clause-holds c =
     record {
       values_are = c.deref.ensures.value ∙ c.in_ok-values.ensures;
       there_are = c.deref-2.ensures.value ∙ c.in_ok-there.ensures;
-      width_is = omega arith;
-      height_is = omega arith;
+      width_is = ap (λ (s : Sides). s.width) c.width.view_is ∙ c.size.ensures.width;
+      height_is = ap (λ (s : Sides). s.height) c.height.view_is ∙ c.size-2.ensures.height;
     }
+
+pub smoothed_rows-requires-clause-room_length : goal.smoothed_rows-requires-clause-room_length
+smoothed_rows-requires-clause-room_length c =
+    let width : c.width.inside.width ≡ c.args.plane.now.width = ap (λ (s : Sides). s.width) c.width.view_is ∙ c.size.ensures.width in
+    omega (arith, ap length c.as_mut_slice.ensures.value, c.in_ok-room.ensures.len, width)

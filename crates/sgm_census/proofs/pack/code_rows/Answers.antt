@@ -44,7 +44,7 @@ code_words-requires-clause-rows c =
     omega (
       arith,
       rows_inside plane record { width = c.window.inside.width; height = c.window.inside.height } c.args.window c.loop-y.y c.args.plain.width c.window.view_is c.window.invariant holds.width_is (omega arith)
-      (omega (arith, c.saturating_sub-y-end.ensures, holds.height_is)),
+          (omega (arith, c.saturating_sub-y-end.ensures, holds.height_is)),
       ap length holds.values_are,
       length-map plane.entries plain,
       c.requires.kept.full,
@@ -57,7 +57,7 @@ code_marks-requires-clause-rows c =
     omega (
       arith,
       rows_inside plane record { width = c.window.inside.width; height = c.window.inside.height } c.args.window c.loop-y.y c.args.plain.width c.window.view_is c.window.invariant holds.width_is (omega arith)
-      (omega (arith, c.saturating_sub-y-end.ensures, holds.height_is)),
+          (omega (arith, c.saturating_sub-y-end.ensures, holds.height_is)),
       ap length holds.there_are,
       length-map plane.entries is_some,
       c.requires.kept.full,
