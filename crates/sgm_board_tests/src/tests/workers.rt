@@ -104,16 +104,17 @@ fn two_workers_overlap(rt: HostRuntime) -> Result<(), Fail> {
     let found = matched(&rt, rt.alloc(), 2, 2, &meeting)?;
     assert!(rt; meeting.has_called(0) && meeting.has_called(1));
     assert!(rt; !meeting.has_ended());
-    let mut shared = false;
+    // Each worker is the first at its strip, where three fronts begin.
+    let mut signed = [false; 2];
     for front in &found.fronts {
         for visit in front.visits() {
             if visit.worker < 2 {
                 assert!(rt; meeting.has_come(visit.worker, visit.strip));
-                shared = true;
+                signed[visit.worker as usize] = true;
             }
         }
     }
-    assert!(rt; shared);
+    assert!(rt; signed[0] && signed[1]);
     assert!(rt; are_whole(&found.parcels, 2));
     Ok(())
 }
