@@ -35,6 +35,8 @@ reference_lists     -           tests/test_reference_lists.py
 reference_series    -           tests/test_reference_series.py
 stored_runs         -           tests/stored_runs.py
 least_energies      -           tests/least_energies.py --check
+kernels             -           tests/kernels.py
+large_pair          -           tests/large_pair.py
 edits_apply         -           tests/edits.py --apply
 cubic_metres        -           tools/test_cubic_metres.py
 sgm_files           pictures    tools/test_sgm_files.py

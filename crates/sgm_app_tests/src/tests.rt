@@ -5,7 +5,6 @@ mod ended;
 pub(crate) mod fixtures;
 mod outputs;
 mod pairs;
-mod recording;
 mod refusals;
 mod trips;
 mod workers;

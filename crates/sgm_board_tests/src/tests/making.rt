@@ -19,8 +19,13 @@ use sgm_strip::{Cut, Front, Guide, Parcel, Row, Scene};
 use std::alloc::Global;
 use std::test::Fail;
 
+/// A row of its left image, and one of its right image.
+pub(super) const LEFT: [u16; 5] = [90, 10, 50, 20, 40];
+
+pub(super) const RIGHT: [u16; 5] = [10, 50, 20, 40, 30];
+
 /// The plane of three rows, each of these values.
-fn plane_of(alloc: Global, row: &[u16; 5]) -> Result<Plane, Fail> {
+pub(super) fn plane_of(alloc: Global, row: &[u16; 5]) -> Result<Plane, Fail> {
     let size = Size::make(5, 3).ok_or("size")?;
     let mut entries = Vec::new(alloc);
     for at in 0..15 {
@@ -57,8 +62,8 @@ fn are_alike(left: &CodePlane, right: &CodePlane) -> bool
 pub(super) fn scene_of(alloc: Global) -> Result<Scene, Fail> {
     let span = Span::make(0, 2).ok_or("span")?;
     let pen = Pen::make(1, 3).ok_or("pen")?;
-    let left = codes_of(alloc, &[90, 10, 50, 20, 40])?;
-    let right = codes_of(alloc, &[10, 50, 20, 40, 30])?;
+    let left = codes_of(alloc, &LEFT)?;
+    let right = codes_of(alloc, &RIGHT)?;
     if !are_alike(&left, &right) {
         return Err("sides")?;
     }
