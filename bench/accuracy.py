@@ -202,6 +202,24 @@ SCENES = {
 }
 
 
+def scene_of(name, size=(480, 360)):
+    """The scene of that name, the same each time."""
+    make, wrong = SCENES[name]
+    draw = numpy.random.default_rng(1000 + list(SCENES).index(name))
+    return Scene(make(size, draw), size, draw, **wrong)
+
+
+def write_pair(folder, scene):
+    """The names of its left and its right picture, which are written there."""
+    names = []
+    for side in ("left", "right"):
+        names.append(os.path.join(folder, side + ".pgm"))
+        samples = getattr(scene, side)
+        with open(names[-1], "wb") as file:
+            file.write(f"P5\n{samples.shape[1]} {samples.shape[0]}\n255\n".encode() + samples.tobytes())
+    return names
+
+
 # Matching
 
 
@@ -335,22 +353,14 @@ def compare(title, folder, left, right, calibration, truth, both, words):
         print(f"\nleft out, since this program doesn't know it: {name} ({why})")
 
 
-def write_pgm(name, samples):
-    with open(name, "wb") as file:
-        file.write(f"P5\n{samples.shape[1]} {samples.shape[0]}\n255\n".encode() + samples.tobytes())
-    return name
-
-
 def compare_scenes(words, folder):
     print_rival()
-    for number, (name, (make, wrong)) in enumerate(SCENES.items()):
+    for name in SCENES:
         if words.only and name not in words.only:
             continue
-        draw = numpy.random.default_rng(1000 + number)
-        scene = Scene(make(words.size, draw), words.size, draw, **wrong)
-        pair = [write_pgm(os.path.join(folder, side + ".pgm"), getattr(scene, side)) for side in ("left", "right")]
+        scene = scene_of(name, words.size)
         calibration = {**PLAIN, "disparities": {"first": 0, "count": words.count}}
-        compare(name, folder, *pair, calibration, scene.truth, scene.both, words)
+        compare(name, folder, *write_pair(folder, scene), calibration, scene.truth, scene.both, words)
 
 
 def compare_pair(words, folder):

@@ -464,16 +464,21 @@ def differences(earlier, later):
 # The whole survey
 
 
-def survey(left_image, right_image, calibration, peak=0, fill=0):
+def match_planes(left, right, guide, calibration):
+    """The map of disparities of two planes, and for each pixel of the right one its own index or None."""
+    sums = sums_of(costs_by(calibration, left, right), calibration.p1, calibration.p2, guide)
+    matched = [[match_of(row, q, calibration.first) for q in range(len(row))] for row in sums]
+    return disparities(sums, left, right, calibration.first), matched
+
+
+def survey(left_image, right_image, calibration, peak=0, fill=0, match=match_planes):
     """The final map of disparities, the grid's cells or None, and the regions' tallies or None."""
     left = rectify(left_image, calibration.left)
     right = rectify(right_image, calibration.right)
-    costs = costs_by(calibration, left, right)
     guide = guide_of(left, left_image.maxval) if calibration.is_adaptive else None
-    sums = sums_of(costs, calibration.p1, calibration.p2, guide)
-    found = kept(disparities(sums, left, right, calibration.first), peak)
+    found, matched = match(left, right, guide, calibration)
+    found = kept(found, peak)
     if fill:
-        matched = [[match_of(row, q, calibration.first) for q in range(len(row))] for row in sums]
         found = filled(found, matched, left, calibration.first, calibration.count)
     if calibration.grid is None:
         return found, None, None
