@@ -4,7 +4,7 @@
     tests/quick_reference.py match LEFT RIGHT CALIB OUT
 
 It takes the words of `sgm` and ends as reference.py does; costs, sums and disparities alone are computed here, on whole
-rows at once, from the same definitions (test_reference.py compares the two where numpy is there). A pair of 480 x 360
+rows at once, from the same definitions (test_quick_reference.py compares the two). A pair of 480 x 360
 pixels with 64 disparities takes some five seconds, and 40 bytes for each pixel and disparity. `trace` is as slow as there.
 """
 
