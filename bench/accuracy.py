@@ -14,10 +14,11 @@ For each pair it prints a table in Markdown, a line for each way of matching: th
 that are recommended for it, fixed and following the image, then those of the first two with peaks taken out and holes
 filled. What a program doesn't know (an older one has no version 2) is left out, and said. The columns are, of the
 pixels whose truth is known: the share that has a value; the share of these values that is wrong by more than
-1 and more than 2 pixels; the median and the mean error of the values that aren't wrong by more than 1, in pixels;
-and the share that has a right value of the pixels that both cameras see, of those whose place in the right picture is
-hidden by something nearer, and of those whose place lies outside the right picture (a band at the left); and
-the shares of values wrong by more than 1 and by more than half a pixel, without that band.
+1 and more than 2 pixels; the median error of the values that aren't wrong by more than 1, in pixels; and the
+share that has a right value of the pixels that both cameras see, of those whose place in the right picture is
+hidden by something nearer, and of those whose place lies outside the right picture (a band at the left); and,
+without that band, the shares of values wrong by more than 1 and by more than half a pixel, and the mean error of the
+values that aren't wrong by more than 1.
 
 OpenCV matches the same pair with all eight directions (MODE_HH), where `import cv2` works (Debian:
 python3-opencv) and the calibration has no warp: once bare, once with what its documentation advises against
@@ -322,17 +323,18 @@ def figures(found, truth, both):
     count = numpy.count_nonzero
     made = [share(count(has_value), count(known))]
     made += [share(count(has_value & (error > most)), count(has_value)) for most in (1, 2)]
-    made += [f"{mean(error[right]):.3f}" if right.any() else "-" for mean in (numpy.median, numpy.mean)]
+    made.append(f"{numpy.median(error[right]):.3f}" if right.any() else "-")
     column = numpy.arange(truth.shape[1]) - numpy.where(known, truth, 0)
     is_inside = (column >= 0) & (column <= truth.shape[1] - 1)
     for part in (both & is_inside, ~both & is_inside, ~is_inside):
         made.append(share(count(right & part), count(known & part)))
     made += [share(count(has_value & (error > most) & is_inside), count(has_value & is_inside)) for most in (1, 0.5)]
+    made.append(f"{error[right & is_inside].mean():.3f}" if (right & is_inside).any() else "-")
     return made
 
 
-HEADS = ("Matching", "Has a value", "Wrong by > 1", "> 2", "Median error", "Mean error", "Right of seen by both", "of hidden", "of outside")
-HEADS += ("Wrong by > 1 without the outside", "> 0.5")
+HEADS = ("Matching", "Has a value", "Wrong by > 1", "> 2", "Median error", "Right of seen by both", "of hidden", "of outside")
+HEADS += ("Without the outside wrong by > 1", "> 0.5", "Mean error")
 
 
 def print_rival():

@@ -88,10 +88,10 @@ class Figures(unittest.TestCase):
         found = numpy.array([[0.25, 1, 1.5, 3, NAN, -0.5, NAN, 0, 0, 4]])
         both = numpy.array([[1, 1, 1, 1, 1, 1, 0, 0, 1, 0]], bool)
         # Nine are known, seven of these have a value: errors 0.25, 1, 1.5, 3, 0.5, 0 and 4.
-        wanted = ["77.78 %", "42.86 %", "28.57 %", "0.375", "0.438", "50.00 %", "33.33 %", "-", "42.86 %", "57.14 %"]
+        wanted = ["77.78 %", "42.86 %", "28.57 %", "0.375", "50.00 %", "33.33 %", "-", "42.86 %", "57.14 %", "0.438"]
         self.assertEqual(accuracy.figures(found, truth, both), wanted)
         nothing = numpy.full((1, 10), NAN)
-        wanted = ["0.00 %", "-", "-", "-", "-", "0.00 %", "0.00 %", "-", "-", "-"]
+        wanted = ["0.00 %", "-", "-", "-", "0.00 %", "0.00 %", "-", "-", "-", "-"]
         self.assertEqual(accuracy.figures(nothing, truth, both), wanted)
         self.assertEqual(accuracy.figures(found, nothing, both), ["-"] * 10)
 
@@ -99,10 +99,13 @@ class Figures(unittest.TestCase):
         """With a disparity of 2 the first two columns have no place in the right picture, whatever the mask says."""
         truth, both = numpy.full((1, 5), 2.0), numpy.array([[1, 0, 1, 0, 1]], bool)
         found = numpy.array([[2, NAN, 2, 2, 9]])
-        self.assertEqual(accuracy.figures(found, truth, both)[5:], ["50.00 %", "100.00 %", "50.00 %", "33.33 %", "33.33 %"])
-        self.assertEqual(accuracy.figures(found, -truth, both)[5:], ["0.00 %", "0.00 %", "0.00 %", "100.00 %", "100.00 %"])
-        found[0, 3] = 2.75
-        self.assertEqual(accuracy.figures(found, truth, both)[8:], ["33.33 %", "66.67 %"])
+        wanted = ["50.00 %", "100.00 %", "50.00 %", "33.33 %", "33.33 %", "0.000"]
+        self.assertEqual(accuracy.figures(found, truth, both)[4:], wanted)
+        wanted = ["0.00 %", "0.00 %", "0.00 %", "100.00 %", "100.00 %", "-"]
+        self.assertEqual(accuracy.figures(found, -truth, both)[4:], wanted)
+        # The error of 0.25 lies in the band, that of 0.75 doesn't.
+        found[0, 0], found[0, 3] = 2.25, 2.75
+        self.assertEqual(accuracy.figures(found, truth, both)[7:], ["33.33 %", "66.67 %", "0.375"])
 
 
 class Ways(unittest.TestCase):
@@ -175,7 +178,7 @@ class Tables(unittest.TestCase):
                 file.write(f"P5\n{samples.shape[1]} {samples.shape[0]}\n65535\n".encode() + samples.tobytes())
             files = [os.path.join(heap, name) for name in ("left.pgm", "right.pgm", "calibration.json")]
             lines, said = self.run_with(program, *files, truth)
-        wanted = "| fixed, P2 120 | 100.00 % | 0.00 % | 0.00 % | 0.000 | 0.000 | 100.00 % | - | - | 0.00 % | 0.00 % |"
+        wanted = "| fixed, P2 120 | 100.00 % | 0.00 % | 0.00 % | 0.000 | 100.00 % | - | - | 0.00 % | 0.00 % | 0.000 |"
         self.assertEqual(lines[2], wanted)
         self.assertEqual(said.count("left out"), 7)
 
