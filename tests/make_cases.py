@@ -465,7 +465,7 @@ def refusals(left, right):
     yield bad("above-maxval", l_pgm=b"P5\n16 12\n9\n" + bytes(100) + bytes([10]) * 92)
     yield bad("sizes-differ", l_pgm=b"P5\n15 12\n255\n" + bytes(180))
     yield bad("not-json", c_json="{")
-    yield bad("unknown-version", c_json=json.dumps({**calibration(), "version": 3}))
+    yield bad("unknown-version", c_json=json.dumps({**calibration(), "version": 4}))
     yield bad("unknown-name", c_json=json.dumps(calibration(extra=1)))
     first = {"first": 0, "count": 257}
     yield bad("key-missing", c_json=json.dumps({"version": 1, "disparities": {"first": 0}}))
