@@ -414,8 +414,24 @@ def tighten(draw, whole):
         holder[:] = [(key, end if key == name else value) for key, value in holder]
 
 
+def exchange(draw, whole):
+    """Says another version, or puts in, changes or takes out a key that only some versions have."""
+    if draw.chance(40):
+        whole[:] = [(key, draw.below(5) if key == "version" else value) for key, value in whole]
+        return
+    section, _, name = draw.of(list(reference_inputs.FLAGS)).partition(".")
+    holder = part_of(whole, section)
+    if isinstance(holder, Pairs):
+        holder[:] = [(key, value) for key, value in holder if key != name]
+        if draw.chance(75):
+            holder.put(name, draw.of([True, True, False, False, 0, Raw("null")]))
+
+
 def change(draw, whole):
     """Changes the calibration in one place."""
+    if draw.chance(15):
+        exchange(draw, whole)
+        return
     if draw.chance(25):
         tighten(draw, whole)
         return
