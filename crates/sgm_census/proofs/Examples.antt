@@ -2,7 +2,8 @@
 use Rattle.std.proofs.Common.{◌≡◌, true, false, [], ◌∷◌, Some, None, pos, negsuc, refl}
 use Rattle.sgm_base.specs.Values.{Values, values_of}
 use Rattle.sgm_census.specs.Windows.{WindowSides}
-use Rattle.sgm_census.specs.Codes.{Codes, less_than, window_values, code_at, code_in}
+use Rattle.sgm_lanes.specs.Middles.{middle_of}
+use Rattle.sgm_census.specs.Codes.{Codes, less_than, window_values, code_at, code_in, middle_at, smoothed_code_at}
 use Rattle.sgm_census.specs.Costs.{single_cost, census_cost}
 use Rattle.sgm_census.specs.declared.rule.CostRule.TheVariants.{Plain, Smoothed}
 
@@ -117,3 +118,27 @@ next_costs : census_cost five_left five_right (pos 0) 0 0 1 ∷ census_cost five
     ≡ 3 ∷ 4 ∷ 6 ∷ 5 ∷ 3 ∷ 4 ∷ 6 ∷ []
 unfolding census_cost single_cost code_in
 next_costs = refl
+
+-- ---- smoothed codes of these planes' values
+
+abbrev left_values : Values
+left_values = values_of 5 3 (None ∷ Some 90 ∷ Some 10 ∷ Some 50 ∷ Some 20 ∷ None ∷ Some 15 ∷ Some 70 ∷ Some 30 ∷ Some 60 ∷ None ∷ Some 80 ∷ Some 35 ∷ Some 55 ∷ Some 45 ∷ [])
+
+abbrev right_values : Values
+right_values = values_of 5 3 (Some 12 ∷ Some 52 ∷ Some 22 ∷ Some 42 ∷ Some 30 ∷ Some 68 ∷ Some 33 ∷ Some 58 ∷ Some 27 ∷ Some 40 ∷ Some 37 ∷ Some 54 ∷ Some 47 ∷ Some 63 ∷ Some 20 ∷ [])
+
+-- own values stand for what is void or outside
+middles_of_left : middle_at left_values 1 0 90 ∷ middle_at left_values 2 0 10 ∷ middle_at left_values 1 1 15 ∷ middle_at left_values 4 2 45 ∷ [] ≡ 90 ∷ 50 ∷ 70 ∷ 45 ∷ []
+unfolding middle_at middle_of
+middles_of_left = refl
+
+-- the corner of a plane, an inner pixel, and a void one
+smoothed_codes_of_left : smoothed_code_at left_values three 1 0 ∷ smoothed_code_at left_values three 2 1 ∷ smoothed_code_at left_values three 0 1 ∷ []
+    ≡ Some (false ∷ false ∷ false ∷ false ∷ true ∷ false ∷ true ∷ true ∷ []) ∷ Some (false ∷ true ∷ false ∷ true ∷ false ∷ false ∷ false ∷ false ∷ []) ∷ None ∷ []
+unfolding smoothed_code_at middle_at middle_of window_values
+smoothed_codes_of_left = refl
+
+smoothed_codes_of_right : smoothed_code_at right_values three 0 1 ∷ smoothed_code_at right_values three 3 1 ∷ []
+    ≡ Some (false ∷ true ∷ false ∷ false ∷ true ∷ false ∷ false ∷ false ∷ []) ∷ Some (true ∷ false ∷ true ∷ false ∷ true ∷ false ∷ false ∷ true ∷ []) ∷ []
+unfolding smoothed_code_at middle_at middle_of window_values
+smoothed_codes_of_right = refl
