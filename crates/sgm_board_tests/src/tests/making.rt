@@ -13,7 +13,7 @@ ghost use Rattle.sgm_board.specs.Boards.{parts_of, scene_of, passes_of, IsPassOf
 
 use sgm_base::{MAX_STRIPS, MAX_WORKERS, Plane, Size, Span};
 use sgm_board::{Board, Pass};
-use sgm_census::{CodePlane, Window, codes};
+use sgm_census::{CodePlane, CostRule, Window, codes};
 use sgm_energy::{Dir, Pen};
 use sgm_strip::{Cut, Front, Guide, Parcel, Row, Scene};
 use std::alloc::Global;
@@ -37,7 +37,12 @@ pub(super) fn plane_of(alloc: Global, row: &[u16; 5]) -> Result<Plane, Fail> {
 /// Its codes, with a window of 3 x 3.
 fn codes_of(alloc: Global, row: &[u16; 5]) -> Result<CodePlane, Fail> {
     let window = Window::make(3, 3).ok_or("window")?;
-    Ok(codes(alloc, &plane_of(alloc, row)?, window)?)
+    Ok(codes(
+        alloc,
+        &plane_of(alloc, row)?,
+        window,
+        CostRule::Plain,
+    )?)
 }
 
 /// A guide of that size, which no pen here follows.
@@ -54,8 +59,11 @@ fn are_alike(left: &CodePlane, right: &CodePlane) -> bool
     ensures width { IsTrue result → left.now.width ≡ right.now.width }
     ensures height { IsTrue result → left.now.height ≡ right.now.height }
     ensures window { IsTrue result → left.now.window ≡ right.now.window }
+    ensures rule { IsTrue result → left.now.rule ≡ right.now.rule }
 {
-    left.size() == right.size() && left.window() == right.window()
+    left.size() == right.size()
+        && left.window() == right.window()
+        && left.rule() == right.rule()
 }
 
 /// The scene of the worked example.
