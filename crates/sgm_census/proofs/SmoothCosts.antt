@@ -1,5 +1,5 @@
 -- Costs smoothed pixel by pixel along a row.
-use Rattle.std.proofs.Common.{◌≡◌, ℕ, ◌+◌, ◌-◌, ◌*◌, ◌<◌, ◌≤◌, ◌⊎◌, cond, ltb, List, ◌++◌, length, get_or, take, drop, refl, sym, ap, ◌∙◌, subst, arith, inl, inr}
+use Rattle.std.proofs.Common.{◌≡◌, ℕ, ◌+◌, ◌-◌, ◌*◌, ◌<◌, ◌≤◌, ◌⊎◌, cond, ltb, List, ◌++◌, length, get_or, take, drop, sym, ap, ◌∙◌, subst, arith, inl, inr}
 use Rattle.std.proofs.Math.Nat.{add-mul}
 use Rattle.std.proofs.lemmas.Bool.{cases_lt}
 use Rattle.std.proofs.lemmas.List.{get_or-take, get_or-drop, get_or_append_left, get_or-append_right}
@@ -19,16 +19,21 @@ pub record InThree (old front cells rest : List ℕ) (at count : ℕ) : Type 0 w
   pub cells_is : cells ≡ take count (drop at old)
   pub rest_is : rest ≡ drop count (drop at old)
 
-pub cells_at : (old front cells rest : List ℕ) (at count d : ℕ) → InThree old front cells rest at count → d < count → get_or cells d 0 ≡ get_or old (at + d) 0
+-- the parts of a list that is cut in two, and its end again
+pub cut_twice : (old front end cells rest : List ℕ) (at count : ℕ) → front ≡ take at old → length front ≡ at → end ≡ drop at old → cells ≡ take count end → rest ≡ drop count end → InThree old front cells rest at count
+cut_twice old front end cells rest at count front_is long end_is cells_is rest_is =
+    record { front_is = front_is; front_length = long; cells_is = cells_is ∙ ap (take count) end_is; rest_is = rest_is ∙ ap (drop count) end_is }
+
+cells_at : (old front cells rest : List ℕ) (at count d : ℕ) → InThree old front cells rest at count → d < count → get_or cells d 0 ≡ get_or old (at + d) 0
 cells_at old front cells rest at count d p h =
     ap (λ us. get_or us d 0) p.cells_is ∙ get_or-take count (drop at old) d 0 h ∙ get_or-drop at old d 0
 
-pub rest_at : (old front cells rest : List ℕ) (at count k : ℕ) → InThree old front cells rest at count → get_or rest k 0 ≡ get_or old (at + count + k) 0
+rest_at : (old front cells rest : List ℕ) (at count k : ℕ) → InThree old front cells rest at count → get_or rest k 0 ≡ get_or old (at + count + k) 0
 rest_at old front cells rest at count k p =
     let place : at + (count + k) ≡ at + count + k = omega arith in
     ap (λ us. get_or us k 0) p.rest_is ∙ get_or-drop count (drop at old) k 0 ∙ get_or-drop at old (count + k) 0 ∙ ap (λ n. get_or old n 0) place
 
-pub replaced_inside : (front cells rest : List ℕ) (at d : ℕ) → length front ≡ at → d < length cells → get_or (front ++ (cells ++ rest)) (at + d) 0 ≡ get_or cells d 0
+replaced_inside : (front cells rest : List ℕ) (at d : ℕ) → length front ≡ at → d < length cells → get_or (front ++ (cells ++ rest)) (at + d) 0 ≡ get_or cells d 0
 replaced_inside front cells rest at d e h =
     let place : at + d - at ≡ d = omega arith in
     get_or-append_right front (cells ++ rest) at (at + d) 0 e (omega arith) ∙ ap (λ n. get_or (cells ++ rest) n 0) place ∙ get_or_append_left cells rest 0 d h

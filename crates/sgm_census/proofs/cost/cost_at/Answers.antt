@@ -1,4 +1,4 @@
-use Rattle.std.proofs.Common.{◌≡◌, ℕ, ◌-◌, ◌+◌, cond, ltb, refl, sym, ap, ◌∙◌, arith}
+use Rattle.std.proofs.Common.{◌≡◌, ℕ, ◌-◌, ◌+◌, cond, ltb, refl, ap, ◌∙◌, arith}
 use Rattle.sgm_lanes.specs.Middles.{smoothed}
 use Rattle.sgm_base.specs.Sides.{Sides}
 use Rattle.sgm_census.specs.Costs.{single_cost}

@@ -1,4 +1,4 @@
-use Rattle.std.proofs.Common.{◌≡◌, ℕ, refl, ap, ◌∙◌, arith}
+use Rattle.std.proofs.Common.{◌≡◌, ℕ, refl, ap, ◌∙◌}
 use Rattle.sgm_base.specs.Disparities.{Disparities}
 use Rattle.sgm_base.specs.Sides.{Sides}
 use Rattle.sgm_census.specs.Costs.{single_cost}

@@ -36,7 +36,6 @@ returns-clause-most c =
     let y = c.args.y in
     let counted : c.span.inside.count ≡ count = ap (λ (s : Disparities). s.count) c.span.view_is in
     let bits : c.scale_of-scale.result.bits ≡ greatest_of left.window = c.scale_of-scale.ensures.bits ∙ ap (λ (w : WindowSides). greatest_of w) c.window.ensures in
-    let missing : c.scale_of-scale.result.missing ≡ missing_cost left.rule left.window = c.scale_of-scale.ensures.missing ∙ ap₂ missing_cost c.rule.ensures c.window.ensures in
     All-from_get_or (λ v. v ≤ 62) c.loop-x.into 0
     (each_entry (λ v. v ≤ 62) left.width count c.loop-x.into (omega arith) (omega (arith, c.span.invariant))
     (λ x d h k. omega (
@@ -56,7 +55,6 @@ cost_pixel-requires-clause-right_present c = omega arith
 pub cost_pixel-requires-clause-left_small : goal.cost_pixel-requires-clause-left_small
 cost_pixel-requires-clause-left_small c =
     let bits : c.scale_of-scale.result.bits ≡ greatest_of c.args.left.now.window = c.scale_of-scale.ensures.bits ∙ ap (λ (w : WindowSides). greatest_of w) c.window.ensures in
-    let missing : c.scale_of-scale.result.missing ≡ missing_cost c.args.left.now.rule c.args.left.now.window = c.scale_of-scale.ensures.missing ∙ ap₂ missing_cost c.rule.ensures c.window.ensures in
     subst (λ n. HoldsSmall n c.row-left.result.words.now) (sym bits) (record { within = c.row-left.ensures.within })
 
 pub cost_pixel-requires-clause-right_small : goal.cost_pixel-requires-clause-right_small
