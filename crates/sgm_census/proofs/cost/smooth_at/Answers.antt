@@ -49,12 +49,12 @@ returns-clause-small c =
     let after = rest_all P _ _ _ _ c.args.at count parts c.requires.small in
     let first : All P c.split_at_mut-rest.result.0.now = subst (All P) (sym front.front) (All-take P c.args.at c.args.costs.now c.requires.small) in
     let new : All P c.smooth.new.cells = All-from_get_or P c.smooth.new.cells 0
-        (λ k h. omega (
-          arith,
-          c.smooth.ensures.each k h,
-          c.requires.before_small k 0 (omega arith),
-          cells k 0 (omega arith),
-          get_or-take count c.split_at_mut-cells.result.1.now k 0 (omega arith),
-          after k 0 (omega (arith, back.back_len, front.back_len)),
-        )) in
+    (λ k h. omega (
+      arith,
+      c.smooth.ensures.each k h,
+      c.requires.before_small k 0 (omega arith),
+      cells k 0 (omega arith),
+      get_or-take count c.split_at_mut-cells.result.1.now k 0 (omega arith),
+      after k 0 (omega (arith, back.back_len, front.back_len)),
+    )) in
     All-append P c.split_at_mut-rest.result.0.now _ first (All-append P c.smooth.new.cells c.split_at_mut-cells.result.1.now new after)
