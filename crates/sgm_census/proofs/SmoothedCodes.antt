@@ -1,10 +1,10 @@
 -- Codes of the smoothed rule, and of either rule.
-use Rattle.std.proofs.Common.{◌≡◌, ℕ, zero, suc, ◌+◌, ◌-◌, ◌*◌, ◌/◌, ◌^◌, ◌<◌, ◌≤◌, Bool, true, false, cond, ltb, List, [], ◌∷◌, ◌++◌, map, length, take, drop, get_or, slice_index, Option, Some, None, is_some, unwrap_or, option_map, refl, sym, ap, ◌∙◌, arith, length-append}
+use Rattle.std.proofs.Common.{◌≡◌, ℕ, zero, suc, ◌+◌, ◌-◌, ◌*◌, ◌/◌, ◌^◌, ◌<◌, Bool, true, false, cond, ltb, List, [], ◌∷◌, ◌++◌, map, length, take, drop, get_or, slice_index, Option, Some, None, is_some, unwrap_or, option_map, refl, sym, ap, ◌∙◌, arith, length-append}
 use Rattle.std.specs.List.{list_all, remove}
 use Rattle.std.proofs.lemmas.List.{length-map, length-take, length-drop, map-append, take-map, drop-map}
 use Rattle.sgm_base.specs.Values.{Values, IsValues, value_at}
 use Rattle.sgm_census.specs.Windows.{WindowSides, IsWindow, greatest_of}
-use Rattle.sgm_census.specs.Codes.{code_at, code_by, middle_at, neighbours, smoothed_code_at, window_values}
+use Rattle.sgm_census.specs.Codes.{code_by, middle_at, neighbours, smoothed_code_at, window_values}
 use Rattle.sgm_census.specs.declared.rule.CostRule.{CostRule}
 use Rattle.sgm_census.specs.declared.rule.CostRule.TheVariants.{Plain, Smoothed}
 use Rattle.sgm_census.specs.Packed.{all_in, bits_of, in_rows, lesser, pushed, unpacked, without, word_to}

@@ -1,5 +1,5 @@
 -- Rows of smoothed codes and their middles.
-use Rattle.std.proofs.Common.{◌≡◌, ◌≢◌, ℕ, ◌+◌, ◌-◌, ◌*◌, ◌/◌, ◌^◌, ◌<◌, ◌≤◌, Bool, true, false, cond, not, ltb, List, ◌++◌, map, length, take, drop, get_or, slice_index, Option, Some, None, is_some, unwrap_or, refl, sym, ap, ◌∙◌, subst, arith, inl, inr}
+use Rattle.std.proofs.Common.{◌≡◌, ◌≢◌, ℕ, ◌+◌, ◌-◌, ◌*◌, ◌/◌, ◌^◌, ◌<◌, ◌≤◌, Bool, true, false, List, map, length, take, drop, get_or, slice_index, Option, Some, None, is_some, unwrap_or, refl, sym, ap, ◌∙◌, subst, arith, inl, inr}
 use Rattle.std.specs.List.{flat_map, list_all, range_with_len}
 use Rattle.std.proofs.Math.Nat.{mul_comm, mul-le-mul_left, mul-le-mul_right, pow-le-pow_right}
 use Rattle.std.proofs.lemmas.Bool.{cases_lt}
@@ -7,14 +7,14 @@ use Rattle.std.proofs.lemmas.Grind.{pow_more}
 use Rattle.std.proofs.lemmas.List.{get_or_past, get_or-map, length-drop, length-take}
 use Rattle.std.proofs.lemmas.List.Folds.{list_all_at}
 use Rattle.std.proofs.lemmas.List.FromFn.{length-map-range_with_len}
-use Rattle.std.proofs.lemmas.Nat.{mul-add-lt, pow_pos, row_fits}
+use Rattle.std.proofs.lemmas.Nat.{mul-add-lt, row_fits}
 use Rattle.std.proofs.lemmas.Simd.{map-map}
 use Rattle.sgm_base.specs.Values.{Values, IsValues, value_at}
 use Rattle.sgm_lanes.specs.Middles.{middle_of}
 use Rattle.sgm_census.specs.Windows.{WindowSides, IsWindow, greatest_of}
 use Rattle.sgm_census.specs.Codes.{middle_at, three_by_three, value_near, window_values}
-use Rattle.sgm_census.specs.Packed.{pushed, unpacked, without, word_place, HoldsPlain}
-use Rattle.sgm_census.specs.Smoothing.{HasMiddles, word_by}
+use Rattle.sgm_census.specs.Packed.{pushed, unpacked, without, word_place}
+use Rattle.sgm_census.specs.Smoothing.{word_by}
 use Rattle.sgm_census.proofs.Bits.{pushed_below}
 use Rattle.sgm_census.proofs.CodeLists.{part_at}
 use Rattle.sgm_census.proofs.CodeRows.{HoldsRows, IsWritten, unpacked-is}

@@ -1,4 +1,4 @@
-use Rattle.std.proofs.Common.{ℕ, ◌*◌, ◌^◌, ◌<◌, List, Bool, ap, ◌∙◌, arith, get_or, length, subst, sym, ◌≡◌}
+use Rattle.std.proofs.Common.{ℕ, ◌*◌, ◌^◌, ◌<◌, List, Bool, ap, ◌∙◌, arith, get_or, length, subst, sym}
 use Rattle.std.proofs.lemmas.List.{with_items_is}
 use Rattle.std.specs.Vec.{with_items}
 use Rattle.sgm_base.specs.Sides.{IsSide}

@@ -1,9 +1,8 @@
-use Rattle.std.proofs.Common.{◌≡◌, ℕ, ◌+◌, ◌-◌, ◌*◌, ◌/◌, ◌^◌, ◌≤◌, List, ap, ◌∙◌, arith, drop, length, slice_index, subst, sym, take}
+use Rattle.std.proofs.Common.{◌≡◌, ℕ, ◌+◌, ◌-◌, ◌*◌, ◌^◌, ◌≤◌, List, ap, ◌∙◌, arith, drop, length, slice_index, subst, sym, take}
 use Rattle.std.proofs.lemmas.List.{length-take}
 use Rattle.std.specs.List.{flat_map, range_with_len}
-use Rattle.sgm_census.specs.Windows.{WindowSides, IsWindow}
-use Rattle.sgm_census.specs.Packed.{centre_in, lesser, pushed}
-use Rattle.sgm_census.proofs.CodeLists.{part_at}
+use Rattle.sgm_census.specs.Windows.{WindowSides}
+use Rattle.sgm_census.specs.Packed.{lesser, pushed}
 use Rattle.sgm_census.proofs.RowBits.{ends_in, words_more, words_room, words_small}
 use Rattle.sgm_census.proofs.pack.window_words.Goals as goal
 

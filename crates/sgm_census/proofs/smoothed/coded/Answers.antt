@@ -1,6 +1,5 @@
-use Rattle.std.proofs.Common.{◌≡◌, ℕ, Some, ap, ◌∙◌, arith, option_map, subst, sym}
+use Rattle.std.proofs.Common.{◌≡◌, Some, ap, ◌∙◌, arith, option_map, subst, sym}
 use Rattle.sgm_base.specs.Values.{value_at}
-use Rattle.sgm_census.specs.Codes.{middle_at}
 use Rattle.sgm_census.specs.Packed.{bits_of}
 use Rattle.sgm_census.specs.Smoothing.{word_by}
 use Rattle.sgm_census.specs.Windows.{WindowSides, IsWindow, greatest_of}

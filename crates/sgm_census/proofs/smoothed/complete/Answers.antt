@@ -1,6 +1,6 @@
 use Rattle.std.proofs.Common.{◌≡◌, ℕ, ◌+◌, ◌-◌, ◌^◌, ◌<◌, ◌∙◌, sym, ap, arith, false, get_or, subst, length, slice_index}
 use Rattle.sgm_census.specs.Codes.{smoothed_code_at}
-use Rattle.sgm_census.specs.Packed.{bits_of, unpacked}
+use Rattle.sgm_census.specs.Packed.{unpacked}
 use Rattle.sgm_census.specs.Windows.{greatest_of}
 use Rattle.sgm_census.proofs.SmoothedRows.{CompletedTo, completed_kept, completed_put}
 use Rattle.sgm_census.proofs.smoothed.complete.Goals.{then-not-present-place, else-not-present-place}

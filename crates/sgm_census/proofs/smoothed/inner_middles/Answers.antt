@@ -1,4 +1,4 @@
-use Rattle.std.proofs.Common.{◌≡◌, ℕ, ◌+◌, ◌-◌, ◌*◌, ◌<◌, ◌++◌, ap, ◌∙◌, arith, drop, get_or, length, slice_index, take}
+use Rattle.std.proofs.Common.{◌≡◌, ◌+◌, ◌-◌, ◌*◌, ◌<◌, ◌++◌, ap, ◌∙◌, arith, get_or, length, slice_index}
 use Rattle.std.proofs.lemmas.List.{get_or_append_left, get_or-append_right}
 use Rattle.sgm_census.proofs.CodeLists.{part_at}
 use Rattle.sgm_census.proofs.SmoothedRows.{middle_of-same}

@@ -1,4 +1,4 @@
-use Rattle.std.proofs.Common.{◌≡◌, ℕ, ◌*◌, ◌/◌, ap, ◌∙◌, arith, subst, sym}
+use Rattle.std.proofs.Common.{◌≡◌, ◌*◌, ◌/◌, ap, ◌∙◌, arith, subst, sym}
 use Rattle.std.specs.List.{flat_map, range_with_len}
 use Rattle.sgm_census.specs.Packed.{pushed}
 use Rattle.sgm_census.specs.Windows.{WindowSides, IsWindow}

@@ -1,4 +1,4 @@
-use Rattle.std.proofs.Common.{◌≡◌, ℕ, ltb, map, unwrap_or}
+use Rattle.std.proofs.Common.{◌≡◌, ltb, map, unwrap_or}
 use Rattle.std.specs.List.{flat_map, range_with_len}
 use Rattle.sgm_census.specs.Codes.{value_near}
 use Rattle.sgm_census.specs.Packed.{pushed}

@@ -1,4 +1,4 @@
-use Rattle.std.proofs.Common.{◌≡◌, ℕ, ◌+◌, ◌*◌, ◌≤◌, ◌^◌, ap, ◌∙◌, arith, ltb, map, subst, sym, unwrap_or}
+use Rattle.std.proofs.Common.{◌≡◌, ℕ, ◌+◌, ◌*◌, ap, ◌∙◌, arith, ltb, map, sym, unwrap_or}
 use Rattle.std.specs.Int.{from_bool}
 use Rattle.std.specs.List.{range_with_len}
 use Rattle.std.proofs.lemmas.List.FromFn.{length-map-range_with_len, map-range_with_len_more}
@@ -6,7 +6,7 @@ use Rattle.sgm_census.specs.Codes.{value_near}
 use Rattle.sgm_census.specs.Packed.{pushed}
 use Rattle.sgm_census.specs.Windows.{WindowSides}
 use Rattle.sgm_census.proofs.LessThan.{pushed-push}
-use Rattle.sgm_census.proofs.SmoothedRows.{near_room, near_row}
+use Rattle.sgm_census.proofs.SmoothedRows.{near_room}
 use Rattle.sgm_census.proofs.SmoothedCodes.{is_lower}
 use Rattle.sgm_census.proofs.Threes.{bit_small}
 use Rattle.sgm_census.proofs.smoothed.push_near.Goals as goal

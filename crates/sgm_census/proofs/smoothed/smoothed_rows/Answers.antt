@@ -1,12 +1,11 @@
-use Rattle.std.proofs.Common.{◌≡◌, ℕ, ◌-◌, ◌*◌, ◌/◌, ◌^◌, ◌<◌, ◌≤◌, ◌++◌, Bool, List, Some, false, true, is_some, ap, ◌∙◌, arith, drop, get_or, length, slice_index, subst, sym, take}
+use Rattle.std.proofs.Common.{◌≡◌, ◌-◌, ◌*◌, ◌/◌, ◌^◌, ◌<◌, ◌++◌, false, is_some, ap, ◌∙◌, arith, drop, get_or, length, slice_index, subst, sym, take}
 use Rattle.std.proofs.lemmas.List.{length-map}
 use Rattle.std.proofs.lemmas.Nat.{pow_pos}
-use Rattle.sgm_base.specs.Values.{Values, value_at}
-use Rattle.sgm_census.specs.Codes.{middle_at, smoothed_code_at}
-use Rattle.sgm_census.specs.Packed.{all_in, unpacked, word_to}
+use Rattle.sgm_census.specs.Codes.{smoothed_code_at}
+use Rattle.sgm_census.specs.Packed.{all_in, word_to}
 use Rattle.sgm_census.specs.Windows.{WindowSides, IsWindow, greatest_of}
 use Rattle.sgm_census.proofs.CodeLists.{part_small}
-use Rattle.sgm_census.proofs.CodeRows.{HoldsRows, IsWritten, written}
+use Rattle.sgm_census.proofs.CodeRows.{IsWritten, written}
 use Rattle.sgm_census.proofs.InWindow.{Fits}
 use Rattle.sgm_census.proofs.PlainCodes.{plain}
 use Rattle.sgm_census.proofs.SmoothedCodes.{unpacked-whole}
