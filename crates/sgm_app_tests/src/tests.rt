@@ -7,5 +7,6 @@ mod outputs;
 mod pairs;
 mod recording;
 mod refusals;
+mod stops;
 mod trips;
 mod workers;
