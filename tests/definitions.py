@@ -346,7 +346,7 @@ def places_of(pixels, width):
 
 
 def refinement(draw):
-    """Segments and what is kept of a map, what is met from a pixel, and what is filled in."""
+    """Segments and what is kept of a map, what is met from a pixel, also by rank, and what is filled in."""
     page = Page(
         "refinement",
         {
@@ -380,7 +380,10 @@ def refinement(draw):
         width, height = len(found[0]), len(found)
         matches = plane_of([[None if d is None else 16 * d for d in line] for line in matched])
         for y, x in itertools.product(range(height), range(width)):
-            page.holds(f"met {plane_of(found)} (pixel_at {x} {y})", listed(matching.met(found, x, y)))
+            in_turn, in_order = matching.met_in_turn(found, x, y), matching.met(found, x, y)
+            page.holds(f"met {plane_of(found)} (pixel_at {x} {y})", listed(in_turn))
+            for number, value in enumerate([*in_order, None]):
+                page.holds(f"ranked {listed(in_turn)} {number}", option(value))
             answer = matching.is_mismatched(matched[y], x, first, count)
             page.holds(f"is_mismatched {matches} {whole(first)} {count} (pixel_at {x} {y})", truth(answer))
         rest = f"{matches} {plane_of(left)} {whole(first)} {count}"

@@ -303,8 +303,8 @@ def kept(found, least):
     return made
 
 
-def met(found, x, y):
-    """The first disparity against each of the eight directions, where there is one before the picture's end, sorted."""
+def met_in_turn(found, x, y):
+    """The first disparity against each of the eight directions, where there is one before the picture's end."""
     values = []
     for dx, dy in DIRECTIONS:
         i, j = x - dx, y - dy
@@ -312,7 +312,12 @@ def met(found, x, y):
             i, j = i - dx, j - dy
         if 0 <= j < len(found) and 0 <= i < len(found[0]):
             values.append(found[j][i])
-    return sorted(values)
+    return values
+
+
+def met(found, x, y):
+    """The same, the least first."""
+    return sorted(met_in_turn(found, x, y))
 
 
 def is_mismatched(matched_row, x, first, count):

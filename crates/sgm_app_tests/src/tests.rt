@@ -6,5 +6,6 @@ pub(crate) mod fixtures;
 mod outputs;
 mod pairs;
 mod refusals;
+mod stops;
 mod trips;
 mod workers;
