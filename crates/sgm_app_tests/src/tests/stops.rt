@@ -3,8 +3,8 @@
 
 use super::ended::run_line;
 use super::fixtures::example;
-use super::recording::RecordingShelf;
 use sgm_io::{MemoryShelf, MemorySink, Trip};
+use sgm_recorders::RecordingShelf;
 use sgm_work::OpenGate;
 use std::alloc::{AllocError, Global};
 use std::cell::RefCell;
