@@ -48,10 +48,6 @@ fn a_front_waits_for_its_next_strip(rt: HostRuntime) -> Result<(), Fail> {
     Ok(())
 }
 
-const fn claim(strip: u32) -> Event {
-    Event::Claim { worker: 7, strip }
-}
-
 const TAKE: Event = Event::Take {
     worker: 7,
     dir: Dir::Down,
@@ -66,15 +62,24 @@ const RETURN: Event = Event::Return { worker: 7 };
 
 /// One worker takes the front that goes down through three strips, and then once more.
 const ALL_DOWN: [Event; 13] = [
-    claim(0),
+    Event::Claim {
+        worker: 7,
+        strip: 0,
+    },
     TAKE,
     PUT,
     RETURN,
-    claim(1),
+    Event::Claim {
+        worker: 7,
+        strip: 1,
+    },
     TAKE,
     PUT,
     RETURN,
-    claim(2),
+    Event::Claim {
+        worker: 7,
+        strip: 2,
+    },
     TAKE,
     PUT,
     RETURN,
