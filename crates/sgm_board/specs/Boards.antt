@@ -5,8 +5,7 @@ use Rattle.sgm_energy.specs.declared.dir.Dir.{Dir}
 use Rattle.sgm_strip.specs.Cuts.{CutParts}
 use Rattle.sgm_strip.specs.Scenes.{SceneParts}
 use Rattle.sgm_strip.specs.Parcels.{ParcelParts, IsOf, is_done}
-use Rattle.sgm_strip.specs.Fronts.{FrontParts}
-use Rattle.sgm_strip.specs.declared.front.Visit.{Visit}
+use Rattle.sgm_strip.specs.Fronts.{FrontParts, visit_of}
 use Rattle.sgm_board.specs.Plans.{about_of}
 use Rattle.sgm_board.specs.Passes.{PassParts, parts_of_view, new_pass}
 use Rattle.sgm_board.specs.declared.pass.Pass.{Pass}
@@ -61,6 +60,6 @@ pub record IsHeld (board : Board) (p : PassParts) (parcel : ParcelParts) : Type 
 abbrev pub IsFrontOn : Board → FrontParts → Type 0
 IsFrontOn board front = (front.scene ≡ scene_of board) × (front.cut ≡ cut_of board)
 
--- the front went through this strip last
-abbrev pub IsLastAt : FrontParts → ℕ → Type 0
-IsLastAt front strip = (visit : Visit) × (slice_get front.visits (length front.visits - 1) ≡ Some visit) × (visit.strip ≡ strip)
+-- the front went through this strip last, with this worker
+abbrev pub IsLastBy : FrontParts → ℕ → ℕ → Type 0
+IsLastBy front strip worker = slice_get front.visits (length front.visits - 1) ≡ Some (visit_of strip worker)

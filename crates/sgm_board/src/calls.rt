@@ -7,7 +7,7 @@ ghost use Rattle.sgm_board.specs.Words.{dir_word, strip_word};
 ghost use Rattle.sgm_board.specs.Passes.{after_look, after_claim, after_return, after_try};
 ghost use Rattle.sgm_board.specs.Passes.{after_take, after_put, HasReadAll, HasJoined};
 ghost use Rattle.sgm_board.specs.Boards.{parts_of, scene_of, cut_of, strips_of};
-ghost use Rattle.sgm_board.specs.Boards.{IsPassOf, IsIdle, IsHeld, IsFrontOn, IsLastAt};
+ghost use Rattle.sgm_board.specs.Boards.{IsPassOf, IsIdle, IsHeld, IsFrontOn, IsLastBy};
 
 use crate::board::Board;
 use crate::pass::Pass;
@@ -69,13 +69,15 @@ impl Board {
         steps::take(&self.table.shared, &mut pass.seat, dir, strip, strips)
     }
 
-    /// Puts back a front that went through the strip held. It can't fail.
+    /// Puts back a front that went through the strip held, its visit signed with the number of the pass. It
+    /// can't fail.
     pub fn put(&self, pass: &mut Pass, parcel: &Parcel, front: Front)
         requires own { IsPassOf self.now pass.old }
         requires has_it { (parts_of pass.old).front ≡ Some front.dir }
         requires held { (parts_of pass.old).strip ≡ Some parcel.now.strip }
         requires parcel { IsOf (scene_of self.now) (cut_of self.now) parcel.now }
-        requires front { IsFrontOn self.now front × IsLastAt front parcel.now.strip }
+        requires front { IsFrontOn self.now front }
+        requires visit { IsLastBy front parcel.now.strip (parts_of pass.old).number }
         requires done { is_done parcel.now.done front.dir ≡ true }
         ensures own { IsPassOf self.now pass.new }
         ensures put { let was = 2 * position_of front.dir parcel.now.strip (strips_of self.now) + 1 in

@@ -47,3 +47,48 @@ fn a_front_waits_for_its_next_strip(rt: HostRuntime) -> Result<(), Fail> {
     assert!(rt; machine.holders.as_slice() == [None, Some(0), None].as_slice());
     Ok(())
 }
+
+const fn claim(strip: u32) -> Event {
+    Event::Claim { worker: 7, strip }
+}
+
+const TAKE: Event = Event::Take {
+    worker: 7,
+    dir: Dir::Down,
+};
+
+const PUT: Event = Event::Put {
+    worker: 7,
+    dir: Dir::Down,
+};
+
+const RETURN: Event = Event::Return { worker: 7 };
+
+/// One worker takes the front that goes down through three strips, and then once more.
+const ALL_DOWN: [Event; 13] = [
+    claim(0),
+    TAKE,
+    PUT,
+    RETURN,
+    claim(1),
+    TAKE,
+    PUT,
+    RETURN,
+    claim(2),
+    TAKE,
+    PUT,
+    RETURN,
+    TAKE,
+];
+
+#[test]
+fn a_front_goes_through_all_strips(rt: HostRuntime) -> Result<(), Fail> {
+    let machine = replay(rt.alloc(), 3, &ALL_DOWN[..12])?;
+    assert!(rt; machine.passed == [3, 0, 0, 0, 0, 0]);
+    assert!(rt; machine.holders.as_slice() == [None, None, None].as_slice());
+    match replay(rt.alloc(), 3, &ALL_DOWN) {
+        Ok(_) => panic!(rt; "nothing is held at the end"),
+        Err(error) => assert!(rt; error == ReplayError::Illegal { at: 12 }),
+    }
+    Ok(())
+}

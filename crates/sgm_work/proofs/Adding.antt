@@ -12,7 +12,7 @@ use Rattle.sgm_strip.specs.Fronts.{FrontParts, visit_of}
 use Rattle.sgm_strip.specs.declared.front.Visit.{Visit}
 use Rattle.sgm_board.specs.Words.{dir_word, strip_word}
 use Rattle.sgm_board.specs.Passes.{PassParts, after_look, after_put, after_return, after_take, after_try}
-use Rattle.sgm_board.specs.Boards.{IsHeld, IsLastAt}
+use Rattle.sgm_board.specs.Boards.{IsHeld, IsLastBy}
 use Rattle.sgm_board.specs.declared.board.Board.{Board}
 use Rattle.sgm_work.specs.Tries.{HasTried, HasTriedFirst}
 use Rattle.sgm_work.proofs.Ending.{at_one, one_place}
@@ -87,15 +87,12 @@ held_put board p q old new dir held strip shown is on = record {
   ];
 }
 
-pub last_at : (front : FrontParts) (visits : List Visit) (strip worker : ℕ) → front.visits ≡ visits ++ visit_of strip worker ∷ [] → IsLastAt front strip
-last_at front visits strip worker is =
+pub last_by : (front : FrontParts) (visits : List Visit) (strip worker : ℕ) → front.visits ≡ visits ++ visit_of strip worker ∷ [] → IsLastBy front strip worker
+last_by front visits strip worker is =
     let visit = visit_of strip worker in
-    let long = length_push visits visit in (
-      visit,
-      ap (λ (v : List Visit). slice_get v (length v - 1)) is ∙ slice_get-get_or (visits ++ visit ∷ []) (length (visits ++ visit ∷ []) - 1) visit (omega (arith, long))
-          ∙ ap (λ (v : Visit). Some v) (get_or_push visits visit visit (length (visits ++ visit ∷ []) - 1) (omega (arith, long))),
-      refl,
-    )
+    let long = length_push visits visit in
+    ap (λ (v : List Visit). slice_get v (length v - 1)) is ∙ slice_get-get_or (visits ++ visit ∷ []) (length (visits ++ visit ∷ []) - 1) visit (omega (arith, long))
+    ∙ ap (λ (v : Visit). Some v) (get_or_push visits visit visit (length (visits ++ visit ∷ []) - 1) (omega (arith, long)))
 
 -- ---- the tries at one strip
 

@@ -9,7 +9,7 @@ mod scanning;
 mod working;
 
 pub use finishing::{CALLER, finish};
-pub use gate::{Gate, OpenGate};
+pub use gate::{Came, Gate, OpenGate, come};
 pub use matching::{Matched, match_all};
 pub use scanning::scan;
 pub use working::work;

@@ -6,7 +6,7 @@ ghost use Rattle.sgm_board.specs.Boards.{parts_of, scene_of, strips_of, IsPassOf
 ghost use Rattle.sgm_work.specs.Tries.{HasTried, HasTriedFirst, HasVisited};
 ghost use Rattle.sgm_work.specs.Worked.{IsSamePass, LooksMore, TriesWhatItClaims};
 
-use crate::gate::Gate;
+use crate::gate::{Came, Gate, come};
 use sgm_board::{Board, Pass};
 use sgm_energy::Dir;
 use sgm_strip::{Parcel, Row, pass as go_through};
@@ -26,9 +26,18 @@ pub(crate) fn dir_of(front: usize) -> Dir
     dir
 }
 
-/// Tries to take the front of a direction at the strip held, and passes it on if it comes. Answers how
-/// many were passed on.
-fn hand_on(board: &Board, pass: &mut Pass, parcel: &mut Parcel, spare: &mut Row, dir: Dir) -> u32
+/// Tries to take the front of a direction at the strip held, with which the worker came to the gate, and
+/// passes it on if it comes. Answers how many were passed on.
+fn hand_on<G>(
+    board: &Board,
+    pass: &mut Pass,
+    parcel: &mut Parcel,
+    spare: &mut Row,
+    dir: Dir,
+    came: &Came<G>,
+) -> u32
+    requires worker { came.now.worker ≡ (parts_of pass.old).number }
+    requires strip { came.now.task ≡ parcel.old.strip }
     requires own { IsPassOf board.now pass.old }
     requires bare { (parts_of pass.old).front ≡ None }
     requires parcel { IsHeld board.now (parts_of pass.old) parcel.old }
@@ -45,13 +54,12 @@ fn hand_on(board: &Board, pass: &mut Pass, parcel: &mut Parcel, spare: &mut Row,
     let Some(mut front) = board.try_take(pass, parcel, dir) else {
         return 0;
     };
-    let worker = pass.number();
-    go_through(parcel, &mut front, spare, worker);
+    go_through(parcel, &mut front, spare, came.worker());
     board.put(pass, parcel, front);
     1
 }
 
-/// Tries each direction at the strip held, and gives the strip back.
+/// Comes to the gate with the strip held, tries each direction there, and gives the strip back.
 fn serve<G: Gate>(
     board: &Board,
     pass: &mut Pass,
@@ -69,10 +77,10 @@ fn serve<G: Gate>(
     ensures few { result ≤ 6 }
     ensures tried { HasTriedFirst parcel.strip 6 result (parts_of pass.old) (parts_of pass.new) }
 {
-    gate.at(pass.number(), parcel.strip());
+    let came = come(gate, pass.number(), parcel.strip());
     let mut handed = 0;
     for front in 0..FRONTS {
-        handed += hand_on(board, pass, &mut parcel, spare, dir_of(front));
+        handed += hand_on(board, pass, &mut parcel, spare, dir_of(front), &came);
     }
     board.give_back(pass, parcel);
     handed

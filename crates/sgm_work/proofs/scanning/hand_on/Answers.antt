@@ -1,16 +1,16 @@
-use Rattle.std.proofs.Common.{◌≡◌, ◌+◌, ◌*◌, ◌∙◌, sym, ap, subst, Some}
+use Rattle.std.proofs.Common.{◌≡◌, ◌+◌, ◌*◌, ◌∙◌, [], ◌∷◌, ◌++◌, sym, ap, subst, Some}
 use Rattle.sgm_energy.specs.declared.dir.Dir.{Dir}
 use Rattle.sgm_energy.specs.Dirs.{position_of}
-use Rattle.sgm_strip.specs.Fronts.{FrontParts}
+use Rattle.sgm_strip.specs.Fronts.{FrontParts, visit_of}
 use Rattle.sgm_strip.specs.Parcels.{ParcelParts, is_done, parcel_of, with_done}
 use Rattle.sgm_board.specs.Words.{dir_word}
 use Rattle.sgm_board.specs.Passes.{PassParts, after_look, after_put}
 use Rattle.sgm_board.specs.Boards.{parts_of, strips_of}
-use Rattle.sgm_work.proofs.Adding.{held_put, last_at, tried_none, tried_some}
+use Rattle.sgm_work.proofs.Adding.{held_put, last_by, tried_none, tried_some}
 use Rattle.sgm_work.proofs.scanning.hand_on.Goals as goal
 
 pub returns-in_default-clause-parcel : goal.returns-in_default-clause-parcel
-returns-in_default-clause-parcel c =
+returns-in_default-clause-parcel g c =
     let looked = c.in_default.ensures.none.2 in
     record {
       of_board = c.requires.parcel.of_board;
@@ -19,19 +19,23 @@ returns-in_default-clause-parcel c =
     }
 
 pub returns-in_default-clause-tried : goal.returns-in_default-clause-tried
-returns-in_default-clause-tried c = let none = c.in_default.ensures.none in tried_none (parts_of c.args.pass.now) c.args.parcel.now.strip c.args.dir none.0 _ none.2
+returns-in_default-clause-tried g c = let none = c.in_default.ensures.none in tried_none (parts_of c.args.pass.now) c.args.parcel.now.strip c.args.dir none.0 _ none.2
 
 pub put-requires-clause-front : goal.put-requires-clause-front
-put-requires-clause-front c =
+put-requires-clause-front g c =
     let is = c.pass.ensures.front in
-    let on = c.in-Some.ensures.front.0 in (
-      (ap (λ (f : FrontParts). f.scene) is ∙ on.0, ap (λ (f : FrontParts). f.cut) is ∙ on.1),
-      last_at c.pass.new.front c.in-Some.front.visits c.pass.new.parcel.strip c.number-worker.result
-          (ap (λ (f : FrontParts). f.visits) is ∙ ap (λ n. Rattle.std.proofs.Common.◌++◌ c.in-Some.front.visits (Rattle.std.proofs.Common.◌∷◌ (Rattle.sgm_strip.specs.Fronts.visit_of n c.number-worker.result) Rattle.std.proofs.Common.[])) (sym (ap (λ (p : ParcelParts). p.strip) c.pass.ensures.parcel))),
-    )
+    let on = c.in-Some.ensures.front.0 in
+    (ap (λ (f : FrontParts). f.scene) is ∙ on.0, ap (λ (f : FrontParts). f.cut) is ∙ on.1)
+
+pub put-requires-clause-visit : goal.put-requires-clause-visit
+put-requires-clause-visit g c =
+    let strip = ap (λ (p : ParcelParts). p.strip) c.pass.ensures.parcel in
+    let number : c.worker.result ≡ (parts_of c.try_take.new.pass).number = c.worker.ensures ∙ c.requires.worker ∙ sym (ap (λ (p : PassParts). p.number) c.in-Some.ensures.some) in
+    last_by c.pass.new.front c.in-Some.front.visits c.pass.new.parcel.strip (parts_of c.try_take.new.pass).number
+    (ap (λ (f : FrontParts). f.visits) c.pass.ensures.front ∙ (λ i. c.in-Some.front.visits ++ visit_of (sym strip i) (number i) ∷ []))
 
 pub returns-clause-parcel : goal.returns-clause-parcel
-returns-clause-parcel c =
+returns-clause-parcel g c =
     let dir = c.in-Some.front.dir in
     let same : c.pass.new.front.dir ≡ dir = ap (λ (f : FrontParts). f.dir) c.pass.ensures.front in
     let put = c.put.ensures.put in
@@ -43,7 +47,7 @@ returns-clause-parcel c =
     (subst (λ d. is_done c.pass.new.parcel.done d ≡ Rattle.std.proofs.Common.true) (sym same) c.pass.ensures.done)
 
 pub returns-clause-tried : goal.returns-clause-tried
-returns-clause-tried c =
+returns-clause-tried g c =
     let same : c.pass.new.front.dir ≡ c.args.dir = ap (λ (f : FrontParts). f.dir) c.pass.ensures.front ∙ c.in-Some.ensures.front.1 in
     tried_some (parts_of c.args.pass.now) c.args.parcel.now.strip c.args.dir _ (2 * position_of c.pass.new.front.dir c.pass.new.parcel.strip (strips_of c.args.board.now) + 1) (parts_of c.try_take.new.pass) (parts_of c.put.new.pass) c.in-Some.ensures.some
     (c.put.ensures.put ∙ ap (λ (d : Dir). after_put (after_look (parts_of c.try_take.new.pass) (dir_word d) (2 * position_of c.pass.new.front.dir c.pass.new.parcel.strip (strips_of c.args.board.now) + 1)) d) same)

@@ -5,7 +5,7 @@ use Rattle.sgm_work.proofs.Adding.{first_more, first_none, first_returned}
 use Rattle.sgm_work.proofs.scanning.serve.Goals as goal
 
 pub loop-front-init : goal.loop-front-init
-loop-front-init g c = record { own = c.requires.own; bare = c.requires.bare; held = c.requires.parcel; same = refl; spare = refl; few = omega arith; tried = first_none c.args.parcel.strip (parts_of c.args.pass.now) }
+loop-front-init g c = record { own = c.requires.own; bare = c.requires.bare; held = c.requires.parcel; same = refl; number = refl; spare = refl; few = omega arith; tried = first_none c.args.parcel.strip (parts_of c.args.pass.now) }
 
 pub loop-front-preserved : goal.loop-front-preserved
 loop-front-preserved g c = let inv = c.loop-front.invariant in let did = c.hand_on-handed.ensures in record {
@@ -13,6 +13,7 @@ loop-front-preserved g c = let inv = c.loop-front.invariant in let did = c.hand_
   bare = did.bare;
   held = did.parcel;
   same = did.strip ∙ inv.same;
+  number = did.tried.same.same_number ∙ inv.number;
   spare = did.spare ∙ inv.spare;
   few = omega (arith, did.few, inv.few);
   tried = first_more c.args.parcel.strip c.loop-front.front c.loop-front.handed c.hand_on-handed.result c.dir_of.result _ _ _ inv.tried

@@ -10,6 +10,7 @@ invariant-loop-front g l = record {
   bare : (parts_of l.pass).front ≡ None;
   held : IsHeld l.board (parts_of l.pass) l.parcel;
   same : l.parcel.strip ≡ l.fn.parcel.strip;
+  number : (parts_of l.pass).number ≡ (parts_of l.fn.pass).number;
   spare : l.spare ≡ l.fn.spare;
   few : l.handed ≤ l.front;
   tried : HasTriedFirst l.fn.parcel.strip l.front l.handed (parts_of l.fn.pass) (parts_of l.pass);

@@ -6,6 +6,7 @@ use Rattle.sgm_board.specs.Views as view
 use Rattle.sgm_board.specs.Views.{IsLive}
 use Rattle.sgm_board.specs.Pockets.{ReadsAll, pocket}
 use Rattle.sgm_board.specs.Passes.{parts_of_view, after_look, after_put}
+use Rattle.sgm_board.specs.Boards.{parts_of}
 use Rattle.sgm_board.proofs.Parts.{parts-look, parts-put}
 use Rattle.sgm_board.proofs.Visits.{length-visits}
 use Rattle.sgm_board.proofs.board.Board.put.Goals as goal
@@ -15,13 +16,13 @@ put-requires-clause-front c =
     let front = c.args.front in
     let kept = c.dir-dir.ensures.kept in
     let on = c.requires.front in
-    let strips : front.cut.strips ≡ c.strips-strips.result = ap (λ (cut : CutParts). cut.strips) on.0.1 ∙ sym c.strips-strips.ensures in
+    let strips : front.cut.strips ≡ c.strips-strips.result = ap (λ (cut : CutParts). cut.strips) on.1 ∙ sym c.strips-strips.ensures in
     record {
       kept = kept;
-      same_scene = on.0.0;
-      same_cut = on.0.1;
+      same_scene = on.0;
+      same_cut = on.1;
       same_dir = sym c.dir-dir.ensures.value;
-      visited = length-visits front c.args.parcel.now.strip kept on.1 ∙ (λ i. position_of (sym c.dir-dir.ensures.value i) (sym c.strip-strip.ensures.value i) (strips i) + 1);
+      visited = length-visits front c.args.parcel.now.strip (parts_of c.args.pass.now).number kept c.requires.visit ∙ (λ i. position_of (sym c.dir-dir.ensures.value i) (sym c.strip-strip.ensures.value i) (strips i) + 1);
     }
 
 pub invariant_of-pass : goal.invariant_of-pass

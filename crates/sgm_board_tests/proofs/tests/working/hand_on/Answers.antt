@@ -1,4 +1,4 @@
-use Rattle.std.proofs.Common.{◌≡◌, ℕ, ◌∙◌, ap, sym, subst, length, length-set, true}
+use Rattle.std.proofs.Common.{◌≡◌, ℕ, ◌∙◌, ap, sym, subst, length, length-set, Some, true}
 use Rattle.sgm_energy.specs.declared.dir.Dir.{Dir}
 use Rattle.sgm_energy.specs.Dirs.{number_of}
 use Rattle.sgm_strip.specs.Parcels.{ParcelParts, with_done}
@@ -10,13 +10,15 @@ use Rattle.sgm_board_tests.proofs.tests.working.hand_on.Goals as goal
 
 pub put-requires-clause-front : goal.put-requires-clause-front
 put-requires-clause-front c =
-    let front = c.in-Some.front in
     let on = c.in-Some.ensures.front in
     let now = c.pass.ensures.front in
-    let strip = c.args.parcel.now.strip in (
-      (ap (λ (f : FrontParts). f.scene) now ∙ on.0.0, ap (λ (f : FrontParts). f.cut) now ∙ on.0.1),
-      (visit_of strip c.number-worker.result, last_visit c.pass.new.front.visits front.visits (visit_of strip c.number-worker.result) (ap (λ (f : FrontParts). f.visits) now), sym (ap (λ (p : ParcelParts). p.strip) c.pass.ensures.parcel)),
-    )
+    (ap (λ (f : FrontParts). f.scene) now ∙ on.0.0, ap (λ (f : FrontParts). f.cut) now ∙ on.0.1)
+
+pub put-requires-clause-visit : goal.put-requires-clause-visit
+put-requires-clause-visit c =
+    let strip : c.args.parcel.now.strip ≡ c.pass.new.parcel.strip = sym (ap (λ (p : ParcelParts). p.strip) c.pass.ensures.parcel) in
+    last_visit c.pass.new.front.visits c.in-Some.front.visits (visit_of c.args.parcel.now.strip c.number-worker.result) (ap (λ (f : FrontParts). f.visits) c.pass.ensures.front)
+    ∙ (λ i. Some (visit_of (strip i) (c.number-worker.ensures i)))
 
 pub returns-clause-held : goal.returns-clause-held
 returns-clause-held c =
