@@ -22,12 +22,7 @@ fn plane_of(alloc: Global, row: &[Option<u16>]) -> Result<Plane, Fail> {
 
 fn codes_of(alloc: Global, row: &[Option<u16>]) -> Result<CodePlane, Fail> {
     let window = Window::make(3, 3).ok_or("window")?;
-    Ok(codes(
-        alloc,
-        &plane_of(alloc, row)?,
-        window,
-        CostRule::Plain,
-    )?)
+    Ok(codes(alloc, &plane_of(alloc, row)?, window, CostRule::Plain)?)
 }
 
 fn are_bytes(entries: &[Option<u16>]) -> bool

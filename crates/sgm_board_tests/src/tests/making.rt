@@ -37,12 +37,7 @@ pub(super) fn plane_of(alloc: Global, row: &[u16; 5]) -> Result<Plane, Fail> {
 /// Its codes, with a window of 3 x 3.
 fn codes_of(alloc: Global, row: &[u16; 5]) -> Result<CodePlane, Fail> {
     let window = Window::make(3, 3).ok_or("window")?;
-    Ok(codes(
-        alloc,
-        &plane_of(alloc, row)?,
-        window,
-        CostRule::Plain,
-    )?)
+    Ok(codes(alloc, &plane_of(alloc, row)?, window, CostRule::Plain)?)
 }
 
 /// A guide of that size, which no pen here follows.
@@ -61,9 +56,7 @@ fn are_alike(left: &CodePlane, right: &CodePlane) -> bool
     ensures window { IsTrue result → left.now.window ≡ right.now.window }
     ensures rule { IsTrue result → left.now.rule ≡ right.now.rule }
 {
-    left.size() == right.size()
-        && left.window() == right.window()
-        && left.rule() == right.rule()
+    left.size() == right.size() && left.window() == right.window() && left.rule() == right.rule()
 }
 
 /// The scene of the worked example.
