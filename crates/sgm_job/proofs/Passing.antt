@@ -6,9 +6,8 @@ use Rattle.std.proofs.lemmas.Bool.{eqb-true}
 use Rattle.sgm_base.specs.Picture.{Picture}
 use Rattle.sgm_base.specs.Sides.{Sides}
 use Rattle.sgm_rectify.specs.declared.warp.WarpFault.{WarpFault}
-use Rattle.sgm_rectify.specs.Faults.{Suits, warp_fault}
+use Rattle.sgm_rectify.specs.Faults.{warp_fault}
 use Rattle.sgm_rectify.specs.declared.warp.Warp.{Warp}
-use Rattle.sgm_rectify.specs.Warps.{IsWarp}
 use Rattle.sgm_rectify.specs.Rectified.{rectified_values, sides_of}
 use Rattle.sgm_census.specs.Codes.{Codes}
 use Rattle.sgm_census.specs.Windows.{WindowSides}
@@ -106,10 +105,6 @@ left_faultless left calib a b ea pass = ap (warp_fault calib.left) (sym ea) ∙ 
 
 pub right_faultless : (right : Picture) (calib : Calibration) (a b : Sides) → b ≡ sides_of right → Passes a b calib → warp_fault calib.right (sides_of right) ≡ None
 right_faultless right calib a b eb pass = ap (warp_fault calib.right) (sym eb) ∙ pass.right_faultless
-
--- a warp that is kept and has no fault suits the image
-pub suits : (sides : Sides) (warp wanted : Warp) → warp ≡ wanted → IsWarp warp → warp_fault wanted sides ≡ None → Suits warp sides
-suits sides warp wanted e kept none = record { kept = kept; faultless = ap (λ w. warp_fault w sides) e ∙ none }
 
 -- a rectified image has the sides of the image
 pub plane_width : (image : Picture) (warp : Warp) (plane : Values) → plane ≡ rectified_values image warp → plane.width ≡ image.width
