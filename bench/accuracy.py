@@ -9,14 +9,16 @@ The first matches one pair. TRUTH is PFM, as Middlebury has it, or PGM of 16 bit
 white where both cameras see the surface, as Middlebury's mask0nocc.png; what is black or grey inside of both
 pictures counts as hidden. The second matches made-up scenes whose truth is exact: SCENES below says what each has.
 
-For each pair it prints a table in Markdown, a line for each way of matching: the calibration with a fixed P2,
-then with one that follows the image, for each P2 given, then these with peaks taken out and holes filled.
-What a program doesn't know (an older one has no version 2) is left out, and said. The columns are, of the
+For each pair it prints a table in Markdown, a line for each way of matching: the calibration with a fixed P2
+(version 1), then with one that follows the image (version 2), for each P2 given, then version 3 with the penalties
+that are recommended for it, fixed and following the image, then those of the first two with peaks taken out and holes
+filled. What a program doesn't know (an older one has no version 2) is left out, and said. The columns are, of the
 pixels whose truth is known: the share that has a value; the share of these values that is wrong by more than
 1 and more than 2 pixels; the median error of the values that aren't wrong by more than 1, in pixels; and the
 share that has a right value of the pixels that both cameras see, of those whose place in the right picture is
-hidden by something nearer, and of those whose place lies outside the right picture (a band at the left); and
-the share of values wrong by more than 1 once more, without that band.
+hidden by something nearer, and of those whose place lies outside the right picture (a band at the left); and,
+without that band, the shares of values wrong by more than 1 and by more than half a pixel, and the mean error of the
+values that aren't wrong by more than 1.
 
 OpenCV matches the same pair with all eight directions (MODE_HH), where `import cv2` works (Debian:
 python3-opencv) and the calibration has no warp: once bare, once with what its documentation advises against
@@ -44,6 +46,9 @@ PLAIN = {
     "census": {"width": 9, "height": 7},
     "penalties": {"p1": 10, "p2": 120},
 }
+# The penalties that are recommended for version 3: P1, P2 and whether P2 follows the image. They are those of a window
+# of 9 x 7, which has 62 neighbours; for other windows they are in proportion.
+THIRD, NEIGHBOURS = ((25, 100, False), (25, 1200, True)), 62
 # What OpenCV's documentation gives as usual: penalties from the block's size, and what takes wrong values out.
 BARE = {"blockSize": 3, "P1": 72, "P2": 288, "disp12MaxDiff": 1}
 FILTERED = {"blockSize": 5, "P1": 200, "P2": 800, "disp12MaxDiff": 1, "preFilterCap": 63, "uniquenessRatio": 10}
@@ -202,29 +207,60 @@ SCENES = {
 }
 
 
+def scene_of(name, size=(480, 360)):
+    """The scene of that name, the same each time."""
+    make, wrong = SCENES[name]
+    draw = numpy.random.default_rng(1000 + list(SCENES).index(name))
+    return Scene(make(size, draw), size, draw, **wrong)
+
+
+def write_pair(folder, scene):
+    """The names of its left and its right picture, which are written there."""
+    names = []
+    for side in ("left", "right"):
+        names.append(os.path.join(folder, side + ".pgm"))
+        samples = getattr(scene, side)
+        with open(names[-1], "wb") as file:
+            file.write(f"P5\n{samples.shape[1]} {samples.shape[0]}\n255\n".encode() + samples.tobytes())
+    return names
+
+
 # Matching
 
 
-def variants(words, p2):
-    """Names of ways of matching, each with what is put into the penalties and the options; p2 is the calibration's."""
-    fixed, filling = {"adapt": None}, ["fill=1"]
-    adapted = [{"adapt": True, "p2": p2} for p2 in words.p2]
-    named = lambda more: f"fixed, P2 {p2}" if more["adapt"] is None else f"adapted, P2 {more['p2']}"
-    made = [(named(more), more, []) for more in (fixed, *adapted)]
-    peak = [f"peak={words.peak}"]
-    for more in (fixed, adapted[0]):
-        made.append((f"{named(more)}, {peak[0]}", more, peak))
-        made.append((f"{named(more)}, {peak[0]} fill=1", more, peak + filling))
+def variants(words, calibration):
+    """Names of ways of matching, each with its calibration and its options."""
+    p1, p2 = (calibration["penalties"][name] for name in ("p1", "p2"))
+    first = (f"fixed, P2 {p2}", in_version(1, calibration, p1, p2))
+    second = [(f"adapted, P2 {more}", in_version(2, calibration, p1, max(p1, more), True)) for more in words.p2]
+    made = [(*way, []) for way in (first, *second)]
+    for p1, p2, is_adaptive in THIRD:
+        p1, p2 = (for_window(calibration, penalty) for penalty in (p1, p2))
+        name = f"version 3, {'adapted' if is_adaptive else 'fixed'}, P2 {p2}"
+        made.append((name, in_version(3, calibration, p1, p2, is_adaptive), []))
+    peak = f"peak={words.peak}"
+    for name, changed in (first, second[0]):
+        made.append((f"{name}, {peak}", changed, [peak]))
+        made.append((f"{name}, {peak} fill=1", changed, [peak, "fill=1"]))
     return made
 
 
-def with_penalties(calibration, more):
-    """The calibration in version 1, or in version 2 with a penalty that follows the image."""
+def for_window(calibration, penalty):
+    """A penalty of a window of 9 x 7, in proportion to the neighbours of the calibration's window."""
+    neighbours = calibration["census"]["width"] * calibration["census"]["height"] - 1
+    return max(1, (2 * penalty * neighbours + NEIGHBOURS) // (2 * NEIGHBOURS))
+
+
+def in_version(version, calibration, p1, p2, is_adaptive=False):
+    """The calibration in that version, with these penalties, and without its grid."""
     made = {key: value for key, value in calibration.items() if key not in ("grid", "regions")}
-    penalties = {name: made["penalties"][name] for name in ("p1", "p2")}
-    if more["adapt"] is None:
-        return {**made, "version": 1, "penalties": penalties}
-    return {**made, "version": 2, "penalties": {**penalties, "p2": max(penalties["p1"], more["p2"]), "adapt": True}}
+    span = {name: made["disparities"][name] for name in ("first", "count")}
+    penalties = {"p1": p1, "p2": p2}
+    if version > 1:
+        penalties["adapt"] = is_adaptive
+    if version > 2:
+        span["fine"] = False
+    return {**made, "version": version, "disparities": span, "penalties": penalties}
 
 
 class Unknown(Exception):
@@ -292,11 +328,13 @@ def figures(found, truth, both):
     is_inside = (column >= 0) & (column <= truth.shape[1] - 1)
     for part in (both & is_inside, ~both & is_inside, ~is_inside):
         made.append(share(count(right & part), count(known & part)))
-    made.append(share(count(has_value & ~right & is_inside), count(has_value & is_inside)))
+    made += [share(count(has_value & (error > most) & is_inside), count(has_value & is_inside)) for most in (1, 0.5)]
+    made.append(f"{error[right & is_inside].mean():.3f}" if (right & is_inside).any() else "-")
     return made
 
 
-HEADS = ("Matching", "Has a value", "Wrong by > 1", "> 2", "Median error", "Right of seen by both", "of hidden", "of outside", "Wrong without the outside")
+HEADS = ("Matching", "Has a value", "Wrong by > 1", "> 2", "Median error", "Right of seen by both", "of hidden", "of outside")
+HEADS += ("Without the outside wrong by > 1", "> 0.5", "Mean error")
 
 
 def print_rival():
@@ -316,10 +354,10 @@ def compare(title, folder, left, right, calibration, truth, both, words):
     row(*HEADS)
     row(*["---"] * len(HEADS))
     unknown = {}
-    for name, more, options in variants(words, calibration["penalties"]["p2"]):
+    for name, changed, options in variants(words, calibration):
         sgm_files.progress(f"{title}: {name}")
         try:
-            found = matched(folder, left, right, with_penalties(calibration, more), options)
+            found = matched(folder, left, right, changed, options)
         except Unknown as why:
             unknown[name] = str(why)
             continue
@@ -335,22 +373,14 @@ def compare(title, folder, left, right, calibration, truth, both, words):
         print(f"\nleft out, since this program doesn't know it: {name} ({why})")
 
 
-def write_pgm(name, samples):
-    with open(name, "wb") as file:
-        file.write(f"P5\n{samples.shape[1]} {samples.shape[0]}\n255\n".encode() + samples.tobytes())
-    return name
-
-
 def compare_scenes(words, folder):
     print_rival()
-    for number, (name, (make, wrong)) in enumerate(SCENES.items()):
+    for name in SCENES:
         if words.only and name not in words.only:
             continue
-        draw = numpy.random.default_rng(1000 + number)
-        scene = Scene(make(words.size, draw), words.size, draw, **wrong)
-        pair = [write_pgm(os.path.join(folder, side + ".pgm"), getattr(scene, side)) for side in ("left", "right")]
+        scene = scene_of(name, words.size)
         calibration = {**PLAIN, "disparities": {"first": 0, "count": words.count}}
-        compare(name, folder, *pair, calibration, scene.truth, scene.both, words)
+        compare(name, folder, *write_pair(folder, scene), calibration, scene.truth, scene.both, words)
 
 
 def compare_pair(words, folder):

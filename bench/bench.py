@@ -2,7 +2,7 @@
 """Measures the time and the memory of `sgm match`, beside OpenCV's StereoSGBM where that is installed.
 
     bench/bench.py [--only 640x480] [--strips 1 7 64] [--workers 1 4] [--builds] [--parts] [--runs 3]
-    bench/bench.py --turns 5 --strips 8 16 64 --workers 1 4 [--beside OTHER_SGM]
+    bench/bench.py --turns 5 --strips 8 16 64 --workers 1 4 [--beside OTHER_SGM] [--versions 2 3]
 
 Makes pairs of three sizes, runs the program on each with 64 and, for the two larger sizes, 128
 disparities, and prints a Markdown table: the least seconds of some runs, how many times as fast that is
@@ -16,6 +16,7 @@ to read the tables.
 """
 
 import argparse
+import itertools
 import json
 import os
 import random
@@ -73,21 +74,20 @@ def write_pair(folder, width, height):
     return names
 
 
-def write_calibration(folder, count):
-    """The name of a calibration of so many disparities, with the plain settings otherwise."""
-    if count == 64:
+def write_calibration(folder, count, version=1):
+    """The name of a calibration of that version and so many disparities. Version 3 has the penalties that are recommended
+    for it, the others have the plain ones; P2 is fixed in all."""
+    if count == 64 and version == 1:
         return "-"
-    name = os.path.join(folder, f"calibration-{count}.json")
+    span, penalties = {"first": 0, "count": count}, {"p1": 10, "p2": 120}
+    if version == 3:
+        span["fine"], penalties = False, {"p1": 25, "p2": 100}
+    if version > 1:
+        penalties["adapt"] = False
+    name = os.path.join(folder, f"calibration-{version}-{count}.json")
     with open(name, "w") as file:
-        json.dump(
-            {
-                "version": 1,
-                "disparities": {"first": 0, "count": count},
-                "census": {"width": 9, "height": 7},
-                "penalties": {"p1": 10, "p2": 120},
-            },
-            file,
-        )
+        census = {"width": 9, "height": 7}
+        json.dump({"version": version, "disparities": span, "census": census, "penalties": penalties}, file)
     return name
 
 
@@ -245,32 +245,49 @@ def measure(words, cases, programs, python, folder):
                 yield f"{width} x {height}, {count} disparities, {strips}, {workers}, {build_name}", command, opencv
 
 
+def turns_of(words, programs, pair, count, python, folder):
+    """The seconds of OpenCV, and the runs by their program's name, version and workers, and then by their strips."""
+    calibrations = [(version, write_calibration(folder, count, version)) for version in words.versions]
+    rival, runs, out = [], {}, os.path.join(folder, "out")
+    for _ in range(words.turns):
+        rival += beside(python, pair, count, 1)[:1]
+        # The versions run one behind the other, so that both meet the same moods of the machine.
+        for (name, program), (strips, workers), (version, calibration) in itertools.product(programs, splits(words), calibrations):
+            command = [program, "match", *pair, calibration, out, f"strips={strips}", f"workers={workers}"]
+            of_key = runs.setdefault((name, version, workers), {})
+            of_key.setdefault(strips, []).append(measured(command))
+    return rival, runs
+
+
+def best_of(by_strips):
+    """The best number of strips, the medians of its seconds and processor seconds, and the greatest memory of all runs."""
+    median = lambda strips, at: statistics.median(run[at] for run in by_strips[strips])
+    best = min(by_strips, key=lambda strips: median(strips, 0))
+    memory = max(run[1] for runs in by_strips.values() for run in runs)
+    return best, median(best, 0), median(best, 3), memory
+
+
 def in_turns(words, cases, programs, python, folder):
-    """A table of medians: in each turn OpenCV and every program with every number of strips and workers run once."""
-    has_names = len(programs) > 1
-    row("Size", "Disparities", *(["Program"] if has_names else []), "Workers", "Strips", "Seconds", "Memory, MB", "OpenCV, seconds", "OpenCV / program")
-    row(*["---"] * (9 if has_names else 8))
+    """A table of medians: in each turn OpenCV and every program with every version, number of strips and of workers run
+    once. With versions each is set beside the first one."""
+    has_names, has_versions = len(programs) > 1, words.versions != [1]
+    made = ["Size", "Disparities", *(["Program"] if has_names else []), *(["Version"] if has_versions else []), "Workers", "Strips"]
+    made += ["Seconds", "Memory, MB", "OpenCV, seconds", "OpenCV / program"]
+    beside_first = f"version {words.versions[0]}'s"
+    made += ["Processor, seconds", f"Seconds / {beside_first}", f"Processor / {beside_first}"] if has_versions else []
+    row(*made)
+    row(*["---"] * len(made))
     for width, height, count in cases:
-        pair = write_pair(folder, width, height)
-        calibration, out = write_calibration(folder, count), os.path.join(folder, "out")
-        rival, seconds, memory = [], {}, {}
-        for _ in range(words.turns):
-            rival += beside(python, pair, count, 1)[:1]
-            for build_name, program in programs:
-                for strips, workers in splits(words):
-                    command = [program, "match", *pair, calibration, out, f"strips={strips}", f"workers={workers}"]
-                    run, key = measured(command), (build_name, workers, strips)
-                    seconds.setdefault(key, []).append(run[0])
-                    memory[key] = max(run[1], memory.get(key, 0))
-        for build_name, _ in programs:
-            for workers in words.workers:
-                keys = [key for key in seconds if key[:2] == (build_name, workers)]
-                best = min(keys, key=lambda key: statistics.median(seconds[key]))
-                median = statistics.median(seconds[best])
-                cells = [f"{width} x {height}", str(count), *([build_name] if has_names else []), str(workers), str(best[2])]
-                cells += [f"{median:.3f}", f"{max(memory[key] for key in keys):.0f}"]
-                beside_it = statistics.median(rival) if rival else None
-                row(*cells, *([f"{beside_it:.3f}", f"{beside_it / median:.2f}"] if rival else ["", ""]))
+        rival, runs = turns_of(words, programs, write_pair(folder, width, height), count, python, folder)
+        for (name, _), workers, version in itertools.product(programs, words.workers, words.versions):
+            strips, seconds, busy, memory = best_of(runs[name, version, workers])
+            cells = [f"{width} x {height}", str(count), *([name] if has_names else []), *([str(version)] if has_versions else [])]
+            cells += [str(workers), str(strips), f"{seconds:.3f}", f"{memory:.0f}"]
+            cells += [f"{statistics.median(rival):.3f}", f"{statistics.median(rival) / seconds:.2f}"] if rival else ["", ""]
+            if has_versions:
+                _, first_seconds, first_busy, _ = best_of(runs[name, words.versions[0], workers])
+                cells += [f"{busy:.3f}", f"{seconds / first_seconds:.3f}", f"{busy / first_busy:.3f}"]
+            row(*cells)
 
 
 def within(low, high):
@@ -299,9 +316,15 @@ def words_of():
     help_turns = "in place of the table above one of medians of N turns, in each of which OpenCV and the program run once"
     parser.add_argument("--turns", type=within(1, 1000), metavar="N", help=help_turns + ", with the best number of strips")
     parser.add_argument("--beside", metavar="PROGRAM", help="another program that runs in each turn too (with --turns)")
+    help_versions = "versions of the calibration that run in each turn, each set beside the first one (with --turns; 1 without it)"
+    parser.add_argument("--versions", type=int, choices=(1, 2, 3), nargs="+", metavar="N", default=[1], help=help_versions)
     words = parser.parse_args()
     if words.beside and not words.turns:
         parser.error("--beside takes --turns")
+    if words.versions != [1] and not words.turns:
+        parser.error("--versions takes --turns")
+    if len(set(words.versions)) < len(words.versions):
+        parser.error("--versions: one of them stands twice")
     return words
 
 

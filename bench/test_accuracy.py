@@ -88,18 +88,54 @@ class Figures(unittest.TestCase):
         found = numpy.array([[0.25, 1, 1.5, 3, NAN, -0.5, NAN, 0, 0, 4]])
         both = numpy.array([[1, 1, 1, 1, 1, 1, 0, 0, 1, 0]], bool)
         # Nine are known, seven of these have a value: errors 0.25, 1, 1.5, 3, 0.5, 0 and 4.
-        wanted = ["77.78 %", "42.86 %", "28.57 %", "0.375", "50.00 %", "33.33 %", "-", "42.86 %"]
+        wanted = ["77.78 %", "42.86 %", "28.57 %", "0.375", "50.00 %", "33.33 %", "-", "42.86 %", "57.14 %", "0.438"]
         self.assertEqual(accuracy.figures(found, truth, both), wanted)
         nothing = numpy.full((1, 10), NAN)
-        self.assertEqual(accuracy.figures(nothing, truth, both), ["0.00 %", "-", "-", "-", "0.00 %", "0.00 %", "-", "-"])
-        self.assertEqual(accuracy.figures(found, nothing, both), ["-"] * 8)
+        wanted = ["0.00 %", "-", "-", "-", "0.00 %", "0.00 %", "-", "-", "-", "-"]
+        self.assertEqual(accuracy.figures(nothing, truth, both), wanted)
+        self.assertEqual(accuracy.figures(found, nothing, both), ["-"] * 10)
 
     def test_outside(self):
         """With a disparity of 2 the first two columns have no place in the right picture, whatever the mask says."""
         truth, both = numpy.full((1, 5), 2.0), numpy.array([[1, 0, 1, 0, 1]], bool)
         found = numpy.array([[2, NAN, 2, 2, 9]])
-        self.assertEqual(accuracy.figures(found, truth, both)[4:], ["50.00 %", "100.00 %", "50.00 %", "33.33 %"])
-        self.assertEqual(accuracy.figures(found, -truth, both)[4:], ["0.00 %", "0.00 %", "0.00 %", "100.00 %"])
+        wanted = ["50.00 %", "100.00 %", "50.00 %", "33.33 %", "33.33 %", "0.000"]
+        self.assertEqual(accuracy.figures(found, truth, both)[4:], wanted)
+        wanted = ["0.00 %", "0.00 %", "0.00 %", "100.00 %", "100.00 %", "-"]
+        self.assertEqual(accuracy.figures(found, -truth, both)[4:], wanted)
+        # The error of 0.25 lies in the band, that of 0.75 doesn't.
+        found[0, 0], found[0, 3] = 2.25, 2.75
+        self.assertEqual(accuracy.figures(found, truth, both)[7:], ["33.33 %", "66.67 %", "0.375"])
+
+
+class Ways(unittest.TestCase):
+    def test_versions(self):
+        """Each way's calibration has the keys of its version and no others, and the penalties that suit its window."""
+        words = accuracy.argparse.Namespace(p2=[400, 5], peak=7)
+        given = {"version": 2, "disparities": {"first": 3, "count": 9, "fine": False}, "census": {"width": 9, "height": 7}}
+        given |= {"penalties": {"p1": 10, "p2": 120, "adapt": True}, "camera": {}, "grid": {}, "regions": []}
+        span, fine = {"first": 3, "count": 9}, {"first": 3, "count": 9, "fine": False}
+        wanted = [
+            ("fixed, P2 120", 1, span, {"p1": 10, "p2": 120}),
+            ("adapted, P2 400", 2, span, {"p1": 10, "p2": 400, "adapt": True}),
+            ("adapted, P2 5", 2, span, {"p1": 10, "p2": 10, "adapt": True}),
+            ("version 3, fixed, P2 100", 3, fine, {"p1": 25, "p2": 100, "adapt": False}),
+            ("version 3, adapted, P2 1200", 3, fine, {"p1": 25, "p2": 1200, "adapt": True}),
+        ]
+        for (name, version, disparities, penalties), found in zip(wanted, accuracy.variants(words, given)):
+            made = {"version": version, "disparities": disparities, "census": given["census"], "penalties": penalties, "camera": {}}
+            self.assertEqual(found, (name, made, []))
+        names = [found[::2] for found in accuracy.variants(words, given)[5:]]
+        peak, both = ["peak=7"], ["peak=7", "fill=1"]
+        said = [("fixed, P2 120, peak=7", peak), ("fixed, P2 120, peak=7 fill=1", both)]
+        said += [("adapted, P2 400, peak=7", peak), ("adapted, P2 400, peak=7 fill=1", both)]
+        self.assertEqual(names, said)
+
+    def test_windows(self):
+        """8 and 34 neighbours of 62: 25 becomes 3.2 and 13.7, 100 becomes 12.9 and 54.8, 1200 becomes 154.8."""
+        for width, height, penalties in ((3, 3, [3, 13, 155]), (5, 7, [14, 55, 658]), (9, 7, [25, 100, 1200])):
+            calibration = {"census": {"width": width, "height": height}}
+            self.assertEqual([accuracy.for_window(calibration, it) for it in (25, 100, 1200)], penalties)
 
 
 class Tables(unittest.TestCase):
@@ -114,9 +150,10 @@ class Tables(unittest.TestCase):
         words = "--scenes --only wall poles --size 48x32 --count 40 --peak 9 --p2 200 400".split()
         lines, said = self.run_with(REFERENCE, *words)
         rivals = 2 if accuracy.cv2 is not None else 0
-        self.assertEqual(len(lines), 2 * (2 + 7 + rivals))
-        names = [line.split(" | ")[0][2:] for line in lines[2:9]]
-        wanted = ["fixed, P2 120", "adapted, P2 200", "adapted, P2 400", "fixed, P2 120, peak=9"]
+        self.assertEqual(len(lines), 2 * (2 + 9 + rivals))
+        names = [line.split(" | ")[0][2:] for line in lines[2:11]]
+        wanted = ["fixed, P2 120", "adapted, P2 200", "adapted, P2 400"]
+        wanted += ["version 3, fixed, P2 100", "version 3, adapted, P2 1200", "fixed, P2 120, peak=9"]
         wanted += ["fixed, P2 120, peak=9 fill=1", "adapted, P2 200, peak=9", "adapted, P2 200, peak=9 fill=1"]
         self.assertEqual(names, wanted)
         self.assertNotIn("left out", said)
@@ -124,12 +161,12 @@ class Tables(unittest.TestCase):
     def test_a_pair(self):
         heap = os.path.join(HERE, "..", "examples", "stockpile")
         with tempfile.TemporaryDirectory() as folder:
-            # An older program, which writes what it found before and knows neither version 2 nor peaks.
+            # An older program, which writes what it found before and knows neither later versions nor peaks.
             program, truth = os.path.join(folder, "sgm"), os.path.join(folder, "t.pgm")
             with open(program, "w") as file:
                 file.write(
                     "#!/bin/sh\n"
-                    'grep -q \'"version": 2\' "$4" && { echo "sgm: calibration: unknown version" >&2; exit 3; }\n'
+                    'grep -q \'"version": [23]\' "$4" && { echo "sgm: calibration: unknown version" >&2; exit 3; }\n'
                     '[ $# = 5 ] || { echo "sgm: word 5 is not an option" >&2; exit 2; }\n'
                     f'cp "{heap}/expected/out.pgm" "$5.pgm"\n'
                 )
@@ -141,8 +178,9 @@ class Tables(unittest.TestCase):
                 file.write(f"P5\n{samples.shape[1]} {samples.shape[0]}\n65535\n".encode() + samples.tobytes())
             files = [os.path.join(heap, name) for name in ("left.pgm", "right.pgm", "calibration.json")]
             lines, said = self.run_with(program, *files, truth)
-        self.assertEqual(lines[2], "| fixed, P2 120 | 100.00 % | 0.00 % | 0.00 % | 0.000 | 100.00 % | - | - | 0.00 % |")
-        self.assertEqual(said.count("left out"), 5)
+        wanted = "| fixed, P2 120 | 100.00 % | 0.00 % | 0.00 % | 0.000 | 100.00 % | - | - | 0.00 % | 0.00 % | 0.000 |"
+        self.assertEqual(lines[2], wanted)
+        self.assertEqual(said.count("left out"), 7)
 
 
 if __name__ == "__main__":

@@ -21,7 +21,7 @@ program=$top/$out/$crate
 version() {
     read -r number <"$top/VERSION" || number=unknown
     commit=$(git -C "$top" describe --always --dirty --exclude='*' 2>/dev/null) || commit=unknown
-    echo "$name $number, commit $commit, calibration versions 1 and 2"
+    echo "$name $number, commit $commit, calibration versions 1, 2 and 3"
 }
 
 # Whether the program is there and newer than every source, and than each folder of sources, which

@@ -33,8 +33,11 @@ shellcheck          shellcheck  shellcheck -x sgm sgm_series .ci/run $(cd "$top"
 reference           -           tests/test_reference.py
 reference_lists     -           tests/test_reference_lists.py
 reference_series    -           tests/test_reference_series.py
+quick_reference     pictures    tests/test_quick_reference.py
 stored_runs         -           tests/stored_runs.py
 least_energies      -           tests/least_energies.py --check
+kernels             -           tests/kernels.py
+large_pair          -           tests/large_pair.py
 edits_apply         -           tests/edits.py --apply
 cubic_metres        -           tools/test_cubic_metres.py
 sgm_files           pictures    tools/test_sgm_files.py
@@ -61,6 +64,7 @@ interrupted         program     tests/interrupted.py
 asc_gdal            program,gdal    tests/asc_gdal.sh
 pgm_tools           program,netpbm  tests/pgm_tools.sh
 unrectified_heap    program,opencv  tests/unrectified_heap.py
+version3_figures    program,pictures tests/version3_figures.py
 certificates        program,pictures tests/certificates.py
 later_heap          program,pictures tests/later_heap.py
 guide               program,opencv,gdal tests/guide.py

@@ -4,7 +4,7 @@
     tests/calibration_cases.py FOLDER
 
 writes NAME.json and NAME.line for each. They go over the keys of all objects: each one missing, of a wrong type,
-just outside its range on either side, and beside a name that isn't known; over the key that version 2 alone has;
+just outside its range on either side, and beside a name that isn't known; over the keys that only some versions have;
 and over the order of the faults where several stand together. `BOUNDS` are calibrations at
 the very ends of the ranges, which have no fault. The pictures are those of 5 x 3 pixels of ends.sh.
 """
@@ -84,9 +84,19 @@ def changed(base, *changes):
     return made
 
 
+def first(*changes):
+    """The calibration of the worked example."""
+    return changed(WHOLE, *changes)
+
+
 def second(*changes):
     """The same in version 2, with its key."""
     return changed(WHOLE, ("version", 2), ("penalties.adapt", True), *changes)
+
+
+def third(*changes):
+    """The same in version 3, with its keys."""
+    return second(("version", 3), ("disparities.fine", False), *changes)
 
 
 def printed(path):
@@ -112,13 +122,23 @@ def version_faults():
     yield "version", changed(WHOLE, ("version", MISSING)), "version is missing"
     for wrong in ("1", 1.0, None, True, [2], 2.0):
         yield "version", changed(WHOLE, ("version", wrong)), "version has the wrong type"
-    for wrong in (0, 3, -1, -2, 258, 4294967297, 4294967298):
+    for wrong in (0, 4, -1, -2, -3, 258, 259, 4294967297, 4294967298, 4294967299):
         yield "version", changed(WHOLE, ("version", wrong)), "unknown version"
     # The version comes before the names that aren't known.
-    yield "version", changed(WHOLE, ("version", 3), ("a", 0)), "unknown version"
-    yield "version", second(("a", 0)), "top has an unknown name"
-    yield "version", second(("adapt", True)), "top has an unknown name"
-    yield "version", second(("census.adapt", True)), "census has an unknown name"
+    yield "version", changed(WHOLE, ("version", 4), ("a", 0)), "unknown version"
+    yield "version", third(("version", 4)), "unknown version"
+    for made in (second, third):
+        yield "version", made(("a", 0)), "top has an unknown name"
+        yield "version", made(("adapt", True)), "top has an unknown name"
+        yield "version", made(("census.adapt", True)), "census has an unknown name"
+    yield "version", third(("fine", False)), "top has an unknown name"
+    yield "version", third(("census.fine", False)), "census has an unknown name"
+    yield "version", third(("penalties.fine", False)), "penalties has an unknown name"
+    yield "version", third(("disparities.adapt", False)), "disparities has an unknown name"
+    # Names that no version has.
+    for made in (first, second, third):
+        for name, value in (("keep", "highest"), ("keep", "mean"), ("bridge", 0)):
+            yield "version", made((f"grid.{name}", value)), "grid has an unknown name"
 
 
 def adapt_faults():
@@ -151,6 +171,53 @@ def adapt_faults():
     for path, wrong in (("warp", 0), ("camera", 0), ("grid.west", 0.5), ("regions", {}), ("camera", MISSING)):
         yield "adapt", second(("penalties.adapt", MISSING), (path, wrong)), missing
         yield "adapt", second(("penalties.adapt", 1), (path, wrong)), wrong_type
+
+
+def fine_faults():
+    unknown, missing = "disparities has an unknown name", "disparities.fine is missing"
+    wrong_type, outside = "disparities.fine has the wrong type", "disparities.fine is out of range"
+    yield "fine", third(("disparities.fine", MISSING)), missing
+    for wrong in (0, 1, 0.0, "false", "", None, [False], {}, {"fine": False}):
+        yield "fine", third(("disparities.fine", wrong)), wrong_type
+    yield "fine", third(("disparities.fine", True)), outside
+    for made in (first, second):
+        for value in (True, False, 0, None):
+            yield "fine", made(("disparities.fine", value)), unknown
+    yield "fine", third(("version", 1)), unknown
+    yield "fine", third(("version", 2)), unknown
+    yield "fine", third(("version", 2), ("disparities.count", 0)), unknown
+    yield "fine", third(("disparities.Fine", False)), unknown
+    yield "fine", third(("disparities.fines", False), ("disparities.fine", MISSING)), unknown
+    # It stands behind the count and before the census.
+    for changes, line in [
+        ((("disparities.first", MISSING),), "disparities.first is missing"),
+        ((("disparities.count", MISSING),), "disparities.count is missing"),
+        ((("disparities.count", False),), "disparities.count has the wrong type"),
+        ((("disparities.first", 1025),), "disparities.first is out of range"),
+        ((("disparities.count", 257),), "disparities.count is out of range"),
+    ]:
+        yield "fine", third(*changes), line
+        for wrong in (0, True, MISSING):
+            yield "fine", third(*changes, ("disparities.fine", wrong)), line
+    yield "fine", third(("disparities", {})), "disparities.first is missing"
+    yield "fine", third(("disparities", {"fine": False})), "disparities.first is missing"
+    yield "fine", third(("disparities", [])), "disparities has the wrong type"
+    later = (("census", 0), ("census.width", 4), ("penalties.p1", 0), ("penalties.adapt", MISSING), ("warp", 0), ("camera", MISSING))
+    for path, wrong in later:
+        yield "fine", third(("disparities.fine", MISSING), (path, wrong)), missing
+        yield "fine", third(("disparities.fine", 1), (path, wrong)), wrong_type
+        yield "fine", third(("disparities.fine", True), (path, wrong)), outside
+    # The penalties are checked as in version 2.
+    yield "fine", third(("penalties.adapt", MISSING)), "penalties.adapt is missing"
+    yield "fine", third(("penalties.adapt", MISSING), ("warp", 0)), "penalties.adapt is missing"
+    yield "fine", third(("penalties.adapt", 0)), "penalties.adapt has the wrong type"
+    yield "fine", third(("penalties.p2", 0), ("penalties.adapt", 0)), "penalties.p2 is out of range"
+    yield "fine", third(("penalties.adapts", True)), "penalties has an unknown name"
+    # So is all else.
+    yield "fine", third(("census.height", 9)), "census.height is out of range"
+    yield "fine", third(("camera.a", 0)), "camera has an unknown name"
+    yield "fine", third(("grid.rows", MISSING)), "grid.rows is missing"
+    yield "fine", third(("regions.1.base", 0.5)), "regions[1].base has the wrong type"
 
 
 def warp_faults():
@@ -244,7 +311,7 @@ def order_faults():
 
 def faults():
     """Triples of a name, a calibration and its line."""
-    parts = (version_faults, adapt_faults, warp_faults, section_faults, number_faults, region_faults, order_faults)
+    parts = (version_faults, adapt_faults, fine_faults, warp_faults, section_faults, number_faults, region_faults, order_faults)
     numbered = {}
     for name, made, line in itertools.chain.from_iterable(part() for part in parts):
         name = name.replace(".", "-")
@@ -263,7 +330,14 @@ def bounds():
         for p1, p2 in ((1, 1), (1, 4000), (4000, 4000), (10, 400)):
             changes = (("penalties.p1", p1), ("penalties.p2", p2), ("penalties.adapt", is_adaptive))
             yield f"bound-adapt-{'yes' if is_adaptive else 'no'}-{p1}-{p2}", second(*changes)
+            yield f"bound-third-{'yes' if is_adaptive else 'no'}-{p1}-{p2}", third(*changes)
     yield "bound-adapt-alone", {**PLAIN, "version": 2, "penalties": {**PLAIN["penalties"], "adapt": True}}
+    third_alone = {**PLAIN, "version": 3, "disparities": {**PLAIN["disparities"], "fine": False}}
+    yield "bound-third-alone", {**third_alone, "penalties": {**PLAIN["penalties"], "adapt": False}}
+    for first_one, count in ((-1024, 256), (1024, 1)):
+        yield f"bound-third-span-{first_one}", third(("disparities.first", first_one), ("disparities.count", count))
+    for width, height in ((3, 3), (9, 7), (3, 7), (9, 3)):
+        yield f"bound-third-window-{width}-{height}", third(("census.width", width), ("census.height", height))
     yield "bound-near-and-far", changed(WHOLE, ("camera.near", 2000000000), ("camera.far", 2000000000))
     yield "bound-grid-long", changed(WHOLE, ("grid.cols", 4096))
     yield "bound-grid-one", changed(WHOLE, ("grid.cols", 1), ("grid.rows", 1), ("regions", MISSING))

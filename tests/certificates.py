@@ -3,8 +3,8 @@
 
     tests/certificates.py [--seed S] [--cases N]
 
-Pictures and calibrations are those of random_cases.py (surveys and scenes): voids, warps, both kinds of penalty,
-8 and 16 bits. The directions take turns, pixel and index are drawn. Each certificate has to hold by
+Pictures and calibrations are those of random_cases.py (surveys and scenes): voids, warps, all versions, both kinds of
+penalty, 8 and 16 bits. The directions take turns, pixel and index are drawn. Each certificate has to hold by
 tools/check_trace.py. Then each of its digits in turn is made another one, a line is left out, and one is written
 twice: none of these may hold. For some of them tools/check_trace.py runs as a command too, on the certificate and on
 one that was changed. The program is the one that the variable SGM names (./sgm of this repository without it).
@@ -90,7 +90,8 @@ class Case:
         if as_command:
             self.check_as_command(words, text, self.draw.of(wrong))
         has_void = any(pair.left.value(*pixel) is None for pixel in ray.pixels)
-        return {"adaptive": pair.follows, "void": has_void, "long": len(ray.pixels) > 8, "changed": len(wrong)}
+        kinds = {"adaptive": pair.follows, "third": pair.version == 3, "void": has_void, "long": len(ray.pixels) > 8}
+        return {**kinds, "changed": len(wrong)}
 
     def check_as_command(self, words, text, other):
         for given, status in ((text, 0), (other, 1)):
@@ -109,7 +110,7 @@ def main():
     parser.add_argument("--cases", type=int, default=300, metavar="N", help="how many (300)")
     words = parser.parse_args()
     sgm_files.need(numpy=sgm_files.numpy)
-    seen = {"adaptive": 0, "void": 0, "long": 0, "changed": 0}
+    seen = {"adaptive": 0, "third": 0, "void": 0, "long": 0, "changed": 0}
     number = held = 0
     while held < words.cases:
         with tempfile.TemporaryDirectory(prefix="sgm-certificates.") as folder:
@@ -127,8 +128,8 @@ def main():
             raise Wrong(f"of {number} pairs {number - held} were refused")
     if words.cases >= 100 and min(seen.values()) < words.cases // 10:
         raise Wrong(f"too few of a kind: {seen}")
-    what = f"{seen['adaptive']} with penalties that follow the picture, {seen['void']} with voids, "
-    what += f"{seen['long']} of more than 8 pixels"
+    what = f"{seen['adaptive']} with penalties that follow the picture, {seen['third']} of version 3, "
+    what += f"{seen['void']} with voids, {seen['long']} of more than 8 pixels"
     print(f"certificates: {held} hold ({what}), and of {seen['changed']} that were changed none does")
 
 

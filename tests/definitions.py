@@ -25,7 +25,7 @@ import reference
 import reference_inputs as inputs
 import reference_lists
 import reference_matching as matching
-from test_reference import DIFFERENCE_TEXT, GRID_TEXT, LATER_TEXT, WORKED, asc
+from test_reference import DIFFERENCE_TEXT, GRID_TEXT, LATER_TEXT, WORKED, WorkedThirdVersion, asc
 
 CRATES = os.path.join(os.path.dirname(os.path.abspath(__file__)), "..", "crates")
 COMMON = """◌≡◌ ℕ ℤ pos negsuc ◌+◌ ◌*◌ List [] ◌∷◌ ◌++◌ map codes slice_index Option Some None true false refl
@@ -116,6 +116,11 @@ class Page:
 # The pages
 
 DIRECTIONS = "Right Left Down DownRight DownLeft Up UpRight UpLeft"
+
+
+# The module of the rules of cost, and the rule of each version of the calibration.
+RULES = "sgm_census.specs.declared.rule.CostRule.TheVariants"
+RULE_OF = {1: "Plain", 2: "Plain", 3: "Smoothed"}
 
 
 def penalties_of(p1, p2, is_adaptive):
@@ -230,6 +235,8 @@ def codes(draw):
         "codes",
         {
             "sgm_base.Values": "values_of",
+            "sgm_lanes.Middles": "",
+            RULES: "Plain Smoothed",
             "sgm_census.Codes": "codes_of",
             "sgm_census.Costs": "",
             "sgm_census.Windows": "WindowSides",
@@ -239,18 +246,49 @@ def codes(draw):
     )
     for (across, down), voids in [((3, 3), 0.1), ((3, 3), 0), ((5, 3), 0.05), ((3, 5), 0)]:
         left, right = some_plane(draw, 6, 5, voids), some_plane(draw, 6, 5, voids)
-        greatest = across * down - 1
-        left_codes, right_codes = (matching.census_codes(plane, (across, down)) for plane in (left, right))
-        bits = lambda code: listed([truth(code >> k & 1) for k in reversed(range(greatest))], str)
-        for y, x in itertools.product(range(5), range(6)):
-            page.holds(f"code_at {plane_of(left)} (window {across} {down}) {x} {y}", option(left_codes[y][x], bits))
-        first, count = draw.choice([-2, 0, 1]), 3
-        costs = matching.costs_of(left_codes, right_codes, first, count, greatest)
-        both = " ".join(f"(codes_of {plane_of(plane)} (window {across} {down}))" for plane in (left, right))
-        for y, x in itertools.product((1, 2), range(6)):
-            for d in range(count):
-                page.holds(f"census_cost {both} {whole(first)} {x} {y} {d}", natural(costs[y][x][d]))
+        first, greatest = draw.choice([-2, 0, 1]), across * down - 1
+        planes = [matching.census_codes(plane, (across, down)) for plane in (left, right)]
+        hold_codes(page, "code_at", left, (across, down), planes[0])
+        both = " ".join(f"(codes_of {plane_of(plane)} (window {across} {down}) Plain)" for plane in (left, right))
+        hold_costs(page, f"census_cost {both} {whole(first)}", matching.costs_of(*planes, first, 3, greatest))
+    hold_smoothed(page, draw)
     return page
+
+
+def hold_codes(page, name, plane, window, codes):
+    """Equations for the codes of a plane by the definition of that name."""
+    bits = lambda code: listed([truth(code >> k & 1) for k in reversed(range(window[0] * window[1] - 1))], str)
+    for y, x in itertools.product(range(len(plane)), range(len(plane[0]))):
+        left = f"{name} {plane_of(plane)} (window {window[0]} {window[1]}) {x} {y}"
+        page.holds(left, option(codes[y][x], bits))
+
+
+def hold_costs(page, left, costs, rows=(1, 2)):
+    """Equations for the costs of some rows."""
+    for y, x in itertools.product(rows, range(len(costs[0]))):
+        for d, cost in enumerate(costs[y][x]):
+            page.holds(f"{left} {x} {y} {d}", natural(cost))
+
+
+def hold_smoothed(page, draw):
+    """Middles, codes, single costs and costs of version 3: of the worked pair whole, and of planes with voids, of one row, of
+    one column and smaller than the window."""
+    worked, calibration = WorkedThirdVersion("planes").planes()
+    cases = [(*worked.values(), calibration.window, calibration.first)]
+    for width, height, window, first in [(5, 4, (3, 3), -1), (4, 3, (5, 3), 1), (5, 1, (3, 3), 0), (1, 4, (3, 5), 0), (2, 2, (5, 5), 0)]:
+        cases.append((*(some_plane(draw, width, height, 0.15) for _ in range(2)), window, first))
+    for left, right, window, first in cases:
+        for y, x in itertools.product(range(len(left)), range(len(left[0]))):
+            if left[y][x] is not None:
+                middle = natural(matching.middle_of(left, x, y))
+                page.holds(f"middle_at {plane_of(left)} {x} {y} {left[y][x]}", middle)
+        planes = [matching.smoothed_codes(plane, window) for plane in (left, right)]
+        hold_codes(page, "smoothed_code_at", left, window, planes[0])
+        single = matching.costs_of(*planes, first, 2, matching.missing_cost(window[0] * window[1] - 1))
+        both = " ".join(f"(codes_of {plane_of(plane)} (window {window[0]} {window[1]}) Smoothed)" for plane in (left, right))
+        rows = range(len(left))[:3]
+        hold_costs(page, f"single_cost {both} {whole(first)}", single, rows)
+        hold_costs(page, f"census_cost {both} {whole(first)}", matching.smoothed(single), rows)
 
 
 def selection(draw):
@@ -308,7 +346,7 @@ def places_of(pixels, width):
 
 
 def refinement(draw):
-    """Segments and what is kept of a map, what is met from a pixel, and what is filled in."""
+    """Segments and what is kept of a map, what is met from a pixel, also by rank, and what is filled in."""
     page = Page(
         "refinement",
         {
@@ -342,7 +380,10 @@ def refinement(draw):
         width, height = len(found[0]), len(found)
         matches = plane_of([[None if d is None else 16 * d for d in line] for line in matched])
         for y, x in itertools.product(range(height), range(width)):
-            page.holds(f"met {plane_of(found)} (pixel_at {x} {y})", listed(matching.met(found, x, y)))
+            in_turn, in_order = matching.met_in_turn(found, x, y), matching.met(found, x, y)
+            page.holds(f"met {plane_of(found)} (pixel_at {x} {y})", listed(in_turn))
+            for number, value in enumerate([*in_order, None]):
+                page.holds(f"ranked {listed(in_turn)} {number}", option(value))
             answer = matching.is_mismatched(matched[y], x, first, count)
             page.holds(f"is_mismatched {matches} {whole(first)} {count} (pixel_at {x} {y})", truth(answer))
         rest = f"{matches} {plane_of(left)} {whole(first)} {count}"
@@ -602,6 +643,7 @@ def settings_of(calibration):
         "(Ok (settings",
         record(first=whole(calibration.first), count=calibration.count),
         record(width=calibration.window[0], height=calibration.window[1]),
+        RULE_OF[calibration.version],
         penalties_of(calibration.p1, calibration.p2, calibration.is_adaptive),
         warp_of(calibration.left),
         warp_of(calibration.right),
@@ -640,6 +682,7 @@ def calibrations(draw):
         {
             "std.specs.Prelude": "Float",
             "serde_json.specs.Data": DATA,
+            RULES: "Plain Smoothed",
             "sgm_rectify.specs.declared.warp.Warp.TheVariants": "Identity Projective Mesh",
             "sgm_calib.specs.declared.keys.CalibFault": "CalibFault",
             "sgm_calib.Paths": "",
@@ -660,7 +703,7 @@ def calibrations(draw):
     )
     cases = [json.dumps(made) for _, made, _ in calibration_cases.faults()]
     cases += [json.dumps(made) for _, made in calibration_cases.bounds()]
-    cases += ["[]", "7", "null", "{}", '{"version":2,"a":2}', '{"version":1.0}', '{"version":-0}']
+    cases += ["[]", "7", "null", "{}", '{"version":2,"a":2}', '{"version":3,"a":2}', '{"version":1.0}', '{"version":-0}']
     cases.append('{"version":9223372036854775808}')
     for case in cases:
         try:
@@ -756,7 +799,7 @@ def texts(draw):
 
 def surveys(draw):
     """Whole surveys: the worked pair, and two that are as small, so that every sequence of a ray can be tried, with
-    penalties that follow the image or don't, and refined or not."""
+    penalties that follow the image or don't, refined or not, and by the rule of either version."""
     page = Page(
         "surveys",
         {
@@ -766,6 +809,8 @@ def surveys(draw):
             "sgm_rectify.Places": "",
             "sgm_rectify.Bilinear": "",
             "sgm_rectify.Rectified": "",
+            "sgm_lanes.Middles": "",
+            RULES: "Plain Smoothed",
             "sgm_census.Codes": "",
             "sgm_census.Costs": "",
             "sgm_energy.Rays": "",
@@ -785,10 +830,10 @@ def surveys(draw):
     for width, height in [(3, 3), (4, 3)]:
         noise = [[draw.randrange(9) for _ in range(width * height)] for _ in range(2)]
         pairs.append([inputs.Image(width, height, 255, samples) for samples in noise])
-    kinds = [(False, 0, False), (True, 0, False), (False, 2, True), (True, 3, True)]
+    kinds = [(1, False, 0, False), (2, True, 0, False), (2, False, 2, True), (2, True, 3, True), (3, False, 0, False), (3, True, 3, True)]
     cases = [(pair, kinds[0]) for pair in pairs] + [(pairs[1], kind) for kind in kinds[1:]]
-    for (left, right), (is_adaptive, peak, fill) in cases:
-        calibration.is_adaptive = is_adaptive
+    for (left, right), (version, is_adaptive, peak, fill) in cases:
+        calibration.version, calibration.is_adaptive = version, is_adaptive
         settings = settings_of(calibration)[len("(Ok ") : -len(")")]
         found, cells, tallies = matching.survey(left, right, calibration, peak=peak, fill=fill)
         answer = record(
@@ -813,6 +858,8 @@ def calls(draw):
             "sgm_rectify.Bilinear": "",
             "sgm_rectify.Faults": "",
             "sgm_rectify.Rectified": "",
+            "sgm_lanes.Middles": "",
+            RULES: "Plain Smoothed",
             "sgm_census.Codes": "",
             "sgm_census.Costs": "",
             "sgm_energy.Rays": "",
@@ -845,6 +892,7 @@ def calls(draw):
     cases = [(pair, {}, spot) for spot in spots + outside]
     cases += [(noise, {"is_adaptive": True}, spot) for spot in spots]
     cases += [(noise, {"is_adaptive": True, "left": moved}, spot) for spot in spots[:2]]
+    cases += [(pair, {"version": 3}, spot) for spot in spots] + [(noise, {"version": 3, "left": moved}, spot) for spot in spots[:2]]
     cases += [((noise[0], pair[0]), {}, outside[0]), (noise, {"right": turned}, outside[0]), (noise, {"right": turned}, spots[1])]
     for (left, right), settings, (direction, x, y, d) in cases:
         made = inputs.Calibration()

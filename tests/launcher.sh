@@ -99,15 +99,15 @@ try_launcher() {
     started --version
     is status "$status" 0
     is "standard error" "$err" ""
-    is version "$out" "$launched 7.8.9, commit unknown, calibration versions 1 and 2"
+    is version "$out" "$launched 7.8.9, commit unknown, calibration versions 1, 2 and 3"
     if has git; then
         git -c init.defaultBranch=one init -q . && git add "$launched" &&
             git -c user.name=a -c user.email=a@b commit -qm one || exit 1
         started --version
-        is "version of a commit" "$out" "$launched 7.8.9, commit $(git rev-parse --short HEAD), calibration versions 1 and 2"
+        is "version of a commit" "$out" "$launched 7.8.9, commit $(git rev-parse --short HEAD), calibration versions 1, 2 and 3"
         echo >>"$launched"
         started --version
-        is "version after a change" "$out" "$launched 7.8.9, commit $(git rev-parse --short HEAD)-dirty, calibration versions 1 and 2"
+        is "version after a change" "$out" "$launched 7.8.9, commit $(git rev-parse --short HEAD)-dirty, calibration versions 1, 2 and 3"
     fi
     is "builds" "$(calls)" 0
 

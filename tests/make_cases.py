@@ -5,7 +5,7 @@
 
 A case has the file `words`, one word a line, and the files that the words name. The pictures are
 small and drawn from fixed numbers, so the cases are the same each time. They go over sizes, spans,
-windows, penalties, both versions, options, peaks and filling, warps, cameras, grids, regions, and the
+windows, penalties, all versions, options, peaks and filling, warps, cameras, grids, regions, and the
 refusals; over certificates in all directions; and over the change between two grids. The last case is
 the example with the heap.
 """
@@ -64,6 +64,12 @@ def second(is_adaptive, **more):
     return {**first, "version": 2, "penalties": {**first["penalties"], "adapt": is_adaptive}}
 
 
+def third(is_adaptive, **more):
+    """The same in version 3."""
+    made = second(is_adaptive, **more)
+    return {**made, "version": 3, "disparities": {**made["disparities"], "fine": False}}
+
+
 def calibration(first=0, count=8, window=(5, 5), penalties=(4, 30), **more):
     plain = calibration_cases.PLAIN
     return {
@@ -105,7 +111,15 @@ def cases():
     for name, (first, sections) in surveyed().items():
         yield good("survey-" + name, 40, 30, 255, calibration(first=first, **sections), first=first, deepest=7)
     yield good("everything", 40, 30, 255, everything(), "strips=5 workers=3", first=2, deepest=7)
-    for name, (maxval, seed, settings, options) in second_versions().items():
+    for name, (width, height, window) in {
+        "one-pixel": (1, 1, (9, 7)),
+        "one-row": (30, 1, (9, 3)),
+        "one-column": (1, 30, (3, 7)),
+        "two-columns": (2, 9, (3, 3)),
+        "window-beyond": (4, 3, (9, 7)),
+    }.items():
+        yield good("third-version-" + name, width, height, 255, third(True, count=3, window=window), "fill=1", deepest=2)
+    for name, (maxval, seed, settings, options) in {**second_versions(), **third_versions()}.items():
         yield good(name, 40, 30, maxval, settings, options, make=shapes, deepest=8, seed=seed)
     yield from refusals(left, right)
     yield from calibrations()
@@ -266,6 +280,27 @@ def second_versions():
     return made
 
 
+def third_versions():
+    """The same of version 3."""
+    warps = {"left": tilted(40, 30, 6, 9), "right": shifted(40, 30, 256)}
+    last = {"left": shifted(-300, 256 * 20, 256), "right": {"kind": "identity"}}
+    made = {
+        "third-version-everything": (255, 50, {**everything(), **third(True, first=2, penalties=(10, 500))}, "peak=6 fill=1 strips=3"),
+        "third-version-negative-first": (255, 51, third(False, first=-6, count=12, penalties=(25, 100)), "strips=64 workers=16"),
+        "third-version-without-left": (255, 52, third(False, warp={**last, "left": shifted(256 * 40, 0, 1)}), "fill=1"),
+        "third-version-beside-voids": (255, 53, third(True, penalties=(2, 50), warp=last), "fill=1 peak=3"),
+        "third-version-greatest-penalties": (255, 54, third(True, penalties=(4000, 4000)), "strips=7 workers=2"),
+        "third-version-one-disparity": (255, 55, third(False, count=1), ""),
+    }
+    for width in (3, 5, 7, 9):
+        for height in (3, 5, 7):
+            settings = third(width > 5, window=(width, height), penalties=(width, 60), warp=warps)
+            made[f"third-version-{width}-{height}"] = (255, 60 + width + height, settings, "strips=2 workers=2")
+    for number, maxval in enumerate((1, 7, 255, 256, 4095, 65535)):
+        made[f"third-version-of-{maxval}"] = (maxval, 80 + number, third(True, penalties=(5, 90)), "peak=4")
+    return made
+
+
 def calibrations():
     """The calibrations with one fault, and those at the ends of the ranges."""
     left, right = (bytes(row) * 3 for row in ((90, 10, 50, 20, 40), (10, 50, 20, 40, 30)))
@@ -295,6 +330,8 @@ def certificates():
         "fixed": (255, shapes, calibration(first=-2, window=small, penalties=(2, 9))),
         "adapt": (255, shapes, second(True, window=small, penalties=(2, 60))),
         "adapt-voids": (4095, shapes, second(True, window=(3, 5), penalties=(3, 90), warp=warps)),
+        "third-version": (255, shapes, third(False, first=-2, penalties=(8, 30))),
+        "third-version-voids": (65535, shapes, third(True, window=(9, 3), penalties=(3, 90), warp=warps)),
         "equal-penalties": (1, shapes, calibration(window=small, penalties=(1, 1))),
         "no-codes": (255, shapes, calibration(window=small, warp=outside)),
         "even": (255, even, calibration(window=small, penalties=(5, 40))),
@@ -428,7 +465,7 @@ def refusals(left, right):
     yield bad("above-maxval", l_pgm=b"P5\n16 12\n9\n" + bytes(100) + bytes([10]) * 92)
     yield bad("sizes-differ", l_pgm=b"P5\n15 12\n255\n" + bytes(180))
     yield bad("not-json", c_json="{")
-    yield bad("unknown-version", c_json=json.dumps({**calibration(), "version": 3}))
+    yield bad("unknown-version", c_json=json.dumps({**calibration(), "version": 4}))
     yield bad("unknown-name", c_json=json.dumps(calibration(extra=1)))
     first = {"first": 0, "count": 257}
     yield bad("key-missing", c_json=json.dumps({"version": 1, "disparities": {"first": 0}}))

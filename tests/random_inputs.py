@@ -215,21 +215,22 @@ ODD_VALUES = [
 ODD_NUMBERS = [*map(str, [2**63 - 1, 2**63, -(2**63), -(2**63) - 1]), "1.0", "-0", "1e0", "0.0"]
 # The names of all keys, and some that are none.
 NAMES = sorted({name for path in reference_inputs.RANGES for name in path.split(".")})
-NAMES += "adapt warp left right kind matrix nodes regions name top x".split()
+NAMES += "adapt fine keep bridge warp left right kind matrix nodes regions name top x".split()
 
 
-def settings(draw, first, count, **sections):
+def settings(draw, first, count, versions=(1, 2, 3), **sections):
     made = Pairs()
-    version = draw.of([1, 2])
+    version = draw.of(versions)
     made.put("version", version)
-    made.put("disparities", completed(draw, "disparities", [("first", first), ("count", count)]))
+    fine = [("fine", False)] if version == 3 else []
+    made.put("disparities", completed(draw, "disparities", [("first", first), ("count", count), *fine]))
     # Small windows more often: a large one has no code anywhere in a small picture.
     sides = [("width", draw.of([3, 3, 3, 5, 7, 9])), ("height", draw.of([3, 3, 3, 5, 7]))]
     made.put("census", completed(draw, "census", sides))
     p1 = draw.of([1, 2, 7, 60, 4000, draw.between(1, 4000)])
     p2 = draw.of([p1, min(4000, 3 * p1), 4000, draw.between(p1, 4000)])
-    # In version 2 the penalties mostly follow the image.
-    adapt = [("adapt", draw.chance(75))] if version == 2 else []
+    # From version 2 on the penalties mostly follow the image.
+    adapt = [("adapt", draw.chance(75))] if version > 1 else []
     made.put("penalties", completed(draw, "penalties", [("p1", p1), ("p2", p2), *adapt]))
     for name, section in sections.items():
         if section is not None:
@@ -413,8 +414,24 @@ def tighten(draw, whole):
         holder[:] = [(key, end if key == name else value) for key, value in holder]
 
 
+def exchange(draw, whole):
+    """Says another version, or puts in, changes or takes out a key that only some versions have."""
+    if draw.chance(40):
+        whole[:] = [(key, draw.below(5) if key == "version" else value) for key, value in whole]
+        return
+    section, _, name = draw.of(list(reference_inputs.FLAGS)).partition(".")
+    holder = part_of(whole, section)
+    if isinstance(holder, Pairs):
+        holder[:] = [(key, value) for key, value in holder if key != name]
+        if draw.chance(75):
+            holder.put(name, draw.of([True, True, False, False, 0, Raw("null")]))
+
+
 def change(draw, whole):
     """Changes the calibration in one place."""
+    if draw.chance(15):
+        exchange(draw, whole)
+        return
     if draw.chance(25):
         tighten(draw, whole)
         return
@@ -431,7 +448,7 @@ def change(draw, whole):
     elif what < 4:
         put(Raw(draw.of(ODD_NUMBERS)))
     elif what < 6:
-        put(draw.of([low - 1, low, high, high + 1, 0, draw.between(low, high)]))
+        put(not value if isinstance(value, bool) else draw.of([low - 1, low, high, high + 1, 0, draw.between(low, high)]))
     elif what < 7:
         other = draw.of([draw.of(ODD_VALUES), low, high, value])
         holder.insert(draw.below(len(holder) + 1), (name, other) if is_pair else other)
@@ -699,10 +716,10 @@ def calibration_case(draw):
 
 def survey_case(draw):
     if draw.chance(2):
-        # The least volume that is refused: 268,435,456 cells are accepted.
+        # The least volume that is refused: 268,435,456 cells are accepted. Version 3 would match it.
         size, count = draw.of([((1024, 1025), 256), ((2048, 1986), 66)])
         picture = f"P5 {size[0]} {size[1]} 255\n".encode() + bytes(size[0] * size[1])
-        calibration = json_text(draw, settings(draw, 0, count), False).encode()
+        calibration = json_text(draw, settings(draw, 0, count, versions=(1, 2)), False).encode()
         return GOOD_WORDS + options(draw), files_of([picture, picture], calibration)
     width, height = sides_of(draw, 700)
     if draw.chance(50):
@@ -732,11 +749,11 @@ def scene_case(draw):
     maxval = draw.of([7, 100, 255, 255, 256, 1023, 65535])
     pair = [pgm(draw, width, height, maxval, samples) for samples in layered(draw, width, height, maxval, first, count)]
     sections = sections_of(draw, width, height)
-    whole = settings(draw, first, count, **sections)
+    # In place of a third of version 1 too: its penalties don't follow the image.
+    whole = settings(draw, first, count, versions=(2, 2, 3), **sections)
     p1 = draw.of([1, 1, 2, 3, 5])
     penalties = [("p1", p1), ("p2", p1 * draw.of([2, 5, 10, 25, 60, 400]))]
     tuned = {
-        "version": 2,
         "census": Pairs([("width", draw.of([3, 3, 5])), ("height", draw.of([3, 3, 5]))]),
         "penalties": Pairs([*penalties, ("adapt", draw.chance(80))]),
     }

@@ -9,7 +9,7 @@ written.
 import json
 
 import random_inputs
-from calibration_cases import WHOLE
+from calibration_cases import WHOLE, third
 from random_inputs import FOLDER, Case, Draw, Link
 
 LIST = "list.txt"
@@ -89,13 +89,15 @@ def list_of(seed, number):
 def pairs_of(draw):
     """Small pairs and calibrations, most of which suit one another: the files, and for each entry to be its inputs."""
     files = {"bad.pgm": b"P2 1 1 255 7", "bad.json": b"{", "c.json": json.dumps(WHOLE).encode()}
-    good, refused = [], [["bad.pgm", "l0.pgm", "-"], ["l0.pgm", "bad.pgm", "c.json"], ["l0.pgm", "r0.pgm", "bad.json"]]
+    files |= {"third.json": json.dumps(third()).encode(), "fine.json": json.dumps(third(("disparities.fine", True))).encode()}
+    good, refused = [], [["bad.pgm", "l0.pgm", "-"], ["l0.pgm", "bad.pgm", "c.json"]]
+    refused += [["l0.pgm", "r0.pgm", name] for name in ("bad.json", "fine.json")]
     for number in range(3):
         # Of different widths, so that none suits another.
         width, height = 3 * number + draw.between(1, 3), draw.between(1, 4)
         both = random_inputs.pair_of(draw, width, height)
         files |= {f"l{number}.pgm": both[0], f"r{number}.pgm": both[1]}
-        good += [[f"l{number}.pgm", f"r{number}.pgm", calib] for calib in ("-", "c.json")]
+        good += [[f"l{number}.pgm", f"r{number}.pgm", calib] for calib in ("-", "c.json", "third.json")]
         refused.append([f"l{number}.pgm", f"r{(number + 1) % 3}.pgm", "-"])
     return files, good, refused
 

@@ -115,7 +115,7 @@ def fitting(left, right, calibration):
     if (left.width, left.height) != (right.width, right.height):
         raise Ended(REFUSED, f"sgm: sizes differ: {left.width}x{left.height} and {right.width}x{right.height}")
     cells = left.width * left.height * calibration.count
-    if cells > VOLUME_MOST:
+    if calibration.version < 3 and cells > VOLUME_MOST:
         raise Ended(REFUSED, f"sgm: volume of {cells} cells is above {VOLUME_MOST}")
     for side, warp in (("left", calibration.left), ("right", calibration.right)):
         fault = warp_fault(warp, left.width, left.height)

@@ -164,7 +164,7 @@ def read_pgm(data, side):
 # the order of their checks. A side of the warp and a region stand once; what other keys leave of a range is said where
 # they are read.
 RANGES = {
-    "version": (1, 2),
+    "version": (1, 3),
     "disparities.first": (-1024, 1024),
     "disparities.count": (1, 256),
     "census.width": (3, 9),
@@ -196,6 +196,9 @@ RANGES = {
 # A number whose least value is that of another key of its object, and the numbers that have to be odd.
 LEAST = {"penalties.p2": "p1", "camera.far": "near"}
 ODD = ("census.width", "census.height")
+# The keys that are true or false, each with the versions that have it and the values that it may have. They are checked
+# last in their object, and their names aren't known in other versions.
+FLAGS = {"disparities.fine": ((3,), (False,)), "penalties.adapt": ((2, 3), (False, True))}
 
 
 def keys_of(section):
@@ -203,9 +206,15 @@ def keys_of(section):
     return [path.partition(".")[2] for path in RANGES if path.startswith(section + ".")]
 
 
+def flags_of(section, version):
+    """The names of an object's keys that are true or false."""
+    return [path.partition(".")[2] for path, (in_versions, _) in FLAGS.items() if path.startswith(section + ".") and version in in_versions]
+
+
 class Calibration:
     """The plain settings; read_calibration makes other ones."""
 
+    version = 1
     first, count = 0, 64
     window = (9, 7)
     p1, p2 = 10, 120
@@ -297,9 +306,16 @@ def read_calibration(data):
             in_range(key not in ODD or made[name] % 2 == 1, f"{path}.{name}")
         return made
 
-    def section(parent, name, more=""):
-        """The whole numbers of an object that has no other keys than them and those that are named besides."""
-        return numbers(known(get(parent, name, dict), name, " ".join(keys_of(name)) + more), name, name)
+    def section(parent, name, version):
+        """An object of whole numbers and, behind them, of what is true or false in this version."""
+        flags = flags_of(name, version)
+        it = known(get(parent, name, dict), name, " ".join([*keys_of(name), *flags]))
+        made = numbers(it, name, name)
+        for flag in flags:
+            path = f"{name}.{flag}"
+            made[flag] = get(it, path, bool)
+            in_range(made[flag] in FLAGS[path][1], path)
+        return made
 
     def warp(parent, path):
         side = get(parent, path, dict)
@@ -337,22 +353,21 @@ def read_calibration(data):
         refused("unknown version")
     known(top, "top", "version disparities census penalties warp camera grid regions")
     made = Calibration()
-    disparities = section(top, "disparities")
+    made.version = version
+    disparities = section(top, "disparities", version)
     made.first, made.count = disparities["first"], disparities["count"]
-    census = section(top, "census")
+    census = section(top, "census", version)
     made.window = (census["width"], census["height"])
-    # Whether the penalties follow the image is a key of version 2, and an unknown name in version 1.
-    has_adapt = version == 2
-    penalties = section(top, "penalties", " adapt" if has_adapt else "")
+    penalties = section(top, "penalties", version)
     made.p1, made.p2 = penalties["p1"], penalties["p2"]
-    made.is_adaptive = has_adapt and get(top["penalties"], "penalties.adapt", bool)
+    made.is_adaptive = penalties.get("adapt", False)
     if "warp" in top:
         both = known(get(top, "warp", dict), "warp", "left right")
         made.left, made.right = warp(both, "warp.left"), warp(both, "warp.right")
     if "camera" in top or "grid" in top:
-        made.camera = section(top, "camera")
+        made.camera = section(top, "camera", version)
     if "grid" in top or "regions" in top:
-        made.grid = section(top, "grid")
+        made.grid = section(top, "grid", version)
     if "regions" in top:
         regions = get(top, "regions", list)
         in_range(len(regions) <= 1000, "regions")

@@ -5,6 +5,7 @@ a list of rows, and None stands for a pixel that has no value. An index d stands
 disparity first + d, so left pixel x meets right pixel x - first - d.
 """
 
+# The most cells of a volume in the versions 1 and 2. Version 3 has no limit of its own.
 VOLUME_MOST = 268435456
 DIRECTIONS = [(1, 0), (-1, 0), (0, 1), (1, 1), (-1, 1), (0, -1), (1, -1), (-1, -1)]
 
@@ -90,17 +91,77 @@ def census_codes(plane, window):
     return [[code(x, y) for x in range(width)] for y in range(height)]
 
 
-def costs_of(left, right, first, count, greatest):
-    """For each pixel the list of its costs: differing bits, or the greatest cost where a code is missing."""
+def costs_of(left, right, first, count, missing):
+    """For each pixel the list of its costs: differing bits, or `missing` where a code is."""
     width = len(left[0])
 
     def cost(x, y, d):
         q = x - first - d
         if left[y][x] is None or not 0 <= q < width or right[y][q] is None:
-            return greatest
+            return missing
         return bin(left[y][x] ^ right[y][q]).count("1")
 
     return [[[cost(x, y, d) for d in range(count)] for x in range(width)] for y in range(len(left))]
+
+
+# Costs of version 3
+
+
+def near(plane, x, y, i, j):
+    """The value of the neighbour of (x, y) at (x + i, y + j), or the pixel's own where that is outside or void."""
+    is_inside = 0 <= x + i < len(plane[0]) and 0 <= y + j < len(plane)
+    value = plane[y + j][x + i] if is_inside else None
+    return plane[y][x] if value is None else value
+
+
+def middle_of(plane, x, y):
+    """The third smallest of a pixel's value and of those to its right, its left, below and above; None where it is void."""
+    if plane[y][x] is None:
+        return None
+    return sorted(near(plane, x, y, i, j) for i, j in [(0, 0), (1, 0), (-1, 0), (0, 1), (0, -1)])[2]
+
+
+def smoothed_codes(plane, window):
+    """Each pixel's code: a bit for each neighbour, set where it is less than the pixel's middle. None where it is void."""
+    across, down = window[0] // 2, window[1] // 2
+    offsets = [(i, j) for j in range(-down, down + 1) for i in range(-across, across + 1) if (i, j) != (0, 0)]
+
+    def code(x, y):
+        middle, bits = middle_of(plane, x, y), 0
+        if middle is None:
+            return None
+        for i, j in offsets:
+            bits = 2 * bits + (near(plane, x, y, i, j) < middle)
+        return bits
+
+    return [[code(x, y) for x in range(len(plane[0]))] for y in range(len(plane))]
+
+
+def missing_cost(greatest):
+    """What stands where a code is missing: about what two codes that have nothing to do with each other cost."""
+    return 3 * greatest // 7
+
+
+def smoothed(costs):
+    """The costs along the rows: a quarter of those before and behind and half of a pixel's own, rounded down."""
+
+    def cost(row, x, d):
+        own = row[x][d]
+        before = row[x - 1][d] if x > 0 else own
+        behind = row[x + 1][d] if x + 1 < len(row) else own
+        return (before + 2 * own + behind) // 4
+
+    return [[[cost(row, x, d) for d in range(len(row[x]))] for x in range(len(row))] for row in costs]
+
+
+def costs_by(calibration, left, right):
+    """The costs of two planes, as the calibration's version has them."""
+    window, span = calibration.window, (calibration.first, calibration.count)
+    greatest = window[0] * window[1] - 1
+    if calibration.version < 3:
+        return costs_of(census_codes(left, window), census_codes(right, window), *span, greatest)
+    codes = smoothed_codes(left, window), smoothed_codes(right, window)
+    return smoothed(costs_of(*codes, *span, missing_cost(greatest)))
 
 
 # Paths
@@ -242,8 +303,8 @@ def kept(found, least):
     return made
 
 
-def met(found, x, y):
-    """The first disparity against each of the eight directions, where there is one before the picture's end, sorted."""
+def met_in_turn(found, x, y):
+    """The first disparity against each of the eight directions, where there is one before the picture's end."""
     values = []
     for dx, dy in DIRECTIONS:
         i, j = x - dx, y - dy
@@ -251,7 +312,12 @@ def met(found, x, y):
             i, j = i - dx, j - dy
         if 0 <= j < len(found) and 0 <= i < len(found[0]):
             values.append(found[j][i])
-    return sorted(values)
+    return values
+
+
+def met(found, x, y):
+    """The same, the least first."""
+    return sorted(met_in_turn(found, x, y))
 
 
 def is_mismatched(matched_row, x, first, count):
@@ -372,9 +438,7 @@ def certified(costs, guide, p1, p2, ray, d):
 def trace(left_image, right_image, calibration, direction, x, y, d):
     """The certificate of the index d at the pixel (x, y), in that direction."""
     left, right = rectify(left_image, calibration.left), rectify(right_image, calibration.right)
-    codes = [census_codes(plane, calibration.window) for plane in (left, right)]
-    greatest = calibration.window[0] * calibration.window[1] - 1
-    costs = costs_of(*codes, calibration.first, calibration.count, greatest)
+    costs = costs_by(calibration, left, right)
     guide = guide_of(left, left_image.maxval) if calibration.is_adaptive else None
     ray = ray_to(x, y, direction, left_image.width, left_image.height)
     return certified(costs, guide, calibration.p1, calibration.p2, ray, d)
@@ -405,23 +469,21 @@ def differences(earlier, later):
 # The whole survey
 
 
-def survey(left_image, right_image, calibration, peak=0, fill=0):
+def match_planes(left, right, guide, calibration):
+    """The map of disparities of two planes, and for each pixel of the right one its own index or None."""
+    sums = sums_of(costs_by(calibration, left, right), calibration.p1, calibration.p2, guide)
+    matched = [[match_of(row, q, calibration.first) for q in range(len(row))] for row in sums]
+    return disparities(sums, left, right, calibration.first), matched
+
+
+def survey(left_image, right_image, calibration, peak=0, fill=0, match=match_planes):
     """The final map of disparities, the grid's cells or None, and the regions' tallies or None."""
     left = rectify(left_image, calibration.left)
     right = rectify(right_image, calibration.right)
-    greatest = calibration.window[0] * calibration.window[1] - 1
-    costs = costs_of(
-        census_codes(left, calibration.window),
-        census_codes(right, calibration.window),
-        calibration.first,
-        calibration.count,
-        greatest,
-    )
     guide = guide_of(left, left_image.maxval) if calibration.is_adaptive else None
-    sums = sums_of(costs, calibration.p1, calibration.p2, guide)
-    found = kept(disparities(sums, left, right, calibration.first), peak)
+    found, matched = match(left, right, guide, calibration)
+    found = kept(found, peak)
     if fill:
-        matched = [[match_of(row, q, calibration.first) for q in range(len(row))] for row in sums]
         found = filled(found, matched, left, calibration.first, calibration.count)
     if calibration.grid is None:
         return found, None, None

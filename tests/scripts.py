@@ -23,7 +23,7 @@ import sgm_files
 
 FOLDERS = ["tests", "tools", "bench", "packaging", "examples/pair", "examples/photographs", "examples/stockpile"]
 # They take the words of the programs and no others; the programs have no --help either.
-REFERENCES = ["tests/reference.py", "tests/reference_series.py"]
+REFERENCES = ["tests/reference.py", "tests/quick_reference.py", "tests/reference_series.py"]
 # What reads a file, with the words around the file's name, and what writes into a folder.
 READERS = {
     "tools/cubic_metres.py": "FILE",

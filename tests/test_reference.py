@@ -30,6 +30,7 @@ def members(*names):
 
 PLAIN = "{" + members("version", "disparities", "census", "penalties")
 SECOND = PLAIN.replace('"version":1', '"version":2')
+THIRD = PLAIN.replace('"version":1', '"version":3').replace('"count":2', '"count":2,"fine":false')
 CAMERA, GRID, REGIONS = ("," + members(name) for name in ("camera", "grid", "regions"))
 WORKED = {
     "l.pgm": b"P5\n5 3\n255\n" + 3 * bytes([90, 10, 50, 20, 40]),
@@ -47,6 +48,12 @@ TABLE_TEXT = b"region,cells,empty,fill,cut,lowest,highest\nall,9,3,90000000000,0
 def with_adapt(value):
     """The worked example's settings in version 2, with that text as the key's value."""
     return SECOND.replace('"p2":3', '"p2":3,"adapt":' + value)
+
+
+def with_fine(value, text=None):
+    """The worked example's settings in version 3, or a text of them, with that text as the value of `fine`."""
+    text = THIRD.replace('"p2":3', '"p2":3,"adapt":false') if text is None else text
+    return text.replace('"fine":false', '"fine":' + value)
 
 
 def run(files, words):
@@ -137,6 +144,100 @@ class WorkedPair(unittest.TestCase):
         size = b"P5 4096 4096 255\n" + bytes(4096 * 4096)
         line = line_of(reference.judged, size, size, None)
         self.assertEqual(line, "volume of 1073741824 cells is above 268435456")
+
+
+class WorkedThirdVersion(unittest.TestCase):
+    """A pair of 5 x 3 pixels whose left column 0 is void. Codes, single costs and costs were computed by hand."""
+
+    FILES = {
+        "l.pgm": b"P5\n5 3\n255\n" + bytes([90, 10, 50, 20, 40, 15, 70, 30, 60, 25, 80, 35, 55, 45, 65]),
+        "r.pgm": b"P5\n5 3\n255\n" + bytes([12, 52, 22, 42, 30, 68, 33, 58, 27, 40, 37, 54, 47, 63, 20]),
+        "c.json": (
+            with_fine("false") + ',"warp":{"left":{"kind":"projective","matrix":[1,0,-1,0,1,0,0,0,1]},"right":{"kind":"identity"}}}'
+        ).encode(),
+    }
+    MIDDLES = {
+        "l.pgm": [[None, 90, 50, 30, 20], [None, 70, 30, 55, 45], [None, 80, 55, 45, 45]],
+        "r.pgm": [[12, 33, 42, 30, 30], [37, 54, 33, 42, 30], [37, 47, 54, 47, 20]],
+    }
+    CODES = {
+        "l.pgm": [
+            [None, 0b00001011, 0b11100101, 0b00011000, 0b00000000],
+            [None, 0b10110101, 0b01010000, 0b11100101, 0b01010000],
+            [None, 0b01101000, 0b10100111, 0b01010000, 0b10000000],
+        ],
+        "r.pgm": [
+            [0b00000000, 0b00011000, 0b11100101, 0b00010010, 0b00000100],
+            [0b01001000, 0b11100101, 0b01001000, 0b10101001, 0b00010010],
+            [0b00100000, 0b01010000, 0b10100111, 0b01101000, 0b00000000],
+        ],
+    }
+    # For each index the rows of single costs and of costs. Where a code is missing a single cost is 3 * 8 / 7 = 3.
+    SINGLE = [[[3, 3, 0, 2, 1], [3, 2, 2, 3, 2], [3, 3, 0, 3, 1]], [[3, 3, 7, 7, 2], [3, 7, 5, 5, 6], [3, 2, 7, 7, 4]]]
+    COSTS = [[[3, 2, 1, 1, 1], [2, 2, 2, 2, 2], [3, 2, 1, 1, 1]], [[3, 4, 6, 5, 3], [4, 5, 5, 5, 5], [2, 3, 5, 6, 4]]]
+
+    def planes(self):
+        calibration = inputs.read_calibration(self.FILES["c.json"])
+        warps = {"l.pgm": calibration.left, "r.pgm": calibration.right}
+        planes = {name: matching.rectify(inputs.read_pgm(self.FILES[name], "left"), warp) for name, warp in warps.items()}
+        return planes, calibration
+
+    def test_costs(self):
+        planes, calibration = self.planes()
+        self.assertEqual(planes["l.pgm"][2], [None, 80, 35, 55, 45])
+        codes = []
+        for name, plane in planes.items():
+            middles = [[matching.middle_of(plane, x, y) for x in range(5)] for y in range(3)]
+            self.assertEqual(middles, self.MIDDLES[name])
+            codes.append(matching.smoothed_codes(plane, (3, 3)))
+            self.assertEqual(codes[-1], self.CODES[name])
+        single = matching.costs_of(*codes, 0, 2, matching.missing_cost(8))
+        costs = matching.smoothed(single)
+        for d in range(2):
+            self.assertEqual([[pixel[d] for pixel in row] for row in single], self.SINGLE[d])
+            self.assertEqual([[pixel[d] for pixel in row] for row in costs], self.COSTS[d])
+        self.assertEqual(matching.costs_by(calibration, *planes.values()), costs)
+
+    def test_match(self):
+        made = {"o.pgm": b"P5\n5 3\n65535\n" + 3 * bytes([0, 0, 0, 16, 0, 16, 0, 16, 0, 16])}
+        for options in ("", " strips=3 workers=2"):
+            answer = run(self.FILES, "match l.pgm r.pgm c.json o" + options)
+            self.assertEqual(answer, (0, "valid 12 of 15\n", "", made))
+
+    def test_trace(self):
+        answer = run(self.FILES, "trace l.pgm r.pgm c.json right 4 1 1")
+        self.assertEqual(answer, (0, "least 14\n0 1 0 2 0\n1 1 0 2 0\n2 1 0 2 0\n3 1 0 2 0\n4 1 1 5 1\n", "", {}))
+
+    def test_greatest_and_missing(self):
+        for window, missing in (((3, 3), 3), ((5, 3), 6), ((9, 3), 11), ((3, 5), 6), ((5, 5), 10), ((7, 7), 20), ((9, 7), 26)):
+            self.assertEqual(matching.missing_cost(window[0] * window[1] - 1), missing, window)
+
+    def test_smoothed(self):
+        """At the ends of a row a pixel stands for its neighbour that isn't there, and the rest of a division is dropped."""
+        costs = [[[0], [3], [62], [62]], [[1], [0], [0], [2]]]
+        self.assertEqual(matching.smoothed(costs), [[[0], [17], [47], [62]], [[0], [0], [0], [1]]])
+        self.assertEqual(matching.smoothed([[[62, 7]]]), [[[62, 7]]])
+
+    def test_middle_of_few(self):
+        """One row, one column and one pixel; voids beside a pixel count as its own value."""
+        self.assertEqual(matching.middle_of([[7, 1, 3]], 1, 0), 1)
+        self.assertEqual(matching.middle_of([[1, 7, 3]], 1, 0), 7)
+        self.assertEqual(matching.middle_of([[7], [1], [3]], 0, 0), 7)
+        self.assertEqual(matching.middle_of([[9]], 0, 0), 9)
+        self.assertIsNone(matching.middle_of([[None]], 0, 0))
+        around = [[None, 2, None], [8, 5, None], [None, 1, None]]
+        self.assertEqual(matching.middle_of(around, 1, 1), 5)
+        around[1][2] = 0
+        self.assertEqual(matching.middle_of(around, 1, 1), 2)
+
+    def test_volume(self):
+        """What is too large a volume in the versions 1 and 2 is none in version 3."""
+        image, calibration = inputs.Image(4096, 3072, 255, []), inputs.Calibration()
+        calibration.count = 22
+        line = "volume of 276824064 cells is above 268435456"
+        for version, answer in ((1, line), (2, line), (3, None)):
+            calibration.version = version
+            self.assertEqual(line_of(reference.fitting, image, image, calibration), answer)
 
 
 class WorkedCertificates(unittest.TestCase):
@@ -402,9 +503,22 @@ class Calibrations(unittest.TestCase):
             ('{"version":NaN}', "not JSON"),
             ("[]", "top has the wrong type"),
             ("{}", "version is missing"),
-            ('{"version":3}', "unknown version"),
+            ('{"version":4}', "unknown version"),
             ('{"version":0,"x":0}', "unknown version"),
             ('{"version":2}', "disparities is missing"),
+            ('{"version":3}', "disparities is missing"),
+            ('{"version":3.0}', "version has the wrong type"),
+            (with_fine("true") + "}", "disparities.fine is out of range"),
+            (with_fine("0") + "}", "disparities.fine has the wrong type"),
+            (with_fine('"false"') + ',"warp":0}', "disparities.fine has the wrong type"),
+            (with_fine("null").replace('"count":2', '"count":0') + "}", "disparities.count is out of range"),
+            (with_fine("true").replace('"width":3', '"width":4') + "}", "disparities.fine is out of range"),
+            (THIRD.replace(',"fine":false', "") + "}", "disparities.fine is missing"),
+            (THIRD.replace("fine", "fines") + "}", "disparities has an unknown name"),
+            (THIRD.replace('"version":3', '"version":2') + "}", "disparities has an unknown name"),
+            (THIRD.replace('"version":3', '"version":1') + "}", "disparities has an unknown name"),
+            (THIRD + "}", "penalties.adapt is missing"),
+            (with_fine("false").replace('"adapt":false', '"adapt":0') + "}", "penalties.adapt has the wrong type"),
             ('{"version":2.0}', "version has the wrong type"),
             (SECOND + "}", "penalties.adapt is missing"),
             (with_adapt("1") + "}", "penalties.adapt has the wrong type"),
@@ -444,6 +558,13 @@ class Calibrations(unittest.TestCase):
             self.assertEqual((made.p1, made.p2, made.is_adaptive), (1, 3, is_adaptive))
         self.assertFalse(inputs.read_calibration((PLAIN + "}").encode()).is_adaptive)
         self.assertFalse(inputs.Calibration().is_adaptive)
+
+    def test_third_version(self):
+        for adapt, is_adaptive in (("true", True), ("false", False)):
+            made = inputs.read_calibration((with_fine("false").replace('"adapt":false', '"adapt":' + adapt) + "}").encode())
+            self.assertEqual((made.version, made.count, made.p1, made.p2, made.is_adaptive), (3, 2, 1, 3, is_adaptive))
+        versions = [inputs.read_calibration((text + "}").encode()).version for text in (PLAIN, with_adapt("true"))]
+        self.assertEqual((versions, inputs.Calibration().version), ([1, 2], 1))
 
     def test_last_of_equal_names_counts(self):
         text = PLAIN.replace('"first":0', '"first":0.5,"first":-7') + "}"

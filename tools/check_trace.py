@@ -6,7 +6,8 @@
 The first seven words are those of `sgm trace`, TRACE is a file with what it printed. It should hold a sequence
 of indices along the line of pixels that leads in the direction DIR to the pixel (X, Y), one line for each
 pixel, `X Y INDEX COST JUMP`, and on top `least E`. Here nothing is taken from the program. The pixels that
-the line needs are rectified, each cost and each jump is computed and compared, and so is their sum. Then
+the line needs are rectified, each cost and each jump is computed and compared, and so is their sum. In version 3
+of the calibration a cost is a mean along the row, so the pixels beside the line take part in it. Then
 least energies are worked out along the line, pixel by pixel and for every index: no sequence that ends in D
 may have less than E, and of those with E it has to be the one whose indices, looked at from the end
 backwards, are the lesser ones. So there is just one certificate that holds.
@@ -66,7 +67,7 @@ def place(warp, x, y):
 class Picture:
     """One of the two pictures, of which only those pixels are rectified that are asked for."""
 
-    def __init__(self, samples, most, warp, window):
+    def __init__(self, samples, most, warp, window, version):
         self.samples, self.most, self.warp = samples, most, warp
         self.height, self.width = samples.shape
         if warp["kind"] == "mesh":
@@ -75,7 +76,7 @@ class Picture:
                 raise Wrong("a mesh of the calibration isn't made for pictures of this size")
         self.across, self.down = window[0] // 2, window[1] // 2
         self.value = functools.cache(self.value)
-        self.code = functools.cache(self.code)
+        self.code = functools.cache(self.code if version < 3 else self.code_about_the_middle)
 
     def value(self, x, y):
         """The rectified pixel: the mean of the four samples around its place. None where one that counts is missing."""
@@ -102,6 +103,21 @@ class Picture:
         centre = near.pop(len(near) // 2)
         return [neighbour < centre for neighbour in near]
 
+    def code_about_the_middle(self, x, y):
+        """The code of version 3. Of each neighbour in the window: is it less than the third of the five values of the
+        pixel and of those that touch its sides? What has no value counts as the pixel itself, which needs one."""
+        own = self.value(x, y)
+        if own is None:
+            return None
+
+        def near(i, j):
+            value = self.value(x + i, y + j)
+            return own if value is None else value
+
+        middle = sorted((own, near(1, 0), near(-1, 0), near(0, 1), near(0, -1)))[2]
+        rows, cols = range(-self.down, self.down + 1), range(-self.across, self.across + 1)
+        return [near(i, j) < middle for j in rows for i in cols if (i, j) != (0, 0)]
+
 
 # Costs and jumps
 
@@ -110,6 +126,9 @@ class Pair:
     """Both pictures and the settings: what a cost is, and what a jump is."""
 
     def __init__(self, left, right, calibration):
+        self.version = whole(calibration, "version")
+        if self.version not in (1, 2, 3):
+            raise Wrong(f"the calibration has version {self.version}; 1, 2 and 3 are known here")
         self.first, self.count = (whole(calibration, "disparities", key) for key in ("first", "count"))
         self.window = [whole(calibration, "census", key) for key in ("width", "height")]
         self.p1, self.p2 = (whole(calibration, "penalties", key) for key in ("p1", "p2"))
@@ -117,18 +136,30 @@ class Pair:
         if self.count < 1 or not all(side > 0 and side % 2 == 1 for side in self.window):
             raise Wrong("the calibration has no disparities, or a window without a middle")
         self.left, self.right = (
-            Picture(*sgm_files.read_pgm(name), warp_of(calibration, side), self.window)
+            Picture(*sgm_files.read_pgm(name), warp_of(calibration, side), self.window, self.version)
             for name, side in ((left, "left"), (right, "right"))
         )
         if self.left.samples.shape != self.right.samples.shape:
             raise Wrong(f"{left} and {right} aren't of one size")
+        most = self.window[0] * self.window[1] - 1
+        # What stands where a code is missing.
+        self.missing = most if self.version < 3 else 3 * most // 7
+        self.single_cost = functools.cache(self.single_cost)
 
-    def cost(self, x, y, d):
+    def single_cost(self, x, y, d):
         """In how many places the codes of the left pixel and of the right one that index d leads to differ."""
         ours, theirs = self.left.code(x, y), self.right.code(x - self.first - d, y)
         if ours is None or theirs is None:
-            return self.window[0] * self.window[1] - 1
+            return self.missing
         return sum(map(operator.ne, ours, theirs))
+
+    def cost(self, x, y, d):
+        """The cost of an index at a pixel; in version 3 half of it is that of the pixels to its left and right."""
+        own = self.single_cost(x, y, d)
+        if self.version < 3:
+            return own
+        beside = (self.single_cost(i, y, d) if 0 <= i < self.left.width else own for i in (x - 1, x + 1))
+        return (2 * own + sum(beside)) // 4
 
     def far(self, here, before):
         """What a change by more than one costs between two neighbouring pixels."""

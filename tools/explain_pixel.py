@@ -6,8 +6,8 @@
 An index is a disparity less the first one. The program takes the index whose sum over eight directions is the
 least. Here it is asked for the certificate of each direction for that index and for the two beside it
 (`sgm trace`), and each is checked against the pictures as tools/check_trace.py does, which takes nothing from
-the program. A table shows what they come to; below it stands by how much the index wins, what lies between it
-and its neighbours (a sixteenth of a pixel is the finest step), what the program's own disparity picture has
+the program. A table shows what they come to; below it stands, in version 3 of the calibration, what the index's cost at
+the pixel is made of, then by how much the index wins, what lies between it and its neighbours (a sixteenth of a pixel is the finest step), what the program's own disparity picture has
 there (`sgm match`, without peaks or filling, in a folder that goes away again), and the point in metres where the
 calibration has a camera.
 
@@ -137,6 +137,19 @@ def comparison(sums, chosen, first):
         yield f"Of all others disparity {first + best} comes nearest, with {sums[best]}: {sums[best] - at} more."
 
 
+def smoothing(pair, x, y, d):
+    """What the cost of an index at the pixel is made of, where it is a mean along the row."""
+    if pair.version < 3:
+        return
+    columns = [max(0, x - 1), x, min(pair.left.width - 1, x + 1)]
+    before, own, behind = (pair.single_cost(column, y, d) for column in columns)
+    yield f"The cost of index {d} at this pixel is {pair.cost(x, y, d)}: in version 3 it is a mean along the row, of the single costs"
+    yield "{}, {} and {} at the columns {}, {} and {},".format(before, own, behind, *columns)
+    yield "the middle one counted twice. A single cost says in how many places the two codes differ; where one is"
+    yield f"missing it is {pair.missing}."
+    yield ""
+
+
 def partner(pair, x, y, chosen):
     """Why the pixel can't have a disparity, whatever the sums are, or what the check must have found."""
     q = x - pair.first - chosen
@@ -159,6 +172,7 @@ def explain(pair, words, value, directions, indices, chosen):
     yield "line before the pixel costs at least, which is the same for every index. The last three columns say"
     yield f"what the certificates of index {chosen} are made of: costs of pixels, changes by one, larger ones."
     yield ""
+    yield from smoothing(pair, words.x, words.y, chosen)
     yield f"Index {chosen}, disparity {pair.first + chosen}, has the least sum, {sums[chosen]}."
     yield from comparison(sums, chosen, pair.first)
     moved = offset(*sums[chosen - 1 : chosen + 2]) if 0 < chosen < pair.count - 1 else 0

@@ -1,12 +1,12 @@
 #!/usr/bin/env python3
 """Turns the calib.txt of a Middlebury pair into a calibration of sgm: disparities, camera, penalties.
 
-    tools/middlebury_calibration.py calib.txt --out calibration.json [--adapt] [--tight]
+    tools/middlebury_calibration.py calib.txt --out calibration.json [--adapt] [--tight] [--version 3]
 
 calib.txt is that of the stereo datasets of 2014 and 2021: lines NAME=VALUE with cam0, cam1, doffs, baseline (in
 millimetres), width, height and ndisp. The pair is rectified already, so there is no warp. The disparities are 0 to
 ndisp - 1; with --tight they are vmin to vmax. Near and far are the distances of the last and the first of them,
-mount is far. Convert the pictures with tools/photo_to_pgm.py, then bench/accuracy.py compares what is found with
+mount is far. The calibration is of version 1, with --adapt of version 2, with --version 3 of that one. Convert the pictures with tools/photo_to_pgm.py, then bench/accuracy.py compares what is found with
 the true disparities.
 """
 
@@ -64,6 +64,18 @@ def span_of(found, is_tight):
     return {"first": first, "count": last - first + 1}
 
 
+def settings_of(words, span):
+    """The sections of the matching, in the version that is asked for."""
+    census = {"width": 9, "height": 7}
+    if words.version == 3:
+        p1, p2 = words.penalties or ((25, 1200) if words.adapt else (25, 100))
+        penalties = {"p1": p1, "p2": p2, "adapt": words.adapt}
+        return {"version": 3, "disparities": {**span, "fine": False}, "census": census, "penalties": penalties}
+    p1, p2 = words.penalties or ((10, 400) if words.adapt else (10, 120))
+    penalties = {"p1": p1, "p2": p2} | ({"adapt": True} if words.adapt else {})
+    return {"version": 2 if words.adapt else 1, "disparities": span, "census": census, "penalties": penalties}
+
+
 def calibration(found, words):
     matrix, doffs, span = rows_of(found, "cam0"), number(found, "doffs"), span_of(found, words.tight)
     focal, baseline = matrix[0][0], 1000 * number(found, "baseline")
@@ -74,12 +86,8 @@ def calibration(found, words):
         return focal * baseline / (disparity + doffs) if disparity + doffs > 0 else FARTHEST
 
     far = min(FARTHEST, math.ceil(distance(span["first"])))
-    p1, p2 = words.penalties or ((10, 400) if words.adapt else (10, 120))
     return {
-        "version": 2 if words.adapt else 1,
-        "disparities": span,
-        "census": {"width": 9, "height": 7},
-        "penalties": {"p1": p1, "p2": p2} | ({"adapt": True} if words.adapt else {}),
+        **settings_of(words, span),
         "camera": {
             "focal": round(256 * focal),
             "baseline": round(baseline),
@@ -112,7 +120,8 @@ def words_of():
     parser.add_argument("--out", required=True, metavar="FILE.json", help="the calibration of sgm")
     parser.add_argument("--adapt", action="store_true", help="let P2 follow the image")
     parser.add_argument("--tight", action="store_true", help="disparities vmin to vmax in place of 0 to ndisp - 1")
-    help_penalties = "1 to 4000 each (10 120; with --adapt 10 400)"
+    parser.add_argument("--version", type=int, choices=(3,), help="the calibration's version, in place of 1, or 2 with --adapt")
+    help_penalties = "1 to 4000 each (10 120; with --adapt 10 400; in version 3 25 100, with --adapt 25 1200)"
     parser.add_argument("--penalties", type=penalty, nargs=2, metavar=("P1", "P2"), help=help_penalties)
     words = parser.parse_args()
     if words.penalties and words.penalties[0] > words.penalties[1]:

@@ -15,7 +15,9 @@ asks for others; else they are computed.
 --mount is the left camera's height above the place where heights are 0, --near and --far bound the
 distances that are measured. All three are micrometres, along the axis of the rectified cameras. The
 disparities are those of the distances from near to far, where --first and --count don't say otherwise.
-With --adapt the penalty P2 follows the image: that is a calibration of version 2.
+With --adapt the penalty P2 follows the image: that is a calibration of version 2. With --version 3 it is one of version 3,
+whose costs hold where texture is faint or the picture noisy, with the penalties that are recommended for it: 25 and 100, or
+with --adapt 25 and 1200, for other windows than 9 x 7 in proportion. Don't measure volumes with version 3 yet.
 
 Needs numpy, and OpenCV's package (cv2) for YAML, for XML, and where a rectification has to be computed.
 """
@@ -59,6 +61,8 @@ BASE = (-2000000000, 2000000000)
 # P1 and P2 where --penalties doesn't give them. One that follows the image is divided by differences of grey values,
 # so it begins higher.
 PENALTIES, ADAPTED_PENALTIES = (10, 120), (10, 400)
+# The same of version 3, for a window of 9 x 7.
+THIRD_PENALTIES, THIRD_ADAPTED = (25, 100), (25, 1200)
 MOST_REGIONS = 1000
 # Meshes: the steps that are tried, how close one has to be to the map in pixels, the range of a node's
 # numbers, and how long a calibration may be in bytes.
@@ -68,7 +72,7 @@ FARTHEST = 16777216
 LONGEST = 16777216
 # No number of a camera is greater. NaN and infinity aren't up to it either.
 MOST = 1e18
-# The most cells, being pixels times disparities, and what one takes: bytes beside those of a pixel and of a
+# The most cells of versions 1 and 2, being pixels times disparities, and what one takes: bytes beside those of a pixel and of a
 # cell of the grid, and seconds of one worker on a processor of 2.5 GHz, as measured.
 MOST_CELLS = 268435456
 BYTES_OF_CELL, BYTES_OF_PIXEL, BYTES_OF_GRID = 3, 45, 16
@@ -293,16 +297,16 @@ def disparities_of(camera, first, count):
     return {"first": first, "count": count}
 
 
-def cost(size, count, grid):
+def cost(size, count, grid, version):
     """The cells that are compared, and about how much memory and time they take."""
     pixels = size[0] * size[1]
     cells = pixels * count
-    if cells > MOST_CELLS:
-        advice = "scale the pictures down before calibrating, or bring --near and --far closer together"
+    if version != 3 and cells > MOST_CELLS:
+        advice = "scale the pictures down before calibrating, bring --near and --far closer together, or take --version 3"
         raise Wrong(f"{size[0]} x {size[1]} x {count} are {cells} cells, {MOST_CELLS} at most: {advice}")
     memory = BYTES_OF_CELL * cells + BYTES_OF_PIXEL * pixels + BYTES_OF_GRID * (grid[3] * grid[4] if grid else 0)
     takes = f"about {memory // 1000000 + 1} MB of memory and {seconds(cells)} with one worker"
-    return f"{cells} cells of {MOST_CELLS} at most: {takes}"
+    return f"{cells} cells{'' if version == 3 else f' of {MOST_CELLS} at most'}: {takes}"
 
 
 def seconds(cells):
@@ -310,9 +314,22 @@ def seconds(cells):
     return f"{about:.0f} seconds" if about >= 3 else f"{max(about, 0.1):.1f} seconds"
 
 
-def penalties_of(penalties, adapt):
-    p1, p2 = penalties or (ADAPTED_PENALTIES if adapt else PENALTIES)
-    return {"p1": p1, "p2": p2} | ({"adapt": True} if adapt else {})
+def settings_of(words, span):
+    """The sections of the matching, in the version that is asked for."""
+    census = {"width": words.census[0], "height": words.census[1]}
+    if words.version == 3:
+        neighbours = census["width"] * census["height"] - 1
+        p1, p2 = words.penalties or (in_proportion(it, neighbours) for it in (THIRD_ADAPTED if words.adapt else THIRD_PENALTIES))
+        penalties = {"p1": p1, "p2": p2, "adapt": words.adapt}
+        return {"version": 3, "disparities": {**span, "fine": False}, "census": census, "penalties": penalties}
+    p1, p2 = words.penalties or (ADAPTED_PENALTIES if words.adapt else PENALTIES)
+    penalties = {"p1": p1, "p2": p2} | ({"adapt": True} if words.adapt else {})
+    return {"version": 2 if words.adapt else 1, "disparities": span, "census": census, "penalties": penalties}
+
+
+def in_proportion(penalty, neighbours):
+    """A penalty of a window of 9 x 7, which has 62 neighbours, for one with others."""
+    return max(1, (penalty * neighbours + 31) // 62)
 
 
 def region_of(values):
@@ -325,16 +342,13 @@ def calibration(parts, words):
     camera = camera_of(p1, p2, MICROMETRES[words.unit], words)
     span = disparities_of(camera, words.first, words.count)
     views, size = [View(parts["K1"], parts["D1"], r1, p1), View(parts["K2"], parts["D2"], r2, p2)], parts["size"]
-    costs = cost(size, span["count"], words.grid)
+    costs = cost(size, span["count"], words.grid, words.version)
     if words.step is None:
         step, worst = finest_needed(views, size)
     else:
         step, worst = words.step, max(view.deviation(size, words.step) for view in views)
     whole = {
-        "version": 2 if words.adapt else 1,
-        "disparities": span,
-        "census": {"width": words.census[0], "height": words.census[1]},
-        "penalties": penalties_of(words.penalties, words.adapt),
+        **settings_of(words, span),
         "warp": {side: view.mesh(size, step) for side, view in zip(("left", "right"), views)},
         "camera": camera,
     }
@@ -442,7 +456,10 @@ def words_of():
     window = sides_word((3, 5, 7, 9), (3, 5, 7))
     option("--census", type=window, default=(9, 7), metavar="WxH", help="the window: 3, 5, 7, 9 by 3, 5, 7 (9x7)")
     penalty = whole_word(1, 4000)
-    costs = {"metavar": ("P1", "P2"), "help": "1 to 4000 each (10 120; with --adapt 10 400)"}
+    later = "the calibration's version, in place of 1, or 2 with --adapt"
+    option("--version", type=int, choices=(3,), help=later)
+    help_penalties = "1 to 4000 each (10 120; with --adapt 10 400; in version 3 25 100, with --adapt 25 1200)"
+    costs = {"metavar": ("P1", "P2"), "help": help_penalties}
     option("--penalties", type=penalty, nargs=2, **costs)
     follows = "let P2 follow the image: a jump costs less where the grey values differ"
     option("--adapt", action="store_true", help=follows)

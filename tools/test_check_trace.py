@@ -19,13 +19,19 @@ sys.path.insert(0, os.path.join(HERE, "..", "tests"))
 import check_trace as tool
 import reference_matching as matching
 import sgm_files
-from reference_inputs import Image
+from reference_inputs import Calibration, Image
 
 # The worked example, whose certificates were added up by hand.
 LEFT = Image(5, 3, 255, 3 * [90, 10, 50, 20, 40])
 RIGHT = Image(5, 3, 255, 3 * [10, 50, 20, 40, 30])
 EXAMPLE = {"version": 1, "disparities": {"first": 0, "count": 2}, "census": {"width": 3, "height": 3}}
 EXAMPLE["penalties"] = {"p1": 1, "p2": 3}
+# That of version 3, whose costs were added up by hand too; its left column 0 is void.
+THIRD_LEFT = Image(5, 3, 255, [90, 10, 50, 20, 40, 15, 70, 30, 60, 25, 80, 35, 55, 45, 65])
+THIRD_RIGHT = Image(5, 3, 255, [12, 52, 22, 42, 30, 68, 33, 58, 27, 40, 37, 54, 47, 63, 20])
+THIRD = {**EXAMPLE, "version": 3, "disparities": {"first": 0, "count": 2, "fine": False}}
+THIRD["penalties"] = {"p1": 1, "p2": 3, "adapt": False}
+THIRD["warp"] = {"left": {"kind": "projective", "matrix": [1, 0, -1, 0, 1, 0, 0, 0, 1]}, "right": {"kind": "identity"}}
 # A quarter of a pixel to the left, so that the first column is void; a shift that leaves the pictures' last rows void;
 # and a mesh that stretches both ways.
 SHIFT = {"kind": "projective", "matrix": [4, 0, -1, 0, 4, 0, 0, 0, 4]}
@@ -53,10 +59,11 @@ def problem(left, right, calibration):
     """The costs of every pixel and index, and what a larger jump costs between two pixels."""
     warps = calibration.get("warp", {side: {"kind": "identity"} for side in ("left", "right")})
     planes = [matching.rectify(image, warps[side]) for image, side in ((left, "left"), (right, "right"))]
-    window = (calibration["census"]["width"], calibration["census"]["height"])
-    codes = [matching.census_codes(plane, window) for plane in planes]
-    span = calibration["disparities"]
-    costs = matching.costs_of(*codes, span["first"], span["count"], window[0] * window[1] - 1)
+    settings = Calibration()
+    settings.version = calibration["version"]
+    settings.window = (calibration["census"]["width"], calibration["census"]["height"])
+    settings.first, settings.count = (calibration["disparities"][key] for key in ("first", "count"))
+    costs = matching.costs_by(settings, *planes)
     guide = matching.guide_of(planes[0], left.maxval)
     p1, p2 = (calibration["penalties"][key] for key in ("p1", "p2"))
 
@@ -133,10 +140,23 @@ class Rays(Files):
         self.holds_alone(tool.Ray(pair, "right", 2, 1), 1, "least 15\n0 1 0 8 0\n1 1 0 6 0\n2 1 1 0 1\n")
         self.holds_alone(tool.Ray(pair, "down", 0, 0), 0, "least 8\n0 0 0 8 0\n")
 
+    def test_third_version_by_hand(self):
+        """Single costs of row 1 are 3 2 2 3 2 and 3 7 5 5 6, and the costs 2 2 2 2 2 and 4 5 5 5 5."""
+        pair = self.pair(THIRD_LEFT, THIRD_RIGHT, THIRD)
+        single = [[pair.single_cost(x, 1, d) for x in range(5)] for d in range(2)]
+        self.assertEqual(single, [[3, 2, 2, 3, 2], [3, 7, 5, 5, 6]])
+        costs = [[pair.cost(x, 1, d) for x in range(5)] for d in range(2)]
+        self.assertEqual(costs, [[2, 2, 2, 2, 2], [4, 5, 5, 5, 5]])
+        text = "least 14\n0 1 0 2 0\n1 1 0 2 0\n2 1 0 2 0\n3 1 0 2 0\n4 1 1 5 1\n"
+        self.holds_alone(tool.Ray(pair, "right", 4, 1), 1, text)
+        # The pixels beside the last one take part in its cost, though the line doesn't touch them.
+        self.holds_alone(tool.Ray(pair, "down", 3, 2), 0, "least 4\n3 0 0 1 0\n3 1 0 2 0\n3 2 0 1 0\n")
+
     def test_every_sequence(self):
-        """Every direction; both kinds of penalty, ties, voids by both kinds of warp, samples of 16 bits."""
+        """Every direction; both kinds of penalty, ties, voids by both kinds of warp, samples of 16 bits, and the costs
+        of version 2 and of version 3."""
         draw, tried = random.Random(18), 0
-        for number in range(24):
+        for number in range(48):
             width, height, most = draw.choice([(7, 5, 255), (5, 6, 65535), (6, 5, 9)])
             count, first = draw.choice([3, 4]), draw.choice([-2, 0, 1])
             # Few grey values, so that many costs are equal.
@@ -144,6 +164,9 @@ class Rays(Files):
             left, right = (Image(width, height, most, draw.choices(levels, k=width * height)) for _ in "lr")
             calibration = {"version": 2, "disparities": {"first": first, "count": count}}
             calibration["census"] = {"width": 3, "height": 3}
+            if number % 4 > 1:
+                calibration["version"], calibration["disparities"]["fine"] = 3, False
+                calibration["census"] = {"width": draw.choice([3, 5, 9]), "height": draw.choice([3, 7])}
             p1, p2 = draw.choice([(1, 1), (1, 3), (2, 5), (1, 400), (11, 400)])
             calibration["penalties"] = {"p1": p1, "p2": p2, "adapt": number % 2 == 0}
             if number % 3:
@@ -155,7 +178,7 @@ class Rays(Files):
                 line = line_to(direction, x, y, width, height)
                 self.holds_alone(tool.Ray(pair, direction, x, y), d, certificate(*of, line, d))
                 tried += len(line) > 2
-        self.assertGreater(tried, 60)
+        self.assertGreater(tried, 120)
 
 
 class Command(Files):
@@ -222,7 +245,7 @@ class Command(Files):
             status, out, err = self.run_tool("l.pgm", "r.pgm", "c.json", "down", "0", "0", "0", "t")
             self.assertEqual((status, out, err), (1, "", f"check_trace: {name}: No such file or directory\n"))
             os.rename(self.path("away"), self.path(name))
-        bad = ({}, {**EXAMPLE, "census": {"width": 3, "height": 2}}, {**EXAMPLE, "disparities": {"first": 0, "count": 0}})
+        bad = ({}, {**EXAMPLE, "version": 4}, {**EXAMPLE, "version": "3"}, {**EXAMPLE, "census": {"width": 3, "height": 2}}, {**EXAMPLE, "disparities": {"first": 0, "count": 0}})
         bad += tuple({**EXAMPLE, "warp": {"left": it, "right": SHIFT}} for it in ({}, 5, {"kind": "mesh"}, {"kind": "projective", "matrix": [1]}))
         bad += ({**EXAMPLE, "warp": {"left": mesh(9, 9, random), "right": SHIFT}},)
         for calibration in bad:

@@ -22,6 +22,15 @@ CALIBRATION = """{"version":1,"disparities":{"first":0,"count":2},
            "mount":150000,"near":1,"far":1000000},
  "grid":{"west":2000,"south":-2000,"cell":1000,"cols":4,"rows":3}}
 """
+# A pair of version 3 whose costs were computed by hand; its left column 0 is void.
+THIRD = {
+    "l.pgm": bytes([90, 10, 50, 20, 40, 15, 70, 30, 60, 25, 80, 35, 55, 45, 65]),
+    "r.pgm": bytes([12, 52, 22, 42, 30, 68, 33, 58, 27, 40, 37, 54, 47, 63, 20]),
+    "c.json": b"""{"version":3,"disparities":{"first":0,"count":2,"fine":false},
+ "census":{"width":3,"height":3},"penalties":{"p1":1,"p2":3,"adapt":false},
+ "warp":{"left":{"kind":"projective","matrix":[1,0,-1,0,1,0,0,0,1]},"right":{"kind":"identity"}}}
+""",
+}
 # A program that hands on what the reference says, changed by a command of sed.
 FAKE = """#!/usr/bin/env bash
 if [ "$1" = {command} ]; then {reference} "$@" | sed '{change}'; else {reference} "$@"; fi
@@ -68,6 +77,24 @@ class Explained(Tool):
         self.assertIn("The one before it, disparity 0, comes to 49: 48 more.", lines)
         self.assertIn("So the disparity is 1, in pixels, and that is what the program's picture has here.", lines)
         self.assertIn("Its point lies 0.002 m to the east and -0.001 m to the north of the left camera, 0.05 m high.", lines)
+
+    def test_third_version(self):
+        """The pixel (4, 1) has the single costs 3 and 2 of index 0 and the end of the row beside it: (3 + 2 * 2 + 2) div 4."""
+        for name, data in THIRD.items():
+            with open(self.path(name), "wb") as file:
+                file.write((b"" if name == "c.json" else b"P5\n5 3\n255\n") + data)
+        status, out, err = self.explain(4, 1)
+        self.assertEqual((status, err), (0, ""))
+        lines = out.split("\n")
+        at = lines.index("The cost of index 0 at this pixel is 2: in version 3 it is a mean along the row, of the single costs")
+        self.assertEqual(lines[at + 1], "3, 2 and 2 at the columns 3, 4 and 4,")
+        self.assertEqual(lines[at + 3], "missing it is 3.")
+        # The pixel beside the void column: 3, which is void's, 2 and 2 of index 0.
+        lines = self.explain(1, 1)[1].split("\n")
+        self.assertIn("3, 2 and 2 at the columns 0, 1 and 2,", lines)
+        # Nothing of that in the versions whose costs are single ones.
+        self.setUp()
+        self.assertNotIn("single", self.explain(2, 1)[1])
 
     def test_without_a_disparity(self):
         """A first of 3 leads the pixel (2, 1) out of the right picture."""

@@ -62,6 +62,16 @@ class Middlebury(unittest.TestCase):
         self.assertEqual((made.first, made.count, made.p1, made.p2, made.is_adaptive), (7, 58, 10, 400, True))
         whole = json.loads(run(GIVEN, "--adapt", "--penalties", "7", "90")[2])
         self.assertEqual((whole["version"], whole["penalties"]), (2, {"p1": 7, "p2": 90, "adapt": True}))
+        for options, penalties in (
+            ([], {"p1": 25, "p2": 100, "adapt": False}),
+            (["--adapt"], {"p1": 25, "p2": 1200, "adapt": True}),
+            (["--adapt", "--penalties", "7", "90"], {"p1": 7, "p2": 90, "adapt": True}),
+        ):
+            data = run(GIVEN, "--version", "3", *options)[2]
+            whole, made = json.loads(data), inputs.read_calibration(data)
+            self.assertEqual((whole["version"], whole["penalties"]), (3, penalties))
+            self.assertEqual((made.version, made.first, made.count, made.p1), (3, 0, 70, penalties["p1"]))
+            self.assertEqual(whole["disparities"], {"first": 0, "count": 70, "fine": False})
 
     def test_refused(self):
         for old, new, line in [

@@ -126,6 +126,30 @@ class WithoutDistortion(unittest.TestCase):
             made = made_from(PLAIN, LIMITS + options)
             self.assertEqual((made.p1, made.p2, made.is_adaptive), (penalties["p1"], penalties["p2"], version == 2))
 
+    def test_third_version(self):
+        """Windows of 9 x 7, 5 x 5 and 3 x 3 have 62, 24 and 8 neighbours: 25 becomes 9.7 and 3.2, 100 becomes 38.7 and 12.9,
+        1200 becomes 464.5 and 154.8."""
+        for options, is_adaptive, p1, p2 in [
+            ("", False, 25, 100),
+            (" --adapt", True, 25, 1200),
+            (" --census 5x5", False, 10, 39),
+            (" --census 5x5 --adapt", True, 10, 465),
+            (" --census 3x3", False, 3, 13),
+            (" --census 3x3 --adapt", True, 3, 155),
+            (" --census 3x3 --penalties 7 90", False, 7, 90),
+            (" --penalties 7 90 --adapt", True, 7, 90),
+        ]:
+            whole = json.loads(run(PLAIN, LIMITS + " --version 3" + options)[2])
+            self.assertEqual((whole["version"], whole["disparities"]["fine"]), (3, False))
+            self.assertEqual(whole["penalties"], {"p1": p1, "p2": p2, "adapt": is_adaptive}, options)
+            made = made_from(PLAIN, LIMITS + " --version 3" + options)
+            self.assertEqual((made.version, made.p1, made.p2, made.is_adaptive), (3, p1, p2, is_adaptive), options)
+            # All else is that of version 1.
+            first = json.loads(run(PLAIN, LIMITS + options)[2])
+            for key in ("warp", "camera", "census"):
+                self.assertEqual(whole[key], first[key])
+            self.assertEqual({**first["disparities"], "fine": False}, whole["disparities"])
+
     def test_given_rectification(self):
         one = [[1, 0, 0], [0, 1, 0], [0, 0, 1]]
         p1 = [[64, 0, 40, 0], [0, 64, 20, 0], [0, 0, 1, 0]]
@@ -185,6 +209,9 @@ class WithoutDistortion(unittest.TestCase):
         # Disparities 16 to 32, as above.
         start = "opencv_calibration: 4096 x 4096 x 17 are 285212672 cells, 268435456 at most: "
         self.assertEqual((status, errors[: len(start)], errors.count("\n"), made), (1, start, 1, None))
+        # Version 3 has no limit of cells.
+        made = made_from(given, LIMITS + " --version 3 --step 1024")
+        self.assertEqual((made.count, made.left["cols"]), (17, 5))
 
     def test_regions(self):
         """What is written is read back by the program's definitions, which know the ranges themselves."""
@@ -195,20 +222,21 @@ class WithoutDistortion(unittest.TestCase):
         self.assertEqual(made.regions, [dict(zip(keys, it)) for it in wanted])
 
     def test_what_is_printed(self):
-        with tempfile.TemporaryDirectory() as folder:
-            with open(os.path.join(folder, "given.json"), "w") as file:
-                json.dump(PLAIN, file)
-            command = [sys.executable, TOOL, "given.json", "--out", "made.json", *LIMITS.split(), "--step", "30"]
-            done = subprocess.run(command, cwd=folder, capture_output=True, text=True)
-        first, second = done.stdout.splitlines()
-        self.assertEqual(
-            first,
-            "100 x 60, focal length 128.00 pixels, baseline 500000 micrometres, disparities 16 to 32, "
-            "meshes of step 30 within 0.000 pixels",
-        )
         # 100 * 60 * 17; three bytes each and 45 for each pixel are 0.6 MB, so one is said.
-        wanted = "102000 cells of 268435456 at most: about 1 MB of memory and 0.1 seconds with one worker"
-        self.assertEqual(second, wanted)
+        takes = "about 1 MB of memory and 0.1 seconds with one worker"
+        for options, cells in (([], "102000 cells of 268435456 at most"), (["--version", "3"], "102000 cells")):
+            with tempfile.TemporaryDirectory() as folder:
+                with open(os.path.join(folder, "given.json"), "w") as file:
+                    json.dump(PLAIN, file)
+                command = [sys.executable, TOOL, "given.json", "--out", "made.json", *LIMITS.split(), "--step", "30", *options]
+                done = subprocess.run(command, cwd=folder, capture_output=True, text=True)
+            first, second = done.stdout.splitlines()
+            self.assertEqual(
+                first,
+                "100 x 60, focal length 128.00 pixels, baseline 500000 micrometres, disparities 16 to 32, "
+                "meshes of step 30 within 0.000 pixels",
+            )
+            self.assertEqual(second, f"{cells}: {takes}")
 
     def test_missing_files(self):
         for name in ("none.json", "none.yml"):

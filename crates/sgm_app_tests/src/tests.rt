@@ -5,7 +5,7 @@ mod ended;
 pub(crate) mod fixtures;
 mod outputs;
 mod pairs;
-mod recording;
 mod refusals;
+mod stops;
 mod trips;
 mod workers;

@@ -1,7 +1,8 @@
 //! The words, one check after the other. More are stored cases of `sgm_cases`.
 
 use crate::tests::fixtures::words_of;
-use sgm_words::{OperandWords, UsageFault, read_words};
+use sgm_list::{MAX_ENTRIES, MAX_LIST_BYTES};
+use sgm_words::{MAX_GRID_BYTES, OperandWords, UsageFault, read_words};
 use std::alloc::{AllocError, Global};
 use std::test::Fail;
 
@@ -49,4 +50,10 @@ fn operands_by_name_have_each_name_in_its_place(rt: HostRuntime) {
     let operands = OperandWords::named("west", "east", "survey", "mine");
     assert!(rt; operands.left() == "west" && operands.right() == "east");
     assert!(rt; operands.calib() == "survey" && operands.out() == "mine");
+}
+
+// Contracts cite the limits by name, so that no clause says their values.
+#[test]
+fn limits_as_numbers(rt: HostRuntime) {
+    assert!(rt; (MAX_GRID_BYTES, MAX_LIST_BYTES, MAX_ENTRIES) == (268_435_456, 1_048_576, 1000));
 }

@@ -1,7 +1,7 @@
 //! What no clause says of strips, boards and workers, by the worked example: three rows of five pixels.
 mod boards;
-mod gates;
 mod making;
+mod selecting;
 mod strips;
 mod sums;
 mod taking;

@@ -5,7 +5,7 @@ ghost use Rattle.std.specs.Prelude.{◌≡◌, IsTrue, nat_le, unwrap_or};
 ghost use Rattle.std.specs.List.{list_all};
 
 use sgm_base::{Plane, Size, Span};
-use sgm_census::{CodePlane, Window, codes};
+use sgm_census::{CodePlane, CostRule, Window, codes};
 use sgm_energy::{Dir, Pen};
 use sgm_strip::{Guide, Scene};
 use sgm_trace::{Step, Traced, trace, write_trace};
@@ -22,7 +22,7 @@ fn plane_of(alloc: Global, row: &[Option<u16>]) -> Result<Plane, Fail> {
 
 fn codes_of(alloc: Global, row: &[Option<u16>]) -> Result<CodePlane, Fail> {
     let window = Window::make(3, 3).ok_or("window")?;
-    Ok(codes(alloc, &plane_of(alloc, row)?, window)?)
+    Ok(codes(alloc, &plane_of(alloc, row)?, window, CostRule::Plain)?)
 }
 
 fn are_bytes(entries: &[Option<u16>]) -> bool
@@ -45,10 +45,14 @@ fn suit(left: &CodePlane, right: &CodePlane, guide: &Guide) -> bool
     ensures width { IsTrue result → left.now.width ≡ right.now.width }
     ensures height { IsTrue result → left.now.height ≡ right.now.height }
     ensures window { IsTrue result → left.now.window ≡ right.now.window }
+    ensures rule { IsTrue result → left.now.rule ≡ right.now.rule }
     ensures guide_width { IsTrue result → guide.now.width ≡ left.now.width }
     ensures guide_height { IsTrue result → guide.now.height ≡ left.now.height }
 {
-    left.size() == right.size() && left.window() == right.window() && guide.size() == left.size()
+    left.size() == right.size()
+        && left.window() == right.window()
+        && left.rule() == right.rule()
+        && guide.size() == left.size()
 }
 
 fn scene_of(

@@ -4,7 +4,7 @@ use Rattle.sgm_calib.specs.declared.sort.Sort.{Sort}
 use Rattle.sgm_calib.specs.Table as table
 use Rattle.sgm_calib.specs.Table.{keys, given_rows, rows_in}
 
-pub rows_in-disparities : (sort : Sort) → rows_in table.disparities sort ≡ table.disparities_keys
+pub rows_in-disparities : (sort : Sort) → rows_in table.disparities sort ≡ table.first ∷ table.count ∷ given_rows sort (table.fine ∷ [])
 unfolding rows_in keys
 rows_in-disparities sort = refl
 

@@ -3,6 +3,8 @@ use Rattle.std.specs.Prelude.{◌≤◌, pos, false, List, All, Option, None, If
 use Rattle.sgm_base.specs.Disparities.{Disparities}
 use Rattle.sgm_base.specs.declared.limits.TheConstants.{MAX_REGIONS}
 use Rattle.sgm_census.specs.Windows.{WindowSides}
+use Rattle.sgm_census.specs.declared.rule.CostRule.{CostRule}
+use Rattle.sgm_census.specs.declared.rule.CostRule.TheVariants.{Plain}
 use Rattle.sgm_energy.specs.Pens.{Penalties}
 use Rattle.sgm_rectify.specs.declared.warp.Warp.{Warp}
 use Rattle.sgm_rectify.specs.declared.warp.Warp.TheVariants.{Identity}
@@ -16,6 +18,7 @@ use Rattle.sgm_report.specs.Areas.{Area, IsArea}
 pub record Calibration : Type 0 where
   pub span : Disparities
   pub window : WindowSides
+  pub rule : CostRule
   pub penalties : Penalties
   pub left : Warp
   pub right : Warp
@@ -23,10 +26,11 @@ pub record Calibration : Type 0 where
   pub grid : Option GridSpec
   pub regions : Option (List Area)
 
-abbrev pub settings : Disparities → WindowSides → Penalties → Warp → Warp → Option Camera → Option GridSpec → Option (List Area) → Calibration
-settings span window penalties left right camera grid regions = record {
+abbrev pub settings : Disparities → WindowSides → CostRule → Penalties → Warp → Warp → Option Camera → Option GridSpec → Option (List Area) → Calibration
+settings span window rule penalties left right camera grid regions = record {
   span = span;
   window = window;
+  rule = rule;
   penalties = penalties;
   left = left;
   right = right;
@@ -38,7 +42,7 @@ settings span window penalties left right camera grid regions = record {
 -- the settings for the word `-`
 abbrev pub plain : Calibration
 plain =
-    settings (record { first = pos 0; count = 64 }) (record { width = 9; height = 7 }) (record { p1 = 10; p2 = 120; adaptive = false }) Identity Identity None None None
+    settings (record { first = pos 0; count = 64 }) (record { width = 9; height = 7 }) Plain (record { p1 = 10; p2 = 120; adaptive = false }) Identity Identity None None None
 
 -- the ranges of warps, camera and grid; a camera where there is a grid; a grid where there are regions, and each of them in it
 pub record IsCalibration (calib : Calibration) : Type 0 where

@@ -5,6 +5,8 @@ use Rattle.std.specs.Option.{option_or}
 use Rattle.std.specs.Result.{result_err}
 use Rattle.serde_json.specs.Data.{Data}
 use Rattle.serde_json.specs.Find.{get, as_object}
+use Rattle.sgm_census.specs.declared.rule.CostRule.{CostRule}
+use Rattle.sgm_census.specs.declared.rule.CostRule.TheVariants.{Plain, Smoothed}
 use Rattle.sgm_height.specs.declared.camera.Camera.{Camera}
 use Rattle.sgm_grid.specs.declared.grid_spec.GridSpec.{GridSpec}
 use Rattle.sgm_calib.specs.declared.keys.CalibFault.{CalibFault}
@@ -15,7 +17,7 @@ use Rattle.sgm_calib.specs.declared.sort.Sort.TheVariants as sort
 use Rattle.sgm_calib.specs.Calibration.{Calibration}
 use Rattle.sgm_calib.specs.Table as table
 use Rattle.sgm_calib.specs.Table.{rows_in, span_of, window_of, penalties_of, camera_of, grid_of}
-use Rattle.sgm_calib.specs.Rows.{Row, Form, object, warps, regions, key_at, whole, count_of, is_in_range, is_required}
+use Rattle.sgm_calib.specs.Rows.{Row, Form, object, warps, regions, key_at, whole, count_of, is_in_range, is_required, is_since}
 use Rattle.sgm_calib.specs.Checks.{first_of, typed_in, or_out_of_range, object_fault, type_fault, keys_fault, value_of}
 use Rattle.sgm_calib.specs.WarpKeys.{warps_fault, warp_in}
 use Rattle.sgm_calib.specs.RegionKeys.{regions_fault, regions_in}
@@ -27,6 +29,10 @@ version_fault top = result_err (or_out_of_range Version (is_in_range table.versi
 -- the objects of a value go by its version
 unfoldable pub sort_of : Data → Sort
 sort_of top = sort.Version (count_of table.version top)
+
+-- the costs of a value go by its version
+unfoldable pub rule_in : Data → CostRule
+rule_in top = if is_since 3 (sort_of top) then Smoothed else Plain
 
 abbrev pub itself_fault_of : Row → Sort → Bool → Option Data → Option CalibFault
 itself_fault_of row sort required None = if required then Some (Missing (key_at PLAIN row)) else None
@@ -81,6 +87,7 @@ abbrev pub calibration_in : Data → Calibration
 calibration_in top = record {
   span = span_of (value_of table.disparities top);
   window = window_of (value_of table.census top);
+  rule = rule_in top;
   penalties = penalties_of (value_of table.penalties top);
   left = warp_in table.left top;
   right = warp_in table.right top;

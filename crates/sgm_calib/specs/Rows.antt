@@ -1,5 +1,5 @@
 -- The rows of the key table: what a row says, and what the code's rows mean.
-use Rattle.std.specs.Prelude.{ℕ, ◌+◌, ◌%◌, ◌==◌, ℤ, pos, ◌-ℤ◌, unsigned_abs, int_le, Bool, true, false, ◌&&◌, List, Option, option_and_then, unwrap_or, is_some}
+use Rattle.std.specs.Prelude.{ℕ, ◌+◌, ◌%◌, ◌==◌, nat_le, ℤ, pos, ◌-ℤ◌, unsigned_abs, int_le, Bool, true, false, ◌&&◌, List, Option, option_and_then, unwrap_or, is_some}
 use Rattle.std.specs.Str.{bytes_eq}
 use Rattle.serde_json.specs.Data.{Data}
 use Rattle.serde_json.specs.Find.{get, as_bool, as_number, as_i64}
@@ -16,15 +16,16 @@ use Rattle.sgm_calib.specs.declared.table.Presence.{Presence as CodePresence}
 use Rattle.sgm_calib.specs.declared.table.Presence.TheVariants as code_presence
 
 -- What the value of a key is, and which numbers are in range: an object; the object of the warps; the name of a kind of warp,
--- or of a region; a truth value; the list of the regions; a whole number, which is between two, odd and between two, from that of another key
--- of the object on, a column or a row of the grid, or so many of them as are left from another key's on; nine numbers, or two
--- for each node of a mesh, each between two.
+-- or of a region; a truth value; one of which false alone is in range; the list of the regions; a whole number, which is
+-- between two, odd and between two, from that of another key of the object on, a column or a row of the grid, or so many of
+-- them as are left from another key's on; nine numbers, or two for each node of a mesh, each between two.
 pub data Form : Type 0 where
   object : Form
   warps : Form
   kind : Form
   name : Form
   truth : Form
+  false_alone : Form
   regions : Form
   between : ℤ → ℤ → Form
   odd : ℤ → ℤ → Form
@@ -36,14 +37,14 @@ pub data Form : Type 0 where
   matrix : ℤ → ℤ → Form
   nodes : ℤ → ℤ → Form
 
--- whether a key has to be there: always, never, where another key stands in the object, or in the sides of one kind alone or
--- the objects of one version alone, to which alone it is given
+-- whether a key has to be there: always, never, where another key stands in the object, or in the sides of one kind or the
+-- objects from one version on, to which alone it is given
 pub data Presence : Type 0 where
   required : Presence
   optional : Presence
   with : List ℕ → Presence
   of_kind : List ℕ → Presence
-  of_version : ℕ → Presence
+  since : ℕ → Presence
 
 -- a key's number, the number of the object that has it, its name there, its path as it is printed (of a region's what
 -- follows the place in the list), and what is asked of it
@@ -61,6 +62,7 @@ form_meant code.Warps = warps
 form_meant code.Kind = kind
 form_meant code.Name = name
 form_meant code.Truth = truth
+form_meant code.FalseAlone = false_alone
 form_meant code.Regions = regions
 form_meant (code.Between low high) = between low high
 form_meant (code.Odd low high) = odd low high
@@ -77,7 +79,7 @@ presence_meant code_presence.Required = required
 presence_meant code_presence.Optional = optional
 presence_meant (code_presence.With key) = with key.now
 presence_meant (code_presence.OfKind key) = of_kind key.now
-presence_meant (code_presence.OfVersion number) = of_version number
+presence_meant (code_presence.Since version) = since version
 
 -- the row that a row of the code is
 abbrev pub meant : CodeRow → Row
@@ -163,18 +165,19 @@ is_required required d = true
 is_required optional d = false
 is_required (with key) d = is_some (get key d)
 is_required (of_kind key) d = true
-is_required (of_version number) d = true
+is_required (since version) d = true
 
 abbrev pub is_side_of : List ℕ → Sort → Bool
 is_side_of key (Side side) = bytes_eq key (kind_name side)
 is_side_of key _ = false
 
-abbrev pub is_in_version : ℕ → Sort → Bool
-is_in_version number (Version other) = number == other
-is_in_version number _ = false
+-- whether an object of that sort goes by that version or a later one
+abbrev pub is_since : ℕ → Sort → Bool
+is_since first (Version version) = nat_le first version
+is_since first _ = false
 
 -- whether an object of that sort is given the key
 abbrev pub is_given : Presence → Sort → Bool
 is_given (of_kind key) sort = is_side_of key sort
-is_given (of_version number) sort = is_in_version number sort
+is_given (since version) sort = is_since version sort
 is_given _ sort = true

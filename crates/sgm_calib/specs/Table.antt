@@ -14,7 +14,7 @@ use Rattle.sgm_grid.specs.declared.limits.TheConstants.{MAX_CELL, MAX_HEIGHT, MA
 use Rattle.sgm_height.specs.declared.camera.Camera.{Camera}
 use Rattle.sgm_height.specs.declared.limits.TheConstants.{MAX_BASELINE, MAX_DEPTH, MAX_FOCAL, MAX_MOUNT, MAX_OFFSET}
 use Rattle.sgm_rectify.specs.declared.limits.TheConstants.{MAX_ENTRY, MAX_NODE, MAX_NODE_COUNT, MAX_STEP, MIN_ENTRY, MIN_NODE, MIN_NODE_COUNT, MIN_STEP}
-use Rattle.sgm_calib.specs.Rows.{Form, object, warps, kind, name, truth, regions, between, odd, from, column, line, columns_from, lines_from, matrix, nodes, Presence, required, optional, with, of_kind, of_version, Row, is_given, number_of, count_of, truth_of}
+use Rattle.sgm_calib.specs.Rows.{Form, object, warps, kind, name, truth, false_alone, regions, between, odd, from, column, line, columns_from, lines_from, matrix, nodes, Presence, required, optional, with, of_kind, since, Row, is_given, number_of, count_of, truth_of}
 
 -- the row of a key of the value itself, and of a key of an object
 abbrev pub entry : ℕ → List ℕ → Form → Presence → Row
@@ -41,7 +41,7 @@ abbrev pub top : Row
 top = record { number = 1; object = 0; name = codes "top"; path = codes "top"; form = object; presence = required }
 
 abbrev pub version : Row
-version = entry 2 (codes "version") (between (pos 1) (pos 2)) required
+version = entry 2 (codes "version") (between (pos 1) (pos 3)) required
 
 abbrev pub disparities : Row
 disparities = entry 3 (codes "disparities") object required
@@ -51,6 +51,10 @@ first = key_of disparities 4 (codes "first") (between MIN_FIRST MAX_FIRST)
 
 abbrev pub count : Row
 count = key_of disparities 5 (codes "count") (between (pos 1) (pos MAX_COUNT))
+
+-- true is out of range until finer disparities can be made
+abbrev pub fine : Row
+fine = given disparities 51 (codes "fine") false_alone (since 3)
 
 abbrev pub census : Row
 census = entry 6 (codes "census") object required
@@ -71,7 +75,7 @@ abbrev pub p2 : Row
 p2 = key_of penalties 11 (codes "p2") (from (codes "p1") (pos MAX_PENALTY))
 
 abbrev pub adapt : Row
-adapt = given penalties 50 (codes "adapt") truth (of_version 2)
+adapt = given penalties 50 (codes "adapt") truth (since 2)
 
 abbrev pub warp : Row
 warp = entry 12 (codes "warp") warps optional
@@ -178,7 +182,7 @@ abbrev pub top_keys : List Row
 top_keys = disparities ∷ census ∷ penalties ∷ warp ∷ camera ∷ grid ∷ region_list ∷ []
 
 abbrev pub disparities_keys : List Row
-disparities_keys = first ∷ count ∷ []
+disparities_keys = first ∷ count ∷ fine ∷ []
 
 abbrev pub census_keys : List Row
 census_keys = width ∷ height ∷ []
@@ -213,9 +217,9 @@ keys =
     ++ (region_list ∷ [])
     ++ (region ∷ region_keys)
 
--- their numbers in that order: from 1 to 49, with 50 behind 11
+-- their numbers in that order: from 1 to 49, with 51 behind 5 and 50 behind 11
 abbrev pub order : List ℕ
-order = range_with_len 1 11 ++ 50 ∷ range_with_len 12 38
+order = range_with_len 1 5 ++ 51 ∷ range_with_len 6 6 ++ 50 ∷ range_with_len 12 38
 
 -- those of some keys that an object of that sort is given
 abbrev pub given_rows : Sort → List Row → List Row

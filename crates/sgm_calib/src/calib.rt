@@ -4,7 +4,7 @@ ghost use Rattle.sgm_energy.specs.Pens.{penalties_of};
 ghost use Rattle.sgm_calib.specs.Calibration.{plain, IsCalibration};
 
 use sgm_base::Span;
-use sgm_census::Window;
+use sgm_census::{CostRule, Window};
 use sgm_energy::Pen;
 use sgm_grid::GridSpec;
 use sgm_height::Camera;
@@ -18,6 +18,7 @@ use std::marker::Model;
 pub struct Calib {
     pub(crate) span: Span,
     pub(crate) window: Window,
+    pub(crate) rule: CostRule,
     pub(crate) pen: Pen,
     pub(crate) left: Warp,
     pub(crate) right: Warp,
@@ -33,17 +34,18 @@ impl Model for Calib {
 
     ghost Value = { Calibration };
 
-    ghost view = { λ c. settings c.span c.window (penalties_of c.pen) c.left c.right c.camera c.grid
+    ghost view = { λ c. settings c.span c.window c.rule (penalties_of c.pen) c.left c.right c.camera c.grid
         (option_map (λ v. v.items) c.regions) };
 
     ghost invariant = { λ c. IsCalibration
-        (settings c.span c.window (penalties_of c.pen) c.left c.right c.camera c.grid
+        (settings c.span c.window c.rule (penalties_of c.pen) c.left c.right c.camera c.grid
         (option_map (λ v. v.items) c.regions)) };
 }
 
 impl Calib {
-    /// The settings where no file is named: 64 disparities from 0 on, a window of 9 x 7 pixels, the
-    /// penalties 10 and 120 everywhere, no warp, and neither camera nor grid nor regions. Takes no memory.
+    /// The settings where no file is named: 64 disparities from 0 on, a window of 9 x 7 pixels, plain
+    /// costs, the penalties 10 and 120 everywhere, no warp, and neither camera nor grid nor regions. Takes no
+    /// memory.
     pub fn plain() -> Calib
         ensures { result ≡ plain }
     {
@@ -59,6 +61,7 @@ impl Calib {
                 width: 9,
                 height: 7,
             },
+            rule: CostRule::Plain,
             pen,
             left: Warp::Identity,
             right: Warp::Identity,
@@ -80,6 +83,13 @@ impl Calib {
         ensures { result ≡ self.now.window }
     {
         self.window
+    }
+
+    /// By which rule costs are made.
+    pub fn rule(&self) -> CostRule
+        ensures { result ≡ self.now.rule }
+    {
+        self.rule
     }
 
     /// The penalties of a change of the disparity.

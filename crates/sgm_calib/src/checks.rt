@@ -1,22 +1,24 @@
 //! The checks of one key, and of one object.
 
-ghost use Rattle.std.specs.Prelude.{◌≡◌, ◌==◌, ◌&&◌, ◌+◌, ◌<◌, ◌≤ℤ◌, unsigned_abs, map, All, IfOk, IfErr, OnOk, IsTrue, Some, None, Ok, Err, string_bytes, option_map, IsSome};
+ghost use Rattle.std.specs.Prelude.{◌≡◌, ◌==◌, ◌&&◌, ◌+◌, ◌<◌, ◌≤ℤ◌, unsigned_abs, map, All, IfOk, IfErr, OnOk, IsTrue, Some, None, Ok, Err, string_bytes, option_map, IsSome, not};
 ghost use Rattle.std.specs.BTreeMap.{keys};
 ghost use Rattle.std.specs.List.{list_all, list_any};
 ghost use Rattle.std.specs.Str.{bytes_eq};
+ghost use Rattle.std.specs.Result.{result_err};
 ghost use Rattle.serde_json.specs.View.{view};
 ghost use Rattle.serde_json.specs.Find.{as_bool, as_str, get};
 ghost use Rattle.sgm_calib.specs.Table as table;
 ghost use Rattle.sgm_calib.specs.Table.{is_known};
-ghost use Rattle.sgm_calib.specs.Rows.{key_at, whole, whole_at, number_of, IsCount, least, greatest, has_parity, is_in_range, is_required, is_given, truth_at, meant, form_meant, presence_meant};
-ghost use Rattle.sgm_calib.specs.Checks.{number_in, typed_in, wholes_fault, object_fault, text_of};
-ghost use Rattle.sgm_calib.specs.Judge.{sort_of, version_fault, top_fault, itself_fault};
+ghost use Rattle.sgm_calib.specs.Rows.{key_at, whole, whole_at, number_of, IsCount, least, greatest, has_parity, is_in_range, is_required, is_since, is_given, truth_at, meant, form_meant, presence_meant};
+ghost use Rattle.sgm_calib.specs.Checks.{number_in, truth_in, typed_in, wholes_fault, object_fault, text_of};
+ghost use Rattle.sgm_calib.specs.Judge.{sort_of, rule_in, version_fault, top_fault, itself_fault};
 
 use crate::keys::{CalibFault, Key};
 use crate::place::{PLAIN, Place};
 use crate::sort::Sort;
 use crate::table::{Form, Presence, Row, TOP, VERSION, rows};
 use serde_json::{Map, Value};
+use sgm_census::CostRule;
 
 /// The key that a row is at a place.
 pub fn key_at(row: &Row, place: Place) -> Key
@@ -181,6 +183,20 @@ pub fn truth(object: &Value, row: &Row, place: Place) -> Result<bool, CalibFault
     }
 }
 
+/// Checks a key of which false alone is in range: that it is there, its type, its range.
+#[tactic(auto, unfolding(crate::specs::Checks::truth_in))]
+pub fn check_false(object: &Value, row: &Row, place: Place) -> Result<(), CalibFault>
+    requires { row.now.number + place.shift < 256 }
+    ensures ok { OnOk result (result_err (truth_in not place (view object.now) (meant row.now)) ≡ None) }
+    ensures fault { IfErr result (λ f. result_err (truth_in not place (view object.now) (meant row.now)) ≡ Some f) }
+{
+    if truth(object, row, place)? {
+        Err(CalibFault::Range(key_at(row, place)))
+    } else {
+        Ok(())
+    }
+}
+
 /// The truth value under a name of an object, and false where there is none.
 pub fn truth_at(object: &Value, name: &str) -> bool
     ensures { result ≡ truth_at name.now (view object.now) }
@@ -191,6 +207,16 @@ pub fn truth_at(object: &Value, name: &str) -> bool
     }
 }
 
+/// Whether an object of that sort goes by that version or a later one.
+fn is_since(first: u64, sort: Sort) -> bool
+    ensures { result ≡ is_since first sort }
+{
+    match sort {
+        Sort::Version(version) => first <= version,
+        _ => false,
+    }
+}
+
 /// Whether an object of that sort is given the key.
 pub fn is_given(row: &Row, sort: Sort) -> bool
     ensures { result ≡ is_given (presence_meant row.now.presence) sort }
@@ -198,8 +224,7 @@ pub fn is_given(row: &Row, sort: Sort) -> bool
     match (row.presence, sort) {
         (Presence::OfKind(name), Sort::Side(kind)) => name == kind.name(),
         (Presence::OfKind(_), _) => false,
-        (Presence::OfVersion(number), Sort::Version(other)) => number == other,
-        (Presence::OfVersion(_), _) => false,
+        (Presence::Since(first), _) => is_since(first, sort),
         _ => true,
     }
 }
@@ -248,6 +273,18 @@ pub fn sort_of(top: &Value) -> Sort
     ensures { result ≡ sort_of (view top.now) }
 {
     Sort::Version(number_at(top, VERSION.name).unsigned_abs())
+}
+
+/// By which rule the costs of a value are made: they go by its version.
+#[tactic(auto, unfolding(crate::specs::Judge::rule_in))]
+pub fn rule(top: &Value) -> CostRule
+    ensures { result ≡ rule_in (view top.now) }
+{
+    if is_since(3, sort_of(top)) {
+        CostRule::Smoothed
+    } else {
+        CostRule::Plain
+    }
 }
 
 /// Whether a key has to be there.

@@ -9,7 +9,7 @@ ghost use Rattle.sgm_calib.specs.Read.{Reads, ReadsAs, ReadsText};
 ghost use Rattle.sgm_calib.specs.declared.keys.CalibFault.{CalibFault};
 
 use crate::calib::Calib;
-use crate::checks::check_top;
+use crate::checks::{check_top, rule};
 use crate::keys::{CalibError, CalibFault};
 use crate::regions::regions;
 use crate::sections::{camera, census, disparities, grid, penalties};
@@ -33,6 +33,7 @@ fn entries(alloc: Global, top: &Value) -> Result<Calib, CalibError>
     Ok(Calib {
         span,
         window,
+        rule: rule(top),
         pen,
         left,
         right,

@@ -17,14 +17,14 @@ ghost use Rattle.sgm_calib.specs.Table.{given_rows, rows_in, span_of, window_of,
 ghost use Rattle.sgm_calib.specs.Judge.{section_fault, camera_in, grid_in};
 
 use crate::checks::{
-    check_numbers, count_at, is_given, number_at, object_in, odd_or_whole, sort_of, truth,
-    truth_at, whole,
+    check_false, check_numbers, count_at, is_given, number_at, object_in, odd_or_whole, sort_of,
+    truth, truth_at, whole,
 };
 use crate::keys::CalibFault;
 use crate::place::PLAIN;
 use crate::sort::Sort;
 use crate::table::{
-    ADAPT, CAMERA, CAMERA_KEYS, CENSUS, CENSUS_KEYS, DISPARITIES, DISPARITIES_KEYS, GRID,
+    ADAPT, CAMERA, CAMERA_KEYS, CENSUS, CENSUS_KEYS, DISPARITIES, DISPARITIES_KEYS, FINE, GRID,
     GRID_KEYS, PENALTIES, PENALTIES_KEYS,
 };
 use serde_json::Value;
@@ -48,15 +48,28 @@ fn span(first: i64, count: i64) -> Span
     }
 }
 
-/// The disparities that an object is, once its names are known.
-fn span_of(object: &Value) -> Result<Span, CalibFault>
-    ensures ok { OnOk result (keys_fault PLAIN (view object.now) table.disparities_keys ≡ None) }
-    ensures value { IfOk result (λ span. span ≡ span_of (view object.now)) }
-    ensures fault { IfErr result (λ f. keys_fault PLAIN (view object.now) table.disparities_keys ≡ Some f) }
+/// Checks the key that says whether disparities are made finer, where disparities of that sort are given it.
+fn check_fine(object: &Value, sort: Sort) -> Result<(), CalibFault>
+    ensures ok { OnOk result (keys_fault PLAIN (view object.now) (given_rows sort (table.fine ∷ [])) ≡ None) }
+    ensures fault { IfErr result (λ f. keys_fault PLAIN (view object.now) (given_rows sort (table.fine ∷ [])) ≡ Some f) }
 {
-    let [first, count] = &DISPARITIES_KEYS;
+    let row = &FINE;
+    if is_given(row, sort) {
+        check_false(object, row, PLAIN)?;
+    }
+    Ok(())
+}
+
+/// The disparities that an object of that sort is, once its names are known.
+fn span_of(object: &Value, sort: Sort) -> Result<Span, CalibFault>
+    ensures ok { OnOk result (keys_fault PLAIN (view object.now) (rows_in table.disparities sort) ≡ None) }
+    ensures value { IfOk result (λ span. span ≡ span_of (view object.now)) }
+    ensures fault { IfErr result (λ f. keys_fault PLAIN (view object.now) (rows_in table.disparities sort) ≡ Some f) }
+{
+    let [first, count, _] = &DISPARITIES_KEYS;
     let first = whole(object, first, PLAIN)?;
     let count = whole(object, count, PLAIN)?;
+    check_fine(object, sort)?;
     Ok(span(first, count))
 }
 
@@ -69,7 +82,7 @@ pub fn disparities(top: &Value) -> Result<Span, CalibFault>
 {
     let found = object_in(top, &DISPARITIES)?;
     let Some(object) = found else { unreachable!() };
-    span_of(object)
+    span_of(object, sort_of(top))
 }
 
 #[tactic(auto, using(std::proofs::lemmas::Int::ints))]

@@ -29,6 +29,8 @@ pub enum Form {
     Name,
     /// A truth value.
     Truth,
+    /// A truth value of which false alone is in range.
+    FalseAlone,
     /// A list of regions.
     Regions,
     /// A whole number from the first to the second.
@@ -60,8 +62,8 @@ pub enum Presence {
     With(&'static str),
     /// Required by that kind of warp, and an unknown name to the others.
     OfKind(&'static str),
-    /// Required in that version, and an unknown name in the others.
-    OfVersion(u64),
+    /// Required from that version on, and an unknown name in the earlier ones.
+    Since(u64),
 }
 
 /// A row of the table.
@@ -123,7 +125,7 @@ const OF_MESH: Presence = Presence::OfKind("mesh");
 
 pub const TOP: Row = key_row!(1 in 0 "" "top": Form::Object);
 
-pub const VERSION: Row = key_row!(2 in 1 "" "version": Form::Between(1, 2));
+pub const VERSION: Row = key_row!(2 in 1 "" "version": Form::Between(1, 3));
 
 pub const DISPARITIES: Row = key_row!(3 in 1 "" "disparities": Form::Object);
 
@@ -131,8 +133,10 @@ const FIRST: Row = key_row!(4 in 3 "disparities." "first": FIRSTS);
 
 const COUNT: Row = key_row!(5 in 3 "disparities." "count": Form::Between(1, MAX_COUNT as i64));
 
+pub const FINE: Row = key_row!(51 in 3 "disparities." "fine": Form::FalseAlone, Presence::Since(3));
+
 /// The keys of the disparities, in the order of the checks.
-pub static DISPARITIES_KEYS: [Row; 2] = [FIRST, COUNT];
+pub static DISPARITIES_KEYS: [Row; 3] = [FIRST, COUNT, FINE];
 
 pub const CENSUS: Row = key_row!(6 in 1 "" "census": Form::Object);
 
@@ -149,7 +153,7 @@ const P1: Row = key_row!(10 in 9 "penalties." "p1": Form::Between(1, MAX_PENALTY
 
 const P2: Row = key_row!(11 in 9 "penalties." "p2": Form::From("p1", MAX_PENALTY as i64));
 
-pub const ADAPT: Row = key_row!(50 in 9 "penalties." "adapt": Form::Truth, Presence::OfVersion(2));
+pub const ADAPT: Row = key_row!(50 in 9 "penalties." "adapt": Form::Truth, Presence::Since(2));
 
 /// The keys of the penalties, in the order of the checks.
 pub static PENALTIES_KEYS: [Row; 3] = [P1, P2, ADAPT];
@@ -253,12 +257,13 @@ pub static REGION_NUMBERS: [Row; 5] = [
 ];
 
 /// The table, in the order of the checks.
-static KEYS: [Row; 50] = [
+static KEYS: [Row; 51] = [
     TOP,
     VERSION,
     DISPARITIES,
     FIRST,
     COUNT,
+    FINE,
     CENSUS,
     WIDTH,
     HEIGHT,

@@ -1,14 +1,15 @@
 //! `calib TEXT`: the calibration that the text is, or its first fault.
 //!
-//! The answer is `ok`, the least disparity and their number, the window's sides, the penalties, `adapt` where
-//! they follow the image, and then each warp, the camera, the grid and the regions with their names and numbers, where they are there, the
-//! camera and the grid field by field; or the fault with its key's number, index and path. Of more than
-//! eight nodes or regions the last alone stands there, after their number.
+//! The answer is `ok`, the least disparity and their number, the window's sides, `smoothed` where costs are
+//! made so, the penalties, `adapt` where they follow the image, and then each warp, the camera, the grid and
+//! the regions with their names and numbers, where they are there, the camera and the grid field by field; or
+//! the fault with its key's number, index and path. Of more than eight nodes or regions the last alone stands
+//! there, after their number.
 
 use crate::escapes;
 use sgm_base::Span;
 use sgm_calib::{Calib, CalibError, CalibFault, Key, read};
-use sgm_census::Window;
+use sgm_census::{CostRule, Window};
 use sgm_energy::Pen;
 use sgm_grid::GridSpec;
 use sgm_height::Camera;
@@ -101,6 +102,13 @@ fn push_sides(text: &mut String, span: Span, window: Window) -> Result<(), Alloc
     write!(text, "ok {first} {count} {width} {height}")
 }
 
+fn push_rule(text: &mut String, rule: CostRule) -> Result<(), AllocError> {
+    match rule {
+        CostRule::Plain => Ok(()),
+        CostRule::Smoothed => text.push_str(" smoothed"),
+    }
+}
+
 fn push_pen(text: &mut String, pen: Pen) -> Result<(), AllocError> {
     let (p1, p2) = (pen.p1(), pen.p2());
     let adapt = if pen.is_adaptive() { " adapt" } else { "" };
@@ -131,6 +139,7 @@ fn push_ground(text: &mut String, calib: &Calib) -> Result<(), AllocError> {
 
 fn push_calib(text: &mut String, calib: &Calib) -> Result<(), AllocError> {
     push_sides(text, calib.span(), calib.window())?;
+    push_rule(text, calib.rule())?;
     push_pen(text, calib.pen())?;
     push_warp(text, calib.left())?;
     push_warp(text, calib.right())?;

@@ -9,6 +9,7 @@ mod asc;
 mod calib;
 mod escapes;
 mod example;
+mod kernel;
 mod line;
 mod parts;
 mod run;
@@ -29,6 +30,7 @@ fn answer<R: Threads + Sync>(
     match kind {
         "asc" => asc::answer(alloc, rest),
         "calib" => calib::answer(alloc, rest),
+        "kernel" => kernel::answer(alloc, rest),
         "run" => run::answer(rt, alloc, rest),
         "words" => words::answer(alloc, rest),
         _ => String::from_str(alloc, "no such kind"),

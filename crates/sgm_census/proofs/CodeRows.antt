@@ -1,5 +1,5 @@
 -- Rows of codes in memory.
-use Rattle.std.proofs.Common.{◌≡◌, ℕ, ◌+◌, ◌-◌, ◌*◌, ◌/◌, ◌^◌, ◌<◌, ◌≤◌, Bool, false, cond, List, ◌++◌, length, take, drop, get_or, slice_index, Some, None, refl, sym, ap, ◌∙◌, subst, arith, replicate, inl, inr}
+use Rattle.std.proofs.Common.{◌≡◌, ℕ, ◌+◌, ◌-◌, ◌*◌, ◌/◌, ◌^◌, ◌<◌, ◌≤◌, Bool, false, cond, List, ◌++◌, length, take, drop, get_or, slice_index, Option, Some, None, refl, sym, ap, ◌∙◌, subst, arith, replicate, inl, inr}
 use Rattle.std.proofs.lemmas.Bool.{cases_lt}
 use Rattle.std.proofs.Math.Nat.{mul-le-mul_right}
 use Rattle.std.proofs.lemmas.List.{get_or-drop, get_or-take, get_or_append_left, get_or-append_right, get_or-replicate, get_or_past, length-replicate}
@@ -13,7 +13,7 @@ use Rattle.sgm_census.proofs.Centres.{code_at-outside}
 unpacked-none : (n : ℕ) (words : List ℕ) (present : List Bool) (place : ℕ) → get_or present place false ≡ false → unpacked n words present place ≡ None
 unpacked-none n words present place e = ap (λ b. cond b (Some (bits_of n (get_or words place 0))) None) e
 
-unpacked-is : (n place k : ℕ) (words more_words : List ℕ) (present more_present : List Bool) → get_or more_words place 0 ≡ get_or words k 0 → get_or more_present place false ≡ get_or present k false
+pub unpacked-is : (n place k : ℕ) (words more_words : List ℕ) (present more_present : List Bool) → get_or more_words place 0 ≡ get_or words k 0 → get_or more_present place false ≡ get_or present k false
     → unpacked n more_words more_present place ≡ unpacked n words present k
 unpacked-is n place k words more_words present more_present e f =
     ap (λ b. cond b (Some (bits_of n (get_or more_words place 0))) None) f ∙ ap (λ w. cond (get_or present k false) (Some (bits_of n w)) None) e
@@ -24,15 +24,15 @@ pub record IsWritten {X : Type 0} (n : ℕ) (old part new : List X) (d : X) : Ty
   pub inside : (k : ℕ) → k < length part → get_or new (n + k) d ≡ get_or part k d
   pub after : (k : ℕ) → n + length part ≤ k → get_or new k d ≡ get_or old k d
 
--- the rows below y have their codes, and none after them
-pub record HoldsRows (plane : Values) (window : WindowSides) (words : List ℕ) (present : List Bool) (y : ℕ) : Type 0 where
+-- the rows below y have the codes that a function gives, and none after them
+pub record HoldsRows (plane : Values) (window : WindowSides) (code : ℕ → ℕ → Option (List Bool)) (words : List ℕ) (present : List Bool) (y : ℕ) : Type 0 where
   pub within : (k : ℕ) → slice_index words k < 2 ^ greatest_of window
-  pub done : (x r : ℕ) → x < plane.width → r < plane.height → r < y → unpacked (greatest_of window) words present (word_place plane.width x r) ≡ code_at plane window x r
+  pub done : (x r : ℕ) → x < plane.width → r < plane.height → r < y → unpacked (greatest_of window) words present (word_place plane.width x r) ≡ code x r
   pub left : (k : ℕ) → y * plane.width ≤ k → get_or present k false ≡ false
 
 -- before the first row that has codes
 pub rows_none : (plane : Values) (window : WindowSides) (words : List ℕ) (present : List Bool) (y : ℕ) → IsWindow window.width window.height → y ≡ window.height / 2 → ((k : ℕ) → slice_index words k < 2 ^ greatest_of window) → ((k : ℕ) → get_or present k false ≡ false)
-    → HoldsRows plane window words present y
+    → HoldsRows plane window (code_at plane window) words present y
 rows_none plane window words present y w e small none =
     record {
       within = small;
@@ -49,7 +49,7 @@ rows_narrow plane window words present w narrow none x y h k =
     ∙ sym (code_at-outside plane window x y w (elim (cases_lt x (window.width / 2)) [ inl l ↦ inl l | inr l ↦ inr (inl (omega arith)) ]))
 
 -- behind the last row that has codes
-pub rows_all : (plane : Values) (window : WindowSides) (words : List ℕ) (present : List Bool) (y : ℕ) → IsWindow window.width window.height → plane.height ≤ y + window.height / 2 → HoldsRows plane window words present y
+pub rows_all : (plane : Values) (window : WindowSides) (words : List ℕ) (present : List Bool) (y : ℕ) → IsWindow window.width window.height → plane.height ≤ y + window.height / 2 → HoldsRows plane window (code_at plane window) words present y
     → (x r : ℕ) → x < plane.width → r < plane.height → unpacked (greatest_of window) words present (word_place plane.width x r) ≡ code_at plane window x r
 rows_all plane window words present y w end h x r hx hr = elim (cases_lt r y) [
   | inl l ↦ h.done x r hx hr l
@@ -65,7 +65,7 @@ pub rows_more : (plane : Values) (window : WindowSides) (y across : ℕ) (words 
     → IsWritten (y * plane.width + across) words part_words new_words 0 → IsWritten (y * plane.width + across) present part_present new_present false
     → ((k : ℕ) → slice_index part_words k < 2 ^ greatest_of window)
     → ((x : ℕ) → across ≤ x → x + across < plane.width → unpacked (greatest_of window) part_words part_present (length part_words - 1 - (x - across)) ≡ code_at plane window x y)
-    → HoldsRows plane window words present y → HoldsRows plane window new_words new_present (y + 1)
+    → HoldsRows plane window (code_at plane window) words present y → HoldsRows plane window (code_at plane window) new_words new_present (y + 1)
 rows_more plane window y across words part_words new_words present part_present new_present w hy ea long same ww wp small codes h =
     let n = greatest_of window in
     let width = plane.width in

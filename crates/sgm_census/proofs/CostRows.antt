@@ -1,13 +1,17 @@
 -- Rows of costs.
-use Rattle.std.proofs.Common.{◌≡◌, ℕ, ◌+◌, ◌-◌, ◌*◌, ◌/◌, ◌%◌, ◌<◌, ◌≤◌, Bool, true, false, cond, List, [], ◌∷◌, ◌++◌, length, get_or, take, Option, Some, None, option_map, option_and_then, ℤ, pos, negsuc, ◌+ℤ◌, ◌-ℤ◌, refl, sym, ap, ◌∙◌, subst, arith, inl, inr}
+use Rattle.std.proofs.Common.{◌≡◌, ℕ, ◌+◌, ◌-◌, ◌*◌, ◌/◌, ◌%◌, ◌<◌, ◌≤◌, Bool, true, false, cond, ltb, min, List, [], ◌∷◌, ◌++◌, length, get_or, take, Option, Some, None, option_map, option_and_then, ℤ, pos, negsuc, ◌+ℤ◌, ◌-ℤ◌, refl, sym, ap, ◌∙◌, subst, arith, inl, inr}
 use Rattle.std.proofs.lemmas.Bool.{cases_lt, lt-ltb, le-ltb}
+use Rattle.std.proofs.lemmas.Bool.Decides.{nat_tests}
 use Rattle.std.proofs.lemmas.Int.{ints}
 use Rattle.std.proofs.lemmas.List.{get_or-take, get_or_append_left, get_or-append_right}
 use Rattle.std.proofs.lemmas.Nat.{mul-le, row_fits, div-add-mod', mod_below, div_below}
 use Rattle.sgm_census.specs.Windows.{WindowSides, IsWindow, greatest_of}
 use Rattle.sgm_base.specs.Columns.{column_within, left_column, right_column}
 use Rattle.sgm_census.specs.Codes.{Codes, IsCodes, code_in}
-use Rattle.sgm_census.specs.Costs.{differs, differing, cost_between, census_cost}
+use Rattle.sgm_census.specs.Costs.{differs, differing, cost_between, missing_cost, single_cost, cost_by, census_cost}
+use Rattle.sgm_census.specs.declared.rule.CostRule.{CostRule}
+use Rattle.sgm_census.specs.declared.rule.CostRule.TheVariants.{Plain, Smoothed}
+use Rattle.sgm_lanes.specs.Middles.{smoothed}
 use Rattle.sgm_census.specs.Packed.{unpacked, HoldsCodes}
 use Rattle.sgm_census.proofs.CodeLists.{unpacked-length}
 
@@ -48,19 +52,20 @@ right_codes right y words present (Some m) h s =
     let back : right.width - 1 - (right.width - 1 - m) ≡ m = omega arith in
     h.each (right.width - 1 - m) (omega arith) ∙ ap (unpacked (greatest_of right.window) words present) back
 
--- the cost of a pixel from the rows of codes, which stand from right to left
-pub census_cost-rows : (left right : Codes) (first : ℤ) (x y d : ℕ) (words more_words : List ℕ) (present more_present : List Bool) → HoldsCodes left y words present → HoldsCodes right y more_words more_present
+-- the single cost of a pixel from the rows of codes, which stand from right to left
+pub single_cost-rows : (left right : Codes) (first : ℤ) (x y d : ℕ) (words more_words : List ℕ) (present more_present : List Bool) → HoldsCodes left y words present → HoldsCodes right y more_words more_present
     → left.width ≡ right.width → left.window ≡ right.window → x < left.width
-    → census_cost left right first x y d
-    ≡ cost_between (greatest_of left.window) (unpacked (greatest_of left.window) words present (left.width - 1 - x))
+    → single_cost left right first x y d
+    ≡ cost_between (missing_cost left.rule left.window) (unpacked (greatest_of left.window) words present (left.width - 1 - x))
     (option_and_then (unpacked (greatest_of left.window) more_words more_present) (left_column left.width first (left.width - 1 - x) d))
-unfolding census_cost
-census_cost-rows left right first x y d words more_words present more_present h k ew es l =
+unfolding single_cost
+single_cost-rows left right first x y d words more_words present more_present h k ew es l =
     let n = greatest_of left.window in
+    let missing = missing_cost left.rule left.window in
     let bits : greatest_of right.window ≡ n = ap (λ (w : WindowSides). greatest_of w) (sym es) in
     let place : ℕ = left.width - 1 - x in
-    ap (λ o. cost_between n o (option_and_then (λ q. code_in right q y) (right_column right.width first x d))) (h.each x l)
-    ∙ ap (λ o. cost_between n (unpacked n words present place) o)
+    ap (λ o. cost_between missing o (option_and_then (λ q. code_in right q y) (right_column right.width first x d))) (h.each x l)
+    ∙ ap (λ o. cost_between missing (unpacked n words present place) o)
     (ap (λ o. option_and_then (λ q. code_in right q y) o) (right_column-mirrored right.width first x d (omega arith))
     ∙ right_codes right y more_words more_present (left_column right.width first (right.width - 1 - x) d) k (λ m e. column_small right.width m ((pos (right.width - 1 - x) +ℤ first) +ℤ pos d) e)
     ∙ ap (λ b. option_and_then (unpacked b more_words more_present) (left_column right.width first (right.width - 1 - x) d)) bits
@@ -77,31 +82,84 @@ differing-le [] ys = omega arith
 differing-le (x ∷ xs) [] = omega arith
 differing-le (x ∷ xs) (y ∷ ys) = omega (arith, differs-le x y, differing-le xs ys)
 
-cost_between-le : (n : ℕ) (o p : Option (List Bool)) → ((code : List Bool) → o ≡ Some code → length code ≤ n) → cost_between n o p ≤ n
-cost_between-le n None p h = omega arith
-cost_between-le n (Some a) None h = omega arith
-cost_between-le n (Some a) (Some b) h = omega (arith, differing-le a b, h a refl)
+cost_between-le : (n missing : ℕ) (o p : Option (List Bool)) → missing ≤ n → ((code : List Bool) → o ≡ Some code → length code ≤ n) → cost_between missing o p ≤ n
+cost_between-le n missing None p small h = omega arith
+cost_between-le n missing (Some a) None small h = omega arith
+cost_between-le n missing (Some a) (Some b) small h = omega (arith, differing-le a b, h a refl)
+
+missing_cost-le : (rule : CostRule) (window : WindowSides) → missing_cost rule window ≤ greatest_of window
+missing_cost-le Plain window = omega arith
+missing_cost-le Smoothed window = omega arith
+
+-- no single cost is above the greatest
+single_cost-le : (left right : Codes) (first : ℤ) (x y d : ℕ) → IsCodes left → single_cost left right first x y d ≤ greatest_of left.window
+unfolding single_cost
+single_cost-le left right first x y d k =
+    cost_between-le (greatest_of left.window) (missing_cost left.rule left.window) (code_in left x y) (option_and_then (λ q. code_in right q y) (right_column right.width first x d))
+    (missing_cost-le left.rule left.window) (λ code e. omega (arith, k.lengths x y code e))
+
+pub single_cost-le_row : (left right : Codes) (first : ℤ) (x y d : ℕ) (words : List ℕ) (present : List Bool) → HoldsCodes left y words present → x < left.width → single_cost left right first x y d ≤ greatest_of left.window
+unfolding single_cost
+single_cost-le_row left right first x y d words present h l =
+    cost_between-le (greatest_of left.window) (missing_cost left.rule left.window) (code_in left x y) (option_and_then (λ q. code_in right q y) (right_column right.width first x d))
+    (missing_cost-le left.rule left.window)
+    (λ code e. omega (arith, unpacked-length (greatest_of left.window) (get_or words (left.width - 1 - x) 0) (get_or present (left.width - 1 - x) false) code (sym (h.each x l) ∙ e)))
+
+-- the single cost with the numbers that the code has
+pub single_cost-read : (left right : Codes) (first : ℤ) (x y d n missing width : ℕ) (words more_words : List ℕ) (present more_present : List Bool) → n ≡ greatest_of left.window → missing ≡ missing_cost left.rule left.window → width ≡ left.width
+    → HoldsCodes left y words present → HoldsCodes right y more_words more_present → left.width ≡ right.width → left.window ≡ right.window → x < left.width
+    → cost_between missing (unpacked n words present (width - 1 - x)) (option_and_then (unpacked n more_words more_present) (left_column width first (width - 1 - x) d)) ≡ single_cost left right first x y d
+single_cost-read left right first x y d n missing width words more_words present more_present en em ew h k same_width same_window l =
+    let g = greatest_of left.window in
+    ap (λ m. cost_between missing (unpacked m words present (width - 1 - x)) (option_and_then (unpacked m more_words more_present) (left_column width first (width - 1 - x) d))) en
+    ∙ ap (λ m. cost_between m (unpacked g words present (width - 1 - x)) (option_and_then (unpacked g more_words more_present) (left_column width first (width - 1 - x) d))) em
+    ∙ ap (λ w. cost_between (missing_cost left.rule left.window) (unpacked g words present (w - 1 - x)) (option_and_then (unpacked g more_words more_present) (left_column w first (w - 1 - x) d))) ew
+    ∙ sym (single_cost-rows left right first x y d words more_words present more_present h k same_width same_window l)
+
+-- ---- from single costs to costs
+
+pub smoothed-le : (n before here after : ℕ) → before ≤ n → here ≤ n → after ≤ n → smoothed before here after ≤ n
+smoothed-le n before here after b h a = omega arith
+
+cost_by-le : (rule : CostRule) (width : ℕ) (single : ℕ → ℕ) (x n : ℕ) → ((q : ℕ) → single q ≤ n) → cost_by rule width single x ≤ n
+cost_by-le Plain width single x n h = h x
+cost_by-le Smoothed width single x n h = smoothed-le n _ _ _ (h (x - 1)) (h x) (h (cond (ltb (x + 1) width) (x + 1) x))
 
 -- no cost is above the greatest
 pub census_cost-le : (left right : Codes) (first : ℤ) (x y d : ℕ) → IsCodes left → census_cost left right first x y d ≤ greatest_of left.window
 unfolding census_cost
-census_cost-le left right first x y d k =
-    cost_between-le (greatest_of left.window) (code_in left x y) (option_and_then (λ q. code_in right q y) (right_column right.width first x d)) (λ code e. omega (arith, k.lengths x y code e))
+census_cost-le left right first x y d k = cost_by-le left.rule left.width (λ q. single_cost left right first q y d) x (greatest_of left.window) (λ q. single_cost-le left right first q y d k)
 
-pub census_cost-le_row : (left right : Codes) (first : ℤ) (x y d : ℕ) (words : List ℕ) (present : List Bool) → HoldsCodes left y words present → x < left.width → census_cost left right first x y d ≤ greatest_of left.window
+-- the column after x, or x itself where there is none
+pub next_is : (width x : ℕ) → x < width → min (x + 1) (width - 1) ≡ cond (ltb (x + 1) width) (x + 1) x
+next_is width x h = grind (arith, nat_tests)
+
+next_small : (width x : ℕ) → x < width → cond (ltb (x + 1) width) (x + 1) x < width
+next_small width x h = omega (arith, next_is width x h)
+
+cost_by-same : (rule : CostRule) (width : ℕ) (f g : ℕ → ℕ) (x : ℕ) → x < width → ((q : ℕ) → q < width → f q ≡ g q) → cost_by rule width f x ≡ cost_by rule width g x
+cost_by-same Plain width f g x l h = h x l
+cost_by-same Smoothed width f g x l h =
+    ap (λ n. smoothed n (f x) (f (cond (ltb (x + 1) width) (x + 1) x))) (h (x - 1) (omega arith))
+    ∙ ap (λ n. smoothed (g (x - 1)) n (f (cond (ltb (x + 1) width) (x + 1) x))) (h x l)
+    ∙ ap (λ n. smoothed (g (x - 1)) (g x) n) (h (cond (ltb (x + 1) width) (x + 1) x) (next_small width x l))
+
+-- the cost from the single costs of a row, by the rule of its codes
+pub census_cost-by : (left right : Codes) (first : ℤ) (x y d : ℕ) (rule : CostRule) (single : ℕ → ℕ) → rule ≡ left.rule → x < left.width
+    → ((q : ℕ) → q < left.width → single q ≡ single_cost left right first q y d) → cost_by rule left.width single x ≡ census_cost left right first x y d
 unfolding census_cost
-census_cost-le_row left right first x y d words present h l =
-    cost_between-le (greatest_of left.window) (code_in left x y) (option_and_then (λ q. code_in right q y) (right_column right.width first x d))
-    (λ code e. omega (arith, unpacked-length (greatest_of left.window) (get_or words (left.width - 1 - x) 0) (get_or present (left.width - 1 - x) false) code (sym (h.each x l) ∙ e)))
+census_cost-by left right first x y d rule single e l h =
+    ap (λ r. cost_by r left.width single x) e ∙ cost_by-same left.rule left.width single (λ q. single_cost left right first q y d) x l h
 
--- the cost with the numbers that the code has
-pub census_cost-read : (left right : Codes) (first : ℤ) (x y d n width : ℕ) (words more_words : List ℕ) (present more_present : List Bool) → n ≡ greatest_of left.window → width ≡ left.width
-    → HoldsCodes left y words present → HoldsCodes right y more_words more_present → left.width ≡ right.width → left.window ≡ right.window → x < left.width
-    → cost_between n (unpacked n words present (width - 1 - x)) (option_and_then (unpacked n more_words more_present) (left_column width first (width - 1 - x) d)) ≡ census_cost left right first x y d
-census_cost-read left right first x y d n width words more_words present more_present en ew h k same_width same_window l =
-    ap (λ m. cost_between m (unpacked m words present (width - 1 - x)) (option_and_then (unpacked m more_words more_present) (left_column width first (width - 1 - x) d))) en
-    ∙ ap (λ w. cost_between (greatest_of left.window) (unpacked (greatest_of left.window) words present (w - 1 - x)) (option_and_then (unpacked (greatest_of left.window) more_words more_present) (left_column w first (w - 1 - x) d))) ew
-    ∙ sym (census_cost-rows left right first x y d words more_words present more_present h k same_width same_window l)
+-- the same of a row of single costs that was smoothed, with the numbers that the code has
+pub census_cost-row : (left right : Codes) (first : ℤ) (x y d width count n : ℕ) (singles costs : List ℕ) → Smoothed ≡ left.rule → width ≡ left.width → n ≡ count → x < left.width → d < count
+    → ((q e : ℕ) → q < left.width → e < count → get_or singles (q * count + e) 0 ≡ single_cost left right first q y e)
+    → ((q e : ℕ) → q < width → e < n → get_or costs (q * n + e) 0 ≡ cost_by Smoothed width (λ r. get_or singles (r * n + e) 0) q)
+    → get_or costs (x * count + d) 0 ≡ census_cost left right first x y d
+census_cost-row left right first x y d width count n singles costs e ew en l k single done =
+    ap (λ m. get_or costs (x * m + d) 0) (sym en) ∙ done x d (omega arith) (omega arith)
+    ∙ ap (λ w. cost_by Smoothed w (λ r. get_or singles (r * n + d) 0) x) ew ∙ ap (λ m. cost_by Smoothed left.width (λ r. get_or singles (r * m + d) 0) x) en
+    ∙ census_cost-by left right first x y d Smoothed (λ r. get_or singles (r * count + d) 0) e l (λ q h. single q d h k)
 
 -- ---- a row, pixel by pixel
 

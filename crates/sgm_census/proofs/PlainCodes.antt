@@ -6,7 +6,7 @@ use Rattle.std.proofs.lemmas.Nat.{mul-add-lt}
 use Rattle.sgm_base.specs.Values.{Values, IsValues, row_of, value_at}
 use Rattle.sgm_census.specs.Windows.{WindowSides, IsWindow, greatest_of}
 use Rattle.sgm_census.specs.Codes.{all_there, less_than, window_values, code_at}
-use Rattle.sgm_census.specs.Packed.{all_in, bits_of, centre_in, in_rows, lesser, pushed, unpacked, without, word_in}
+use Rattle.sgm_census.specs.Packed.{all_in, bits_of, centre_in, in_rows, lesser, pushed, unpacked, without, word_in, word_to}
 use Rattle.sgm_census.proofs.Bits.{bits_of-none, bits_of-pushed, bits_of-without, without_small}
 use Rattle.sgm_census.proofs.Centres.{middle, is_middle, get_or-middle, code_at-there, code_at-void}
 use Rattle.sgm_census.proofs.InWindow.{Fits, window_row, window_row-slice, length-window_values, value_at-inside}
@@ -18,11 +18,11 @@ plain o = unwrap_or o 0
 
 -- ---- windows of a list that was made entry by entry
 
-map-flat_map : {X Y Z : Type 0} (f : Y → Z) (g : X → List Y) (xs : List X) → map f (flat_map g xs) ≡ flat_map (λ x. map f (g x)) xs
+pub map-flat_map : {X Y Z : Type 0} (f : Y → Z) (g : X → List Y) (xs : List X) → map f (flat_map g xs) ≡ flat_map (λ x. map f (g x)) xs
 map-flat_map f g [] = refl
 map-flat_map f g (x ∷ xs) = map-append f (g x) (flat_map g xs) ∙ ap (λ us. map f (g x) ++ us) (map-flat_map f g xs)
 
-flat_map-agree : {X : Type 0} (f g : ℕ → List X) (a n : ℕ) → ((j : ℕ) → a ≤ j → j < a + n → f j ≡ g j) → flat_map f (range_with_len a n) ≡ flat_map g (range_with_len a n)
+pub flat_map-agree : {X : Type 0} (f g : ℕ → List X) (a n : ℕ) → ((j : ℕ) → a ≤ j → j < a + n → f j ≡ g j) → flat_map f (range_with_len a n) ≡ flat_map g (range_with_len a n)
 flat_map-agree f g a zero h = refl
 flat_map-agree f g a (suc n) h =
     ap (λ us. us ++ flat_map f (range_with_len (a + 1) n)) (h a (omega arith) (omega arith))
@@ -117,13 +117,16 @@ code_at-plain plane window x y from top v w fits ef et hx hy =
     ∙ code_by_value plane window x y (value_at plane x y) w refl
 
 -- the word of a window has no bits but those of its code
-pub word_in-small : (width : ℕ) (values : List ℕ) (window : WindowSides) (from top : ℕ) → IsWindow window.width window.height → word_in width values window from top < 2 ^ greatest_of window
-word_in-small width values window from top w =
+pub word_to-small : (width : ℕ) (values : List ℕ) (window : WindowSides) (centre from top : ℕ) → IsWindow window.width window.height → word_to width values window centre from top < 2 ^ greatest_of window
+word_to-small width values window centre from top w =
     let m = middle window in
-    let bs = lesser (centre_in width values window from top) (in_rows width values window from top) in
+    let bs = lesser centre (in_rows width values window from top) in
     let twice = (is_middle window.width window.height w).twice in
     without_small m (greatest_of window) (pushed 0 bs) (omega arith)
-    (pushed_small (greatest_of window + 1) bs (omega (arith, length-lesser (centre_in width values window from top) (in_rows width values window from top), length-in_rows width values window from top, twice)))
+    (pushed_small (greatest_of window + 1) bs (omega (arith, length-lesser centre (in_rows width values window from top), length-in_rows width values window from top, twice)))
+
+pub word_in-small : (width : ℕ) (values : List ℕ) (window : WindowSides) (from top : ℕ) → IsWindow window.width window.height → word_in width values window from top < 2 ^ greatest_of window
+word_in-small width values window from top w = word_to-small width values window (centre_in width values window from top) from top w
 
 -- the same, as a row of codes holds it
 pub unpacked-plain : (plane : Values) (window : WindowSides) (x y from top width i : ℕ) (values words : List ℕ) (there present : List Bool) → IsValues plane → IsWindow window.width window.height → Fits plane window x y

@@ -95,7 +95,7 @@ marks_rows_more j mark more rows e f =
     f ∙ ap (λ b. b && list_all (λ t. t) (rows j)) e
     ∙ sym (ap (list_all (λ t. t)) (rows_more rows j) ∙ list_all-append (λ t. t) (flat_map rows (range_with_len 0 j)) (rows j))
 
-length-rows-le : {X : Type 0} (rows : ℕ → List X) (wide a n : ℕ) → ((j : ℕ) → length (rows j) ≤ wide) → length (flat_map rows (range_with_len a n)) ≤ n * wide
+pub length-rows-le : {X : Type 0} (rows : ℕ → List X) (wide a n : ℕ) → ((j : ℕ) → length (rows j) ≤ wide) → length (flat_map rows (range_with_len a n)) ≤ n * wide
 length-rows-le rows wide a zero h = omega arith
 length-rows-le rows wide a (suc n) h = omega (arith, length-append (rows a) (flat_map rows (range_with_len (a + 1) n)), h a, length-rows-le rows wide (a + 1) n h)
 

@@ -2,4 +2,5 @@ pub mod Codes
 pub mod Costs
 pub mod Matching
 pub mod Packed
+pub mod Smoothing
 pub mod Windows

@@ -8,6 +8,7 @@ use Rattle.sgm_energy.specs.Pens.{Penalties, guide_of}
 use Rattle.sgm_energy.specs.Rays.{Pixel, Problem, IsInside, guided_problem}
 use Rattle.sgm_energy.specs.Energies.{path_value, path_sum, sum_done}
 use Rattle.sgm_census.specs.Windows.{WindowSides}
+use Rattle.sgm_census.specs.declared.rule.CostRule.{CostRule}
 use Rattle.sgm_census.specs.Codes.{Codes, codes_of}
 use Rattle.sgm_census.specs.Costs.{census_cost}
 
@@ -17,9 +18,9 @@ matching_problem left right span penalties guide =
     guided_problem left.width left.height span.count (λ p d. census_cost left right span.first p.x p.y d) penalties guide
 
 -- the problem of matching two planes by their codes, with the left plane, whose values go up to maxval, as the guide
-abbrev pub plane_problem : Values → Values → WindowSides → Disparities → Penalties → ℕ → Problem
-plane_problem left right window span penalties maxval =
-    matching_problem (codes_of left window) (codes_of right window) span penalties (guide_of left maxval)
+abbrev pub plane_problem : Values → Values → WindowSides → CostRule → Disparities → Penalties → ℕ → Problem
+plane_problem left right window rule span penalties maxval =
+    matching_problem (codes_of left window rule) (codes_of right window rule) span penalties (guide_of left maxval)
 
 -- No path value in the image is above its limit and no sum above its own, whichever directions are done. While one
 -- isn't done there is room for its path value.

@@ -1,12 +1,13 @@
 -- How a plane of codes lies in memory: a word for each pixel, whose bits are its code, and whether it has one. Each
 -- row stands from right to left, so that the right codes of one left pixel, index by index, stand in order.
-use Rattle.std.specs.Prelude.{◌≡◌, ℕ, ◌+◌, ◌-◌, ◌*◌, ◌/◌, ◌%◌, ◌^◌, ◌<◌, Bool, ◌==◌, nat_lt, false, if◌then◌else◌, List, [], ◌∷◌, ◌++◌, length, map, take, drop, slice_index, slice_index_or, Option, Some, None, zero, suc}
+use Rattle.std.specs.Prelude.{◌≡◌, ℕ, ◌+◌, ◌-◌, ◌*◌, ◌/◌, ◌%◌, ◌^◌, ◌<◌, Bool, ◌==◌, nat_lt, false, if◌then◌else◌, List, [], ◌∷◌, ◌++◌, length, map, take, drop, slice_index, slice_index_or, Option, Some, None, unwrap_or, is_some, zero, suc}
 use Rattle.std.specs.Int.{from_bool}
 use Rattle.std.specs.List.{flat_map, list_all, range_with_len}
 use Rattle.sgm_base.specs.Sides.{IsSide}
 use Rattle.sgm_census.specs.Windows.{WindowSides, IsWindow, greatest_of}
+use Rattle.sgm_census.specs.declared.rule.CostRule.{CostRule}
 use Rattle.sgm_census.specs.Codes.{Codes, code_in}
-use Rattle.sgm_base.specs.Values.{row_by_row}
+use Rattle.sgm_base.specs.Values.{Values, row_by_row}
 
 -- the lowest n bits of a word, the highest of them first
 unfoldable pub bits_of : ℕ → ℕ → List Bool
@@ -23,12 +24,13 @@ unpacked n words present place =
     if slice_index_or present place false then Some (bits_of n (slice_index words place)) else None
 
 -- the plane of codes in these words
-abbrev pub codes_in : ℕ → ℕ → WindowSides → List ℕ → List Bool → Codes
-codes_in width height window words present =
+abbrev pub codes_in : ℕ → ℕ → WindowSides → CostRule → List ℕ → List Bool → Codes
+codes_in width height window rule words present =
     record {
       width = width;
       height = height;
       window = window;
+      rule = rule;
       codes = row_by_row width height (λ x y. unpacked (greatest_of window) words present (word_place width x y));
     }
 
@@ -71,10 +73,14 @@ in_rows width rows window from top =
 abbrev pub centre_in : ℕ → List ℕ → WindowSides → ℕ → ℕ → ℕ
 centre_in width values window from top = slice_index values ((top + window.height / 2) * width + window.width / 2 + from)
 
--- the code of that window as a word, where void pixels count as 0
+-- the code of that window against a centre as a word, where void pixels count as 0
+abbrev pub word_to : ℕ → List ℕ → WindowSides → ℕ → ℕ → ℕ → ℕ
+word_to width values window centre from top =
+    without (window.width * window.height / 2) (pushed 0 (lesser centre (in_rows width values window from top)))
+
+-- the same against what stands in the window's centre
 abbrev pub word_in : ℕ → List ℕ → WindowSides → ℕ → ℕ → ℕ
-word_in width values window from top =
-    without (window.width * window.height / 2) (pushed 0 (lesser (centre_in width values window from top) (in_rows width values window from top)))
+word_in width values window from top = word_to width values window (centre_in width values window from top) from top
 
 -- whether all its values are there
 abbrev pub all_in : ℕ → List Bool → WindowSides → ℕ → ℕ → Bool
@@ -82,4 +88,16 @@ all_in width there window from top = list_all (λ t. t) (in_rows width there win
 
 -- words of n bits
 pub record HoldsSmall (n : ℕ) (words : List ℕ) : Type 0 where
+  pub within : (k : ℕ) → slice_index words k < 2 ^ n
+
+-- a plane's values, 0 where it is void, whether they are there, and its sides
+pub record HoldsPlain (plane : Values) (values : List ℕ) (there : List Bool) (width height : ℕ) : Type 0 where
+  pub values_are : values ≡ map (λ o. unwrap_or o 0) plane.entries
+  pub there_are : there ≡ map is_some plane.entries
+  pub width_is : width ≡ plane.width
+  pub height_is : height ≡ plane.height
+
+-- the words and marks of the codes that a function gives for the pixels of a plane
+pub record HoldsAll (n width height : ℕ) (code : ℕ → ℕ → Option (List Bool)) (words : List ℕ) (present : List Bool) : Type 0 where
+  pub each : (x y : ℕ) → x < width → y < height → unpacked n words present (word_place width x y) ≡ code x y
   pub within : (k : ℕ) → slice_index words k < 2 ^ n

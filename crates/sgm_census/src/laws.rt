@@ -7,7 +7,8 @@ ghost use Rattle.sgm_base.specs.Values.{Values, IsValues};
 ghost use Rattle.sgm_energy.specs.Pens.{Penalties};
 ghost use Rattle.sgm_energy.specs.Energies.{IsWithin};
 ghost use Rattle.sgm_census.specs.Windows.{WindowSides, IsWindow, greatest_of};
-ghost use Rattle.sgm_census.specs.Codes.{Codes, IsCodes, codes_of, code_at, code_in};
+ghost use Rattle.sgm_census.specs.Codes.{Codes, IsCodes, codes_of, code_by, code_in};
+ghost use Rattle.sgm_census.specs.declared.rule.CostRule.{CostRule};
 ghost use Rattle.sgm_census.specs.Costs.{census_cost};
 ghost use Rattle.sgm_census.specs.Matching.{KeepsLimits, matching_problem};
 
@@ -16,9 +17,10 @@ use sgm_base::{MAX_COST, MAX_PENALTY};
 /// In the codes of a plane each pixel has its code, and a pixel outside has none. A code has a truth value
 /// for each pixel of the window beside the centre.
 pub fn codes_of_planes()
-    ensures pixel { (plane : Values) (window : WindowSides) (x y : ℕ) → code_in (codes_of plane window) x y ≡ code_at plane window x y }
-    ensures kept { (plane : Values) (window : WindowSides) → IsValues plane → IsWindow window.width window.height
-        → IsCodes (codes_of plane window) }
+    ensures pixel { (plane : Values) (window : WindowSides) (rule : CostRule) (x y : ℕ)
+        → code_in (codes_of plane window rule) x y ≡ code_by rule plane window x y }
+    ensures kept { (plane : Values) (window : WindowSides) (rule : CostRule) → IsValues plane → IsWindow window.width window.height
+        → IsCodes (codes_of plane window rule) }
 {}
 
 /// No cost is above the window's greatest one, which is at most [`MAX_COST`].

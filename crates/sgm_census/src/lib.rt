@@ -1,5 +1,6 @@
 //! The census transform: for each pixel of a plane a code of truth values, and the cost of matching two
-//! pixels, which is the number of places in which their codes differ.
+//! pixels, which is the number of places in which their codes differ, or by the smoothed rule a mean of these
+//! along the row.
 #![tactic(auto)]
 
 mod code_plane;
@@ -7,6 +8,7 @@ mod cost;
 pub mod laws;
 mod pack;
 mod rule;
+mod smoothed;
 mod window;
 
 pub use code_plane::{CodePlane, codes};

@@ -1,22 +1,24 @@
 //! Codes as words, a row of pixels at a time, so that many neighbours are compared with their centres at
 //! once.
 
-ghost use Rattle.std.specs.Prelude.{◌≡◌, ℕ, ◌+◌, ◌-◌, ◌*◌, ◌/◌, ◌%◌, ◌^◌, ◌<◌, ◌≤◌, ◌&&◌, nat_lt, length, map, take, drop, slice_index, slice_index_or, is_some, unwrap_or, false, EachIndex};
+ghost use Rattle.std.specs.Prelude.{◌≡◌, ℕ, ◌+◌, ◌-◌, ◌*◌, ◌/◌, ◌%◌, ◌^◌, ◌<◌, ◌≤◌, ◌&&◌, nat_lt, length, take, drop, slice_index, slice_index_or, false, EachIndex};
 ghost use Rattle.std.specs.Int.{from_bool};
 ghost use Rattle.std.specs.List.{list_all};
 ghost use Rattle.sgm_census.specs.Windows.{greatest_of};
 ghost use Rattle.sgm_census.specs.Codes.{code_at};
 ghost use Rattle.sgm_base.specs.Values.{IsValues};
-ghost use Rattle.sgm_census.specs.Packed.{pushed, lesser, in_rows, centre_in, all_in, word_in, without, unpacked, word_place};
+ghost use Rattle.sgm_census.specs.Packed.{pushed, lesser, in_rows, all_in, word_to, without, unpacked, word_place, HoldsPlain};
 
 use crate::Window;
 use sgm_base::{MAX_WINDOW_WIDTH, Plane};
 
-/// A plane's values, row by row, 0 where it is void, and whether there is a value.
+/// A plane's values, row by row, 0 where it is void, whether there is a value, and the plane's sides.
 #[derive(Clone, Copy)]
 pub(crate) struct Plain<'a> {
     pub(crate) values: &'a [u16],
     pub(crate) there: &'a [bool],
+    pub(crate) width: usize,
+    pub(crate) height: usize,
 }
 
 /// Pushes a bit for each place: whether the value is less than the centre.
@@ -145,7 +147,7 @@ fn push_row(row: &[u16], centres: &[u16], wide: usize, bits: &mut [u16], words: 
 }
 
 /// Whether all marks are set.
-fn all_set(marks: &[bool]) -> bool
+pub(crate) fn all_set(marks: &[bool]) -> bool
     ensures { result ≡ list_all (λ t. t) marks.now }
 {
     let mut all = true;
@@ -184,7 +186,7 @@ fn keep_row(row: &[bool], wide: usize, present: &mut [bool])
 }
 
 /// The word without the bit above its lowest `half`.
-fn without_centre(word: u64, half: u32) -> u64
+pub(crate) fn without_centre(word: u64, half: u32) -> u64
     requires { half < 32 }
     ensures { result ≡ without half word }
 {
@@ -203,75 +205,89 @@ fn drop_centres(words: &mut [u64], half: u32)
 }
 
 /// Writes for each column the bits of all values of the window whose first column it is and whose first
-/// row is `top`. The rows of the values are so wide.
+/// row is `top`: whether they are less than the column's centre. What `bits` holds before does not matter.
 fn window_words(
-    values: &[u16],
-    width: usize,
+    plain: Plain,
     window: Window,
     top: usize,
+    centres: &[u16],
     bits: &mut [u16],
     words: &mut [u64],
 )
-    requires rows { (top + window.height) * width ≤ length values.now }
-    requires columns { length words.old + window.width ≡ width + 1 }
+    requires rows { (top + window.height) * plain.width ≤ length plain.values.now }
+    requires columns { length words.old + window.width ≡ plain.width + 1 }
+    requires centres_length { length centres.now ≡ length words.old }
     requires bits_length { length bits.old ≡ length words.old }
     ensures { EachIndex words.new (λ k. slice_index words.new k
-        ≡ pushed 0 (lesser (centre_in width values.now window k top) (in_rows width values.now window k top))) }
+        ≡ pushed 0 (lesser (slice_index centres.now k) (in_rows plain.entry.width plain.entry.values.now window k top))) }
 {
-    let len = words.len();
+    let width = plain.width;
     let (wide, high) = (window.width as usize, window.height as usize);
-    let centre = (top + high / 2) * width + wide / 2;
     words.fill(0);
     for j in 0..high {
         let from = (top + j) * width;
-        let row = &values[from..from + width];
-        push_row(row, &values[centre..centre + len], wide, bits, words);
+        push_row(
+            &plain.values[from..from + width],
+            centres,
+            wide,
+            bits,
+            words,
+        );
     }
 }
 
-/// Writes for each column whether all values of its window are there.
-fn window_marks(there: &[bool], width: usize, window: Window, top: usize, present: &mut [bool])
-    requires rows { (top + window.height) * width ≤ length there.now }
-    requires columns { length present.old + window.width ≡ width + 1 }
-    ensures { EachIndex present.new (λ k. slice_index_or present.new k false ≡ all_in width there.now window k top) }
+/// Writes the words of a row of codes whose windows have their first row at `top`: those of the columns whose
+/// windows lie in the plane, each against its centre, from right to left. The centres stand from left to right.
+pub(crate) fn code_words(
+    plain: Plain,
+    window: Window,
+    top: usize,
+    centres: &[u16],
+    bits: &mut [u16],
+    words: &mut [u64],
+)
+    requires rows { (top + window.height) * plain.width ≤ length plain.values.now }
+    requires columns { length words.old + window.width ≡ plain.width + 1 }
+    requires centres_length { length centres.now ≡ length words.old }
+    requires bits_length { length bits.old ≡ length words.old }
+    ensures { (k : ℕ) → k < length words.new → slice_index words.new k
+        ≡ word_to plain.entry.width plain.entry.values.now window (slice_index centres.now (length words.new - 1 - k))
+        (length words.new - 1 - k) top }
 {
+    window_words(plain, window, top, centres, bits, words);
+    drop_centres(words, window.width * window.height / 2);
+    words.reverse();
+}
+
+/// Writes for each column whether all values of its window are there.
+fn window_marks(plain: Plain, window: Window, top: usize, present: &mut [bool])
+    requires rows { (top + window.height) * plain.width ≤ length plain.there.now }
+    requires columns { length present.old + window.width ≡ plain.width + 1 }
+    ensures { EachIndex present.new (λ k. slice_index_or present.new k false
+        ≡ all_in plain.entry.width plain.entry.there.now window k top) }
+{
+    let width = plain.width;
     let (wide, high) = (window.width as usize, window.height as usize);
     present.fill(true);
     for j in 0..high {
         let from = (top + j) * width;
-        keep_row(&there[from..from + width], wide, present);
+        keep_row(&plain.there[from..from + width], wide, present);
     }
 }
 
-/// Writes the codes of a row whose windows have their first row at `top`: those of the columns whose windows
-/// lie in the plane, from right to left.
-fn code_row(
-    plain: Plain,
-    width: usize,
-    window: Window,
-    top: usize,
-    bits: &mut [u16],
-    words: &mut [u64],
-    present: &mut [bool],
-)
-    requires rows { (top + window.height) * width ≤ length plain.values.now }
-    requires there_length { length plain.there.now ≡ length plain.values.now }
-    requires columns { length words.old + window.width ≡ width + 1 }
-    requires bits_length { length bits.old ≡ length words.old }
-    requires present_length { length present.old ≡ length words.old }
-    ensures words { (k : ℕ) → k < length words.new → slice_index words.new k
-        ≡ word_in width plain.entry.values.now window (length words.new - 1 - k) top }
-    ensures present { (k : ℕ) → k < length words.new → slice_index_or present.new k false
-        ≡ all_in width plain.entry.there.now window (length words.new - 1 - k) top }
+/// Writes the marks of a row of windows whose first row is `top`: whether all values of the window are there,
+/// from right to left.
+pub(crate) fn code_marks(plain: Plain, window: Window, top: usize, present: &mut [bool])
+    requires rows { (top + window.height) * plain.width ≤ length plain.there.now }
+    requires columns { length present.old + window.width ≡ plain.width + 1 }
+    ensures { (k : ℕ) → k < length present.new → slice_index_or present.new k false
+        ≡ all_in plain.entry.width plain.entry.there.now window (length present.new - 1 - k) top }
 {
-    window_words(plain.values, width, window, top, bits, words);
-    window_marks(plain.there, width, window, top, present);
-    drop_centres(words, window.width * window.height / 2);
-    words.reverse();
+    window_marks(plain, window, top, present);
     present.reverse();
 }
 
-/// Writes the codes of the plane, row by row, each row from right to left. What `bits`, as wide as the plane,
+/// Writes the plain codes of the plane, row by row, each row from right to left. What `bits`, as wide as the plane,
 /// holds before does not matter.
 pub(crate) fn code_rows(
     plane: &Plane,
@@ -281,8 +297,7 @@ pub(crate) fn code_rows(
     words: &mut [u64],
     present: &mut [bool],
 )
-    requires values { plain.values.now ≡ map (λ o. unwrap_or o 0) plane.now.entries }
-    requires there { plain.there.now ≡ map is_some plane.now.entries }
+    requires holds { HoldsPlain plane.now plain.values.now plain.there.now plain.width plain.height }
     requires kept { IsValues plane.now }
     requires bits_length { length bits.old ≡ plane.now.width }
     requires words_length { length words.old ≡ plane.now.width * plane.now.height }
@@ -293,7 +308,7 @@ pub(crate) fn code_rows(
         → unpacked (greatest_of window) words.new present.new (word_place plane.now.width x y) ≡ code_at plane.now window x y }
     ensures within { (k : ℕ) → slice_index words.new k < 2 ^ greatest_of window }
 {
-    let (width, height) = (plane.size().width as usize, plane.size().height as usize);
+    let (width, height) = (plain.width, plain.height);
     let (across, down) = (window.width as usize / 2, window.height as usize / 2);
     if width <= 2 * across {
         return;
@@ -301,10 +316,19 @@ pub(crate) fn code_rows(
     let len = width - 2 * across;
     let (bits, _) = bits.split_at_mut(len);
     for y in down..height.saturating_sub(down) {
-        let (_, rest) = words.split_at_mut(y * width + across);
+        let from = y * width + across;
+        let (_, rest) = words.split_at_mut(from);
         let (row_words, _) = rest.split_at_mut(len);
-        let (_, rest) = present.split_at_mut(y * width + across);
+        let (_, rest) = present.split_at_mut(from);
         let (row_present, _) = rest.split_at_mut(len);
-        code_row(plain, width, window, y - down, bits, row_words, row_present);
+        code_words(
+            plain,
+            window,
+            y - down,
+            &plain.values[from..from + len],
+            bits,
+            row_words,
+        );
+        code_marks(plain, window, y - down, row_present);
     }
 }

@@ -47,3 +47,53 @@ fn a_front_waits_for_its_next_strip(rt: HostRuntime) -> Result<(), Fail> {
     assert!(rt; machine.holders.as_slice() == [None, Some(0), None].as_slice());
     Ok(())
 }
+
+const TAKE: Event = Event::Take {
+    worker: 7,
+    dir: Dir::Down,
+};
+
+const PUT: Event = Event::Put {
+    worker: 7,
+    dir: Dir::Down,
+};
+
+const RETURN: Event = Event::Return { worker: 7 };
+
+/// One worker takes the front that goes down through three strips, and then once more.
+const ALL_DOWN: [Event; 13] = [
+    Event::Claim {
+        worker: 7,
+        strip: 0,
+    },
+    TAKE,
+    PUT,
+    RETURN,
+    Event::Claim {
+        worker: 7,
+        strip: 1,
+    },
+    TAKE,
+    PUT,
+    RETURN,
+    Event::Claim {
+        worker: 7,
+        strip: 2,
+    },
+    TAKE,
+    PUT,
+    RETURN,
+    TAKE,
+];
+
+#[test]
+fn a_front_goes_through_all_strips(rt: HostRuntime) -> Result<(), Fail> {
+    let machine = replay(rt.alloc(), 3, &ALL_DOWN[..12])?;
+    assert!(rt; machine.passed == [3, 0, 0, 0, 0, 0]);
+    assert!(rt; machine.holders.as_slice() == [None, None, None].as_slice());
+    match replay(rt.alloc(), 3, &ALL_DOWN) {
+        Ok(_) => panic!(rt; "nothing is held at the end"),
+        Err(error) => assert!(rt; error == ReplayError::Illegal { at: 12 }),
+    }
+    Ok(())
+}

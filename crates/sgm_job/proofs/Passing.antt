@@ -1,18 +1,17 @@
 -- What a pair without a fault keeps.
-use Rattle.std.proofs.Common.{◌≡◌, ◌≤◌, ℤ, List, Bor, Bool, true, false, not, ◌&&◌, if◌then◌else◌, ◌==◌, nat_lt, Option, Some, None, Ok, Err, refl, sym, ap, ◌∙◌, subst}
+use Rattle.std.proofs.Common.{◌≡◌, ℤ, List, Bor, Bool, true, false, not, ◌&&◌, if◌then◌else◌, ◌==◌, Option, Some, None, Ok, Err, refl, sym, ap, ◌∙◌, subst}
 use Rattle.std.specs.Prelude.{All, IfSome, option_map}
 use Rattle.std.specs.Option.{option_or}
-use Rattle.std.proofs.lemmas.Bool.{eqb-true, ltb-false}
-use Rattle.sgm_base.specs.declared.limits.TheConstants.{MAX_VOLUME}
+use Rattle.std.proofs.lemmas.Bool.{eqb-true}
 use Rattle.sgm_base.specs.Picture.{Picture}
 use Rattle.sgm_base.specs.Sides.{Sides}
 use Rattle.sgm_rectify.specs.declared.warp.WarpFault.{WarpFault}
-use Rattle.sgm_rectify.specs.Faults.{Suits, warp_fault}
+use Rattle.sgm_rectify.specs.Faults.{warp_fault}
 use Rattle.sgm_rectify.specs.declared.warp.Warp.{Warp}
-use Rattle.sgm_rectify.specs.Warps.{IsWarp}
 use Rattle.sgm_rectify.specs.Rectified.{rectified_values, sides_of}
 use Rattle.sgm_census.specs.Codes.{Codes}
 use Rattle.sgm_census.specs.Windows.{WindowSides}
+use Rattle.sgm_census.specs.declared.rule.CostRule.{CostRule}
 use Rattle.sgm_calib.specs.Calibration.{Calibration, IsCalibration}
 use Rattle.sgm_job.specs.Matching.{IsMade}
 use Rattle.sgm_job.specs.declared.job.SurveyFault.{SurveyFault}
@@ -26,21 +25,20 @@ use Rattle.sgm_report.specs.Areas.{Area, IsArea}
 use Rattle.sgm_report.specs.declared.volumes.RegionTally.{RegionTally}
 use Rattle.sgm_job.specs.Heights.{grid_of, highest, points_of}
 use Rattle.sgm_refine.specs.Refining.{Refining}
-use Rattle.sgm_job.specs.Survey.{final, tallies_of, cells_of, pair_fault, Prepared, prepared, prepared_of, same_sides, side_fault, Survey, survey_of, surveyed, unless}
+use Rattle.sgm_job.specs.Survey.{final, tallies_of, cells_of, is_too_large, pair_fault, Prepared, prepared, prepared_of, same_sides, side_fault, Survey, survey_of, surveyed, unless}
 
--- the sides are the same, the volume isn't too large, and both warps suit them
+-- the sides are the same, and neither warp has a fault
 pub record Passes (left right : Sides) (calib : Calibration) : Type 0 where
   pub same : left ≡ right
-  pub room : cells_of left calib.span.count ≤ MAX_VOLUME
-  pub left_suits : warp_fault calib.left left ≡ None
-  pub right_suits : warp_fault calib.right right ≡ None
+  pub left_faultless : warp_fault calib.left left ≡ None
+  pub right_faultless : warp_fault calib.right right ≡ None
 
 all_none : (same large : Bool) (a b : SurveyFault) (l r : Option SurveyFault) → (if not same then Some a else if large then Some b else option_or l r) ≡ None
-    → (same ≡ true) × (large ≡ false) × (l ≡ None) × (r ≡ None)
+    → (same ≡ true) × (l ≡ None) × (r ≡ None)
 all_none false large a b l r e = absurd (cc)
 all_none true true a b l r e = absurd (cc)
 all_none true false a b (Some f) r e = absurd (cc)
-all_none true false a b None r e = (refl, refl, refl, e)
+all_none true false a b None r e = (refl, refl, e)
 
 map_none : (f : WarpFault → SurveyFault) (o : Option WarpFault) → option_map f o ≡ None → o ≡ None
 map_none f None e = refl
@@ -61,13 +59,12 @@ pub passes : (left right : Sides) (calib : Calibration) → pair_fault left righ
 unfolding pair_fault
 passes left right calib e =
     let none =
-    all_none (same_sides left right) (nat_lt MAX_VOLUME (cells_of left calib.span.count)) (fault.SizesDiffer left right) (fault.VolumeTooLarge (cells_of left calib.span.count))
+    all_none (same_sides left right) (is_too_large calib.rule (cells_of left calib.span.count)) (fault.SizesDiffer left right) (fault.VolumeTooLarge (cells_of left calib.span.count))
     (side_fault Left calib.left left) (side_fault Right calib.right right) e in
     record {
       same = same_from left right none.0;
-      room = ltb-false _ _ none.1;
-      left_suits = map_none _ _ none.2;
-      right_suits = map_none _ _ none.3;
+      left_faultless = map_none _ _ none.1;
+      right_faultless = map_none _ _ none.2;
     }
 
 -- the sides that a size shows are those of its image
@@ -103,17 +100,11 @@ survey_answered left right calib refine a b survey ea eb e is =
 
 -- ---- the parts of a survey
 
-pub left_suits : (left : Picture) (calib : Calibration) (a b : Sides) (warp : Warp) → a ≡ sides_of left → warp ≡ calib.left → IsWarp warp → Passes a b calib → Suits warp (sides_of left)
-left_suits left calib a b warp ea ew kept pass = record {
-  kept = kept;
-  faultless = ap (λ w. warp_fault w (sides_of left)) ew ∙ ap (warp_fault calib.left) (sym ea) ∙ pass.left_suits;
-}
+pub left_faultless : (left : Picture) (calib : Calibration) (a b : Sides) → a ≡ sides_of left → Passes a b calib → warp_fault calib.left (sides_of left) ≡ None
+left_faultless left calib a b ea pass = ap (warp_fault calib.left) (sym ea) ∙ pass.left_faultless
 
-pub right_suits : (right : Picture) (calib : Calibration) (a b : Sides) (warp : Warp) → b ≡ sides_of right → warp ≡ calib.right → IsWarp warp → Passes a b calib → Suits warp (sides_of right)
-right_suits right calib a b warp eb ew kept pass = record {
-  kept = kept;
-  faultless = ap (λ w. warp_fault w (sides_of right)) ew ∙ ap (warp_fault calib.right) (sym eb) ∙ pass.right_suits;
-}
+pub right_faultless : (right : Picture) (calib : Calibration) (a b : Sides) → b ≡ sides_of right → Passes a b calib → warp_fault calib.right (sides_of right) ≡ None
+right_faultless right calib a b eb pass = ap (warp_fault calib.right) (sym eb) ∙ pass.right_faultless
 
 -- a rectified image has the sides of the image
 pub plane_width : (image : Picture) (warp : Warp) (plane : Values) → plane ≡ rectified_values image warp → plane.width ≡ image.width
@@ -125,11 +116,11 @@ unfolding rectified_values
 plane_height image warp plane e = ap (λ (p : Values). p.height) e
 
 -- and so have its codes
-pub coded_width : (image : Picture) (warp : Warp) (window : WindowSides) (plane : Values) (codes : Codes) → IsMade image warp window plane codes → codes.width ≡ image.width
-coded_width image warp window plane codes made = ap (λ (c : Codes). c.width) made.coded ∙ plane_width image warp plane made.rectified
+pub coded_width : (image : Picture) (warp : Warp) (window : WindowSides) (rule : CostRule) (plane : Values) (codes : Codes) → IsMade image warp window rule plane codes → codes.width ≡ image.width
+coded_width image warp window rule plane codes made = ap (λ (c : Codes). c.width) made.coded ∙ plane_width image warp plane made.rectified
 
-pub coded_height : (image : Picture) (warp : Warp) (window : WindowSides) (plane : Values) (codes : Codes) → IsMade image warp window plane codes → codes.height ≡ image.height
-coded_height image warp window plane codes made = ap (λ (c : Codes). c.height) made.coded ∙ plane_height image warp plane made.rectified
+pub coded_height : (image : Picture) (warp : Warp) (window : WindowSides) (rule : CostRule) (plane : Values) (codes : Codes) → IsMade image warp window rule plane codes → codes.height ≡ image.height
+coded_height image warp window rule plane codes made = ap (λ (c : Codes). c.height) made.coded ∙ plane_height image warp plane made.rectified
 
 pub same_width : (left right : Picture) (a b : Sides) (calib : Calibration) → a ≡ sides_of left → b ≡ sides_of right → Passes a b calib → left.width ≡ right.width
 same_width left right a b calib ea eb pass = ap (λ (s : Sides). s.width) (sym ea ∙ pass.same ∙ eb)

@@ -18,7 +18,7 @@ Answers wanted (Err NoMemory) = ⊤
 
 -- what is matched in a scene
 abbrev pub matched_in : SceneParts → Prepared
-matched_in scene = record { problem = problem_of scene; span = scene.span }
+matched_in scene = record { problem = problem_of scene; span = scene.span; guide = scene.guide }
 
 abbrev pub Prepares : Result Prepared SurveyFault → Result SceneParts SurveyError → Type 0
 Prepares wanted (Ok scene) = wanted ≡ Ok (matched_in scene)

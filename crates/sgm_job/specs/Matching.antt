@@ -4,6 +4,7 @@ use Rattle.sgm_base.specs.Picture.{Picture}
 use Rattle.sgm_base.specs.Values.{Values}
 use Rattle.sgm_census.specs.Codes.{Codes, codes_of}
 use Rattle.sgm_census.specs.Windows.{WindowSides}
+use Rattle.sgm_census.specs.declared.rule.CostRule.{CostRule}
 use Rattle.sgm_rectify.specs.declared.warp.Warp.{Warp}
 use Rattle.sgm_rectify.specs.Rectified.{rectified_values}
 use Rattle.sgm_energy.specs.declared.dir.Dir.{Dir}
@@ -16,9 +17,9 @@ use Rattle.sgm_strip.specs.Strips.{AreComplete, IsStripOf}
 use Rattle.sgm_board.specs.Ready.{IsNewFront}
 
 -- the plane is the rectified image, and the codes are those of its pixels
-pub record IsMade (image : Picture) (warp : Warp) (window : WindowSides) (plane : Values) (codes : Codes) : Type 0 where
+pub record IsMade (image : Picture) (warp : Warp) (window : WindowSides) (rule : CostRule) (plane : Values) (codes : Codes) : Type 0 where
   pub rectified : plane ≡ rectified_values image warp
-  pub coded : codes ≡ codes_of plane window
+  pub coded : codes ≡ codes_of plane window rule
 
 -- the parcel of a strip, with the two level directions done and no other
 pub record IsNewParcel (scene : SceneParts) (cut : CutParts) (strip : ℕ) (parcel : ParcelParts) : Type 0 where

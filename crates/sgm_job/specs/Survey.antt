@@ -1,5 +1,5 @@
 -- The survey of a pair of images: the disparities, the grid of heights and the tallies, or why the pair is refused.
-use Rattle.std.specs.Prelude.{ℕ, ◌*◌, Bool, ◌==◌, nat_lt, ◌&&◌, not, if◌then◌else◌, List, map, Option, Some, None, option_map, Result, Ok, Err}
+use Rattle.std.specs.Prelude.{ℕ, ◌*◌, Bool, false, ◌==◌, nat_lt, ◌&&◌, not, if◌then◌else◌, List, map, Option, Some, None, option_map, Result, Ok, Err}
 use Rattle.std.specs.Option.{option_or}
 use Rattle.sgm_base.specs.declared.limits.TheConstants.{MAX_VOLUME}
 use Rattle.sgm_base.specs.declared.side.Side.{Side}
@@ -8,7 +8,10 @@ use Rattle.sgm_base.specs.Sides.{Sides}
 use Rattle.sgm_base.specs.Picture.{Picture}
 use Rattle.sgm_base.specs.Values.{Values}
 use Rattle.sgm_base.specs.Disparities.{Disparities}
+use Rattle.sgm_energy.specs.Pens.{guide_of}
 use Rattle.sgm_energy.specs.Rays.{Problem}
+use Rattle.sgm_census.specs.declared.rule.CostRule.{CostRule}
+use Rattle.sgm_census.specs.declared.rule.CostRule.TheVariants.{Plain, Smoothed}
 use Rattle.sgm_census.specs.Matching.{plane_problem}
 use Rattle.sgm_select.specs.Selection.{disparities_of, matches_of}
 use Rattle.sgm_refine.specs.Refining.{Refining}
@@ -37,7 +40,7 @@ right_plane right calib = rectified_values right calib.right
 -- the problem of matching them; where the penalties follow the image, it is the left one
 abbrev pub problem : Picture → Picture → Calibration → Problem
 problem left right calib =
-    plane_problem (left_plane left calib) (right_plane right calib) calib.window calib.span calib.penalties left.maxval
+    plane_problem (left_plane left calib) (right_plane right calib) calib.window calib.rule calib.span calib.penalties left.maxval
 
 -- the disparities of the left image
 abbrev pub disparities : Picture → Picture → Calibration → Values
@@ -56,13 +59,15 @@ final left right calib refine =
 
 -- ---- what is matched
 
--- the problem, and the disparities that its indices stand for
+-- the problem, the disparities that its indices stand for, and the grey values that penalties may follow
 pub record Prepared : Type 0 where
   pub problem : Problem
   pub span : Disparities
+  pub guide : Values
 
 abbrev pub prepared_of : Picture → Picture → Calibration → Prepared
-prepared_of left right calib = record { problem = problem left right calib; span = calib.span }
+prepared_of left right calib =
+    record { problem = problem left right calib; span = calib.span; guide = guide_of (left_plane left calib) left.maxval }
 
 -- ---- what a survey answers
 
@@ -94,6 +99,11 @@ same_sides left right = (left.width == right.width) && (left.height == right.hei
 abbrev pub cells_of : Sides → ℕ → ℕ
 cells_of sides count = sides.width * sides.height * count
 
+-- whether a volume of so many cells is too large: its limit stands for the plain rule of costs alone
+abbrev pub is_too_large : CostRule → ℕ → Bool
+is_too_large Plain cells = nat_lt MAX_VOLUME cells
+is_too_large Smoothed cells = false
+
 -- why an image of these sides can't be rectified
 abbrev pub side_fault : Side → Warp → Sides → Option SurveyFault
 side_fault side warp sides = option_map (λ found. fault.Warp side found) (warp_fault warp sides)
@@ -103,7 +113,7 @@ side_fault side warp sides = option_map (λ found. fault.Warp side found) (warp_
 unfoldable pub pair_fault : Sides → Sides → Calibration → Option SurveyFault
 pair_fault left right calib =
     if not (same_sides left right) then Some (fault.SizesDiffer left right)
-    else if nat_lt MAX_VOLUME (cells_of left calib.span.count) then Some (fault.VolumeTooLarge (cells_of left calib.span.count))
+    else if is_too_large calib.rule (cells_of left calib.span.count) then Some (fault.VolumeTooLarge (cells_of left calib.span.count))
     else option_or (side_fault Left calib.left left) (side_fault Right calib.right right)
 
 abbrev pub unless : {X : Type 0} → Option SurveyFault → X → Result X SurveyFault

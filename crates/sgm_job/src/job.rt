@@ -6,7 +6,7 @@ ghost use Rattle.sgm_census.specs.Matching.{matching_problem};
 ghost use Rattle.sgm_energy.specs.Pens.{guide_of};
 ghost use Rattle.sgm_strip.specs.Scenes.{problem_of};
 ghost use Rattle.sgm_refine.specs.Refining.{plain};
-ghost use Rattle.sgm_job.specs.Survey.{pair_fault, prepared, refined_disparities, side_fault, surveyed};
+ghost use Rattle.sgm_job.specs.Survey.{is_too_large, pair_fault, prepared, refined_disparities, side_fault, surveyed};
 ghost use Rattle.sgm_job.specs.Answers.{Answers, Prepares};
 
 use crate::heights::heights;
@@ -17,6 +17,7 @@ use crate::selecting::select_all;
 use crate::tallies::tallies;
 use sgm_base::{DispMap, Image, MAX_VOLUME, Plane, Side, Size};
 use sgm_calib::Calib;
+use sgm_census::CostRule;
 use sgm_grid::Grid;
 use sgm_rectify::{Warp, WarpFault};
 use sgm_refine::Refine;
@@ -31,7 +32,7 @@ use std::thread::Threads;
 pub enum SurveyFault {
     /// The widths or the heights differ.
     SizesDiffer { left: Size, right: Size },
-    /// width * height * count is above [`MAX_VOLUME`].
+    /// width * height * count is above [`MAX_VOLUME`], and costs are plain.
     VolumeTooLarge { cells: u64 },
     /// The image of this side can't be rectified by its warp.
     Warp { side: Side, fault: WarpFault },
@@ -86,6 +87,16 @@ fn side_fault(side: Side, warp: &Warp, size: Size) -> Option<SurveyFault>
     }
 }
 
+/// Whether a volume of so many cells is refused. Where costs are smoothed it has no limit of its own.
+fn is_too_large(rule: CostRule, cells: u64) -> bool
+    ensures { result ≡ is_too_large rule cells }
+{
+    match rule {
+        CostRule::Plain => cells > MAX_VOLUME,
+        CostRule::Smoothed => false,
+    }
+}
+
 /// The fault of a pair, if it has one.
 #[tactic(auto, unfolding(crate::specs::Survey::pair_fault))]
 fn pair_fault(left: Size, right: Size, calib: &Calib) -> Option<SurveyFault>
@@ -95,7 +106,7 @@ fn pair_fault(left: Size, right: Size, calib: &Calib) -> Option<SurveyFault>
         return Some(SurveyFault::SizesDiffer { left, right });
     }
     let cells = left.pixels() as u64 * u64::from(calib.span().count);
-    if cells > MAX_VOLUME {
+    if is_too_large(calib.rule(), cells) {
         return Some(SurveyFault::VolumeTooLarge { cells });
     }
     match side_fault(Side::Left, calib.left(), left) {
@@ -145,6 +156,7 @@ fn disparity_map<R: Threads + Sync, G: Gate + Sync>(
     requires same_width { left.codes.width ≡ right.codes.width }
     requires same_height { left.codes.height ≡ right.codes.height }
     requires same_window { left.codes.window ≡ right.codes.window }
+    requires same_rule { left.codes.rule ≡ right.codes.rule }
     requires left_width { left.plane.width ≡ left.codes.width }
     requires left_height { left.plane.height ≡ left.codes.height }
     requires right_width { right.plane.width ≡ left.codes.width }
@@ -229,15 +241,7 @@ pub fn survey_refined<R: Threads + Sync, G: Gate + Sync>(
     let maxval = left.maxval();
     // Known from here on: that no sample of the left image is above it.
     let _samples = left.samples();
-    let (left, right) = prepare_both(
-        rt,
-        alloc,
-        left,
-        calib.left(),
-        right,
-        calib.right(),
-        calib.window(),
-    )?;
+    let (left, right) = prepare_both(rt, alloc, left, right, calib)?;
     let disp = disparity_map(
         rt, alloc, left, right, calib, maxval, strips, workers, refine, gate,
     )?;
@@ -266,13 +270,6 @@ pub fn prepare(
     let maxval = left.maxval();
     // Known from here on: that no sample of the left image is above it.
     let _samples = left.samples();
-    let (left, right) = prepare_each(
-        alloc,
-        left,
-        calib.left(),
-        right,
-        calib.right(),
-        calib.window(),
-    )?;
+    let (left, right) = prepare_each(alloc, left, right, calib)?;
     Ok(guided_scene(alloc, left.codes, right.codes, calib, &left.plane, maxval)?)
 }

@@ -1,16 +1,16 @@
 //! From the images to what is matched: rectified planes, their codes, and the scene of these.
 
-ghost use Rattle.std.specs.Prelude.{◌≡◌, ◌≤◌, IfOk};
+ghost use Rattle.std.specs.Prelude.{◌≡◌, ◌≤◌, IfOk, None};
 ghost use Rattle.sgm_base.specs.Values.{AtMost};
 ghost use Rattle.sgm_energy.specs.Pens.{guide_of};
-ghost use Rattle.sgm_rectify.specs.Faults.{Suits};
+ghost use Rattle.sgm_rectify.specs.Faults.{Suits, warp_fault};
 ghost use Rattle.sgm_rectify.specs.Rectified.{sides_of};
 ghost use Rattle.sgm_strip.specs.Scenes.{scene_of};
 ghost use Rattle.sgm_job.specs.Matching.{IsMade};
 
 use sgm_base::{Image, Plane};
 use sgm_calib::Calib;
-use sgm_census::{CodePlane, Window, codes};
+use sgm_census::{CodePlane, CostRule, Window, codes};
 use sgm_rectify::{Warp, rectify};
 use sgm_strip::{Guide, Scene};
 use std::alloc::{AllocError, Global};
@@ -23,18 +23,19 @@ pub(crate) struct Coded {
     pub codes: CodePlane,
 }
 
-/// The image, rectified by the warp, with the codes of the window.
+/// The image, rectified by the warp, with the codes of the window by the rule.
 pub(crate) fn coded_image(
     alloc: Global,
     image: &Image,
     warp: &Warp,
     window: Window,
+    rule: CostRule,
 ) -> Result<Coded, AllocError>
     requires { Suits warp.now (sides_of image.now) }
-    ensures { IfOk result (λ made. IsMade image.now warp.now window made.plane made.codes) }
+    ensures { IfOk result (λ made. IsMade image.now warp.now window rule made.plane made.codes) }
 {
     let plane = rectify(alloc, image, warp)?;
-    let codes = codes(alloc, &plane, window)?;
+    let codes = codes(alloc, &plane, window, rule)?;
     Ok(Coded { plane, codes })
 }
 
@@ -42,18 +43,18 @@ pub(crate) fn coded_image(
 pub(crate) fn prepare_each(
     alloc: Global,
     left: &Image,
-    left_warp: &Warp,
     right: &Image,
-    right_warp: &Warp,
-    window: Window,
+    calib: &Calib,
 ) -> Result<(Coded, Coded), AllocError>
-    requires left { Suits left_warp.now (sides_of left.now) }
-    requires right { Suits right_warp.now (sides_of right.now) }
-    ensures left { IfOk result (λ made. IsMade left.now left_warp.now window made.0.plane made.0.codes) }
-    ensures right { IfOk result (λ made. IsMade right.now right_warp.now window made.1.plane made.1.codes) }
+    requires left { warp_fault calib.now.left (sides_of left.now) ≡ None }
+    requires right { warp_fault calib.now.right (sides_of right.now) ≡ None }
+    ensures left { IfOk result (λ made. IsMade left.now calib.now.left calib.now.window calib.now.rule made.0.plane made.0.codes) }
+    ensures right { IfOk result (λ made. IsMade right.now calib.now.right calib.now.window calib.now.rule made.1.plane made.1.codes) }
 {
-    let left = coded_image(alloc, left, left_warp, window)?;
-    let right = coded_image(alloc, right, right_warp, window)?;
+    let window = calib.window();
+    let rule = calib.rule();
+    let left = coded_image(alloc, left, calib.left(), window, rule)?;
+    let right = coded_image(alloc, right, calib.right(), window, rule)?;
     Ok((left, right))
 }
 
@@ -62,20 +63,22 @@ pub(crate) fn prepare_both<R: Threads>(
     rt: &R,
     alloc: Global,
     left: &Image,
-    left_warp: &Warp,
     right: &Image,
-    right_warp: &Warp,
-    window: Window,
+    calib: &Calib,
 ) -> Result<(Coded, Coded), AllocError>
-    requires left { Suits left_warp.now (sides_of left.now) }
-    requires right { Suits right_warp.now (sides_of right.now) }
-    ensures left { IfOk result (λ made. IsMade left.now left_warp.now window made.0.plane made.0.codes) }
-    ensures right { IfOk result (λ made. IsMade right.now right_warp.now window made.1.plane made.1.codes) }
+    requires left { warp_fault calib.now.left (sides_of left.now) ≡ None }
+    requires right { warp_fault calib.now.right (sides_of right.now) ≡ None }
+    ensures left { IfOk result (λ made. IsMade left.now calib.now.left calib.now.window calib.now.rule made.0.plane made.0.codes) }
+    ensures right { IfOk result (λ made. IsMade right.now calib.now.right calib.now.window calib.now.rule made.1.plane made.1.codes) }
 {
+    let window = calib.window();
+    let rule = calib.rule();
+    let left_warp = calib.left();
+    let right_warp = calib.right();
     let (left, right) = join(
         rt,
-        || coded_image(alloc, left, left_warp, window),
-        || coded_image(alloc, right, right_warp, window),
+        || coded_image(alloc, left, left_warp, window, rule),
+        || coded_image(alloc, right, right_warp, window, rule),
     );
     Ok((left?, right?))
 }
@@ -92,6 +95,7 @@ pub(crate) fn guided_scene(
     requires same_width { left.width ≡ right.width }
     requires same_height { left.height ≡ right.height }
     requires same_window { left.window ≡ right.window }
+    requires same_rule { left.rule ≡ right.rule }
     requires plane_width { plane.now.width ≡ left.width }
     requires plane_height { plane.now.height ≡ left.height }
     requires maxval { 1 ≤ maxval }

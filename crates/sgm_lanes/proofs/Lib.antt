@@ -1,3 +1,4 @@
 pub mod Bounds
+pub mod Fives
 pub mod Lanes
 pub mod Pads

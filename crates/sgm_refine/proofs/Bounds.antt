@@ -1,6 +1,6 @@
 -- No value of a refined map is above those of the map.
-use Rattle.std.proofs.Common.{◌≡◌, ℕ, ◌+◌, ◌*◌, ◌/◌, ◌%◌, ◌<◌, ◌≤◌, zero, suc, Bool, true, false, cond, leb, ltb, ◌&&◌, List, [], ◌∷◌, ◌++◌, length, map, Option, Some, None, IfSome, refl, sym, subst, inl, inr, arith, get_or, slice_get, option_and_then, ℤ}
-use Rattle.std.specs.List.{All, flat_map, range_with_len}
+use Rattle.std.proofs.Common.{ℕ, ◌+◌, ◌*◌, ◌/◌, ◌%◌, ◌≤◌, Bool, leb, ltb, ◌&&◌, List, [], ◌∷◌, length, map, Option, Some, None, IfSome, sym, subst, inl, inr, get_or, option_and_then, ℤ}
+use Rattle.std.specs.List.{All, find, flat_map, range_with_len}
 use Rattle.std.specs.Option.{option_or, option_to_list}
 use Rattle.std.proofs.lemmas.Bool.{cases_lt, cond_both}
 use Rattle.std.proofs.lemmas.List.{get_or_past}
@@ -8,7 +8,7 @@ use Rattle.std.proofs.lemmas.List.Elements.{All-nil, All-cons, All-head, All-tai
 use Rattle.sgm_base.specs.Values.{Values, AtMost, value_at, row_by_row}
 use Rattle.sgm_energy.specs.Dirs.{directions}
 use Rattle.sgm_energy.specs.Rays.{Pixel, pixel_at, before}
-use Rattle.sgm_refine.specs.Filling.{last_value, met_from, placed, ascending, met, entry_taken, is_mismatched, filling, filled_value, filled, pixels_of}
+use Rattle.sgm_refine.specs.Filling.{last_value, met_from, is_ranked, ranked, met, entry_taken, is_mismatched, filling, filled_value, filled, pixels_of}
 use Rattle.sgm_refine.specs.Refined.{refined}
 use Rattle.sgm_refine.specs.Refining.{Refining}
 use Rattle.sgm_refine.specs.Segments.{places, value_of, segment, kept_at, kept}
@@ -57,26 +57,19 @@ met_low most f [] h = All-nil (λ v. v ≤ most)
 met_low most f (x ∷ xs) h =
     All-append (λ v. v ≤ most) (option_to_list (f x)) (flat_map option_to_list (map f xs)) (list_low most (f x) (h x)) (met_low most f xs h)
 
-placed_low : (most x : ℕ) (ys : List ℕ) → x ≤ most → All (λ v. v ≤ most) ys → All (λ v. v ≤ most) (placed x ys)
-placed_low most x [] h all = All-cons (λ v. v ≤ most) x [] h all
-placed_low most x (y ∷ ys) h all =
-    cond_both (leb x y) (x ∷ y ∷ ys) (y ∷ placed x ys) (All (λ v. v ≤ most)) (λ e. All-cons (λ v. v ≤ most) x (y ∷ ys) h all)
-    (λ e. All-cons (λ v. v ≤ most) y (placed x ys) (All-head (λ v. v ≤ most) y ys all) (placed_low most x ys h (All-tail (λ v. v ≤ most) y ys all)))
+find_low : (most : ℕ) (p : ℕ → Bool) (xs : List ℕ) → All (λ v. v ≤ most) xs → Low most (find p xs)
+find_low most p [] all = tt
+find_low most p (x ∷ xs) all =
+    cond_both (p x) (Some x) (find p xs) (Low most) (λ e. All-head (λ v. v ≤ most) x xs all) (λ e. find_low most p xs (All-tail (λ v. v ≤ most) x xs all))
 
-ascending_low : (most : ℕ) (xs : List ℕ) → All (λ v. v ≤ most) xs → All (λ v. v ≤ most) (ascending xs)
-ascending_low most [] all = all
-ascending_low most (x ∷ xs) all =
-    placed_low most x (ascending xs) (All-head (λ v. v ≤ most) x xs all) (ascending_low most xs (All-tail (λ v. v ≤ most) x xs all))
-
-get_low : (most : ℕ) (xs : List ℕ) (i : ℕ) → All (λ v. v ≤ most) xs → Low most (slice_get xs i)
-get_low most [] i all = tt
-get_low most (x ∷ xs) zero all = All-head (λ v. v ≤ most) x xs all
-get_low most (x ∷ xs) (suc i) all = get_low most xs i (All-tail (λ v. v ≤ most) x xs all)
+ranked_low : (most : ℕ) (xs : List ℕ) (n : ℕ) → All (λ v. v ≤ most) xs → Low most (ranked xs n)
+unfolding ranked
+ranked_low most xs n all = find_low most (is_ranked xs n) xs all
 
 from_low : (most : ℕ) (m : Values) (p : Pixel) → AtMost most m.entries → All (λ v. v ≤ most) (met m p)
 unfolding met met_from
 from_low most m p h =
-    ascending_low most (flat_map option_to_list (map (met_from m p) directions)) (met_low most (met_from m p) directions (λ dir. last_low most m (before (pixels_of m) dir p) h))
+    met_low most (met_from m p) directions (λ dir. last_low most m (before (pixels_of m) dir p) h)
 
 then_low : (most : ℕ) (left value : Option ℕ) → Low most value → Low most (option_and_then (λ _. value) left)
 then_low most None value h = tt
@@ -86,7 +79,7 @@ filled_low : (most : ℕ) (m left : Values) (is_mismatch : Bool) (p : Pixel) →
 unfolding filled_value
 filled_low most m left is_mismatch p h =
     or_low most (value_at m p.x p.y) (option_and_then (λ _. filling m is_mismatch p) (value_at left p.x p.y)) (value_low most m p.x p.y h)
-    (then_low most (value_at left p.x p.y) (filling m is_mismatch p) (get_low most (met m p) (entry_taken is_mismatch (length (met m p))) (from_low most m p h)))
+    (then_low most (value_at left p.x p.y) (filling m is_mismatch p) (ranked_low most (met m p) (entry_taken is_mismatch (length (met m p))) (from_low most m p h)))
 
 pub filled_most : (m matches left : Values) (first : ℤ) (count most : ℕ) → AtMost most m.entries → AtMost most (filled m matches left first count).entries
 unfolding row_by_row

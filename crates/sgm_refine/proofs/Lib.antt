@@ -6,4 +6,4 @@ pub mod Kept
 pub mod MetLemmas
 pub mod MetRows
 pub mod Mismatched
-pub mod Sorted
+pub mod Ranks

@@ -1,6 +1,6 @@
 -- How the pixels without a disparity are filled from those around them.
-use Rattle.std.specs.Prelude.{◌≡◌, ℕ, ◌-◌, ◌*◌, ◌/◌, ◌<◌, min, All, IfSome, Bool, false, nat_eq, nat_le, if◌then◌else◌, List, [], ◌∷◌, map, length, slice_get, Option, Some, None, option_and_then, ℤ}
-use Rattle.std.specs.List.{flat_map, list_any}
+use Rattle.std.specs.Prelude.{◌≡◌, ℕ, ◌-◌, ◌*◌, ◌/◌, ◌<◌, min, All, IfSome, Bool, false, ◌&&◌, nat_eq, nat_le, nat_lt, if◌then◌else◌, List, [], ◌∷◌, map, length, Option, Some, None, option_and_then, ℤ}
+use Rattle.std.specs.List.{count_by, find, flat_map, list_any}
 use Rattle.std.specs.Option.{option_eq, option_map_or, option_or, option_to_list}
 use Rattle.sgm_base.specs.Columns.{right_column}
 use Rattle.sgm_base.specs.Values.{Values, value_at, values_of, row_by_row}
@@ -31,19 +31,17 @@ last_value disparities (p ∷ ps) = option_or (last_value disparities ps) (value
 unfoldable pub met_from : Values → Pixel → Dir → Option ℕ
 met_from disparities p dir = last_value disparities (before (pixels_of disparities) dir p)
 
--- x at its place among numbers that ascend
-abbrev pub placed : ℕ → List ℕ → List ℕ
-placed x [] = x ∷ []
-placed x (y ∷ ys) = if nat_le x y then x ∷ y ∷ ys else y ∷ placed x ys
-
--- the numbers of a list, the least first
-abbrev pub ascending : List ℕ → List ℕ
-ascending [] = []
-ascending (x ∷ xs) = placed x (ascending xs)
-
--- the values that are met from p in the eight directions, the least first
+-- the values that are met from p in the eight directions
 unfoldable pub met : Values → Pixel → List ℕ
-met disparities p = ascending (flat_map option_to_list (map (met_from disparities p) directions))
+met disparities p = flat_map option_to_list (map (met_from disparities p) directions)
+
+-- whether v has the number n of some numbers, the least first: at most n of them are below v, and more than n at most v
+abbrev pub is_ranked : List ℕ → ℕ → ℕ → Bool
+is_ranked xs n v = nat_le (count_by (λ x. nat_lt x v) xs) n && nat_lt n (count_by (λ x. nat_le x v) xs)
+
+-- the one of some numbers that has the number n, the least first, where n is below how many there are
+unfoldable pub ranked : List ℕ → ℕ → Option ℕ
+ranked xs n = find (is_ranked xs n) xs
 
 -- whether the index d gives p a pixel of the right image whose match is d. The matches are in sixteenths.
 abbrev pub is_matched : Values → ℤ → Pixel → ℕ → Bool
@@ -54,14 +52,14 @@ is_matched matches first p d =
 unfoldable pub is_mismatched : Values → ℤ → ℕ → Pixel → Bool
 is_mismatched matches first count p = list_any (is_matched matches first p) (below count)
 
--- of n values, the least first, the number of the one that is taken: that in the middle, the lower one of two, where p is
--- mismatched; the second, or the only one, where it is occluded
+-- of n values the number of the one that is taken, the least first and counted from 0: that in the middle, the lower one of
+-- two, where p is mismatched; the second, or the only one, where it is occluded
 abbrev pub entry_taken : Bool → ℕ → ℕ
 entry_taken mismatched n = if mismatched then (n - 1) / 2 else min 1 (n - 1)
 
 -- the one that is taken of the values met from p, where any is met
 abbrev pub filling : Values → Bool → Pixel → Option ℕ
-filling disparities mismatched p = slice_get (met disparities p) (entry_taken mismatched (length (met disparities p)))
+filling disparities mismatched p = ranked (met disparities p) (entry_taken mismatched (length (met disparities p)))
 
 -- the value of p; where it has none, that with which it is filled, but none where p is void on the left
 unfoldable pub filled_value : Values → Values → Bool → Pixel → Option ℕ

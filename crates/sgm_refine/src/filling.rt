@@ -1,14 +1,15 @@
 //! Filling: a pixel without a disparity takes one of those that are met from it.
 
 ghost use Rattle.std.specs.Prelude.{◌≡◌, ℕ, ◌+◌, ◌-◌, ◌*◌, ◌/◌, ◌^◌, ◌<◌, ◌≤◌, ◌++◌, ℤ, List, length, slice_get, slice_index_or, None, Some, EachIndex, IfOk, IfSome, option_and_then, true, false, ◌⊎◌};
-ghost use Rattle.std.specs.List.{flat_map, insert};
+ghost use Rattle.std.specs.List.{flat_map};
+ghost use Rattle.std.specs.List.Sorted.{IsNonDecreasing, IsPermutation};
 ghost use Rattle.std.specs.Option.{option_to_list};
 ghost use Rattle.arrayvec.specs.ArrayVec.{array_vec_len};
 ghost use Rattle.sgm_base.specs.Columns.{left_column};
 ghost use Rattle.sgm_base.specs.Values.{Values, AtMost};
 ghost use Rattle.sgm_energy.specs.Rays.{pixel_at};
 ghost use Rattle.sgm_refine.specs.declared.met.TheConstants.{LEVEL, DOWNWARDS, UPWARDS};
-ghost use Rattle.sgm_refine.specs.Filling.{AreIndices, placed, ascending, entry_taken, filled, filled_value, is_mismatched};
+ghost use Rattle.sgm_refine.specs.Filling.{AreIndices, entry_taken, filled, filled_value, is_mismatched};
 ghost use Rattle.sgm_refine.specs.Met.{HoldAllMet, HoldRows, AreMarks, filled_at};
 
 use crate::met::{carry_down, meet_level, meet_upwards, met_at};
@@ -16,39 +17,18 @@ use arrayvec::ArrayVec;
 use sgm_base::{DispMap, Plane, Span};
 use std::alloc::{AllocError, Global};
 
-/// How many of some numbers that ascend are below a value.
-fn place_of(value: u16, among: &[u16]) -> usize
-    ensures inside { result ≤ length among.now }
-    ensures place { insert among.now result value ≡ placed value among.now }
-{
-    for (i, other) in among.iter().enumerate() {
-        if value <= *other {
-            return i;
-        }
-    }
-    among.len()
-}
-
-/// Puts a value, where there is one, at its place among numbers that ascend.
-fn put(value: Option<u16>, among: &mut ArrayVec<u16, 8>)
-    requires room { array_vec_len among.old < 8 }
-    ensures items { (xs : List ℕ) → among.old.items ≡ ascending xs → among.new.items ≡ ascending (option_to_list value ++ xs) }
-    ensures len { array_vec_len among.new ≤ array_vec_len among.old + 1 }
-{
-    if let Some(value) = value {
-        let place = place_of(value, among.as_slice());
-        among.insert(place, value);
-    }
-}
-
 /// The values of a list, the least first.
 fn sorted(values: &[Option<u16>; 8]) -> ArrayVec<u16, 8>
-    ensures { result.items ≡ ascending (flat_map option_to_list values.now) }
+    ensures permutation { IsPermutation (flat_map option_to_list values.now) result.items }
+    ensures ascending { IsNonDecreasing result.items }
 {
     let mut found = ArrayVec::new();
-    for k in 0..8 {
-        put(values[7 - k], &mut found);
+    for value in values {
+        if let Some(value) = value {
+            found.push(*value);
+        }
     }
+    found.sort_unstable();
     found
 }
 

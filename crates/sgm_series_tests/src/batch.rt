@@ -7,7 +7,8 @@ use sgm_base::Side;
 use sgm_batch::{Inputs, work_batch};
 use sgm_example::{CALIBRATION, LEFT, RIGHT};
 use sgm_pgm::PgmFault;
-use sgm_work::OpenGate;
+use sgm_recorders::Recorder;
+use sgm_work::{Gate, OpenGate};
 use std::alloc::{AllocError, Global};
 use std::process::Abort;
 use std::sync::Wait;
@@ -80,16 +81,17 @@ fn assert_refused<R: Abort>(rt: &R, made: Result<MadeTexts, TextsError>) {
     }
 }
 
-/// Each entry gets what its own inputs call for, by so many workers.
-fn assert_batch<R: Threads + Wait + Sync + Abort>(
+/// Each entry gets what its own inputs call for, by so many workers, who pass the gate.
+fn assert_batch<R: Threads + Wait + Sync + Abort, G: Gate + Sync>(
     rt: &R,
     alloc: Global,
     workers: u32,
+    gate: &G,
 ) -> Result<(), AllocError>
     requires { (1 ≤ workers) × (workers ≤ MAX_TICKETS) }
 {
     let batch = batch(alloc)?;
-    let mut pieces = work_batch(rt, alloc, batch.as_slice(), workers, &OpenGate)?.into_iter();
+    let mut pieces = work_batch(rt, alloc, batch.as_slice(), workers, gate)?.into_iter();
     let (Some(first), Some(second), Some(third)) = (pieces.next(), pieces.next(), pieces.next())
     else {
         panic!(rt; "a piece for each of three entries is missing")
@@ -105,12 +107,14 @@ fn assert_batch<R: Threads + Wait + Sync + Abort>(
 
 #[test]
 fn one_worker_makes_each_piece_of_its_entry(rt: HostRuntime) -> Result<(), Fail> {
-    assert_batch(&rt, rt.alloc(), 1)?;
+    let recorder = Recorder::new();
+    assert_batch(&rt, rt.alloc(), 1, &recorder)?;
+    assert!(rt; recorder.has(&[(0, 0), (0, 1), (0, 2)]));
     Ok(())
 }
 
 #[test]
 fn two_workers_make_each_piece_of_its_entry(rt: HostRuntime) -> Result<(), Fail> {
-    assert_batch(&rt, rt.alloc(), 2)?;
+    assert_batch(&rt, rt.alloc(), 2, &OpenGate)?;
     Ok(())
 }

@@ -1,3 +1,5 @@
+mod batches;
+mod calls;
 mod ended;
 mod faults;
 mod fixtures;

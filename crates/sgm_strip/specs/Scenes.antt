@@ -27,6 +27,7 @@ pub record IsScene (scene : SceneParts) : Type 0 where
   pub same_width : scene.left.width ≡ scene.right.width
   pub same_height : scene.left.height ≡ scene.right.height
   pub same_window : scene.left.window ≡ scene.right.window
+  pub same_rule : scene.left.rule ≡ scene.right.rule
   pub first_in_range : IsFirst scene.span.first
   pub count_in_range : IsCount scene.span.count
   pub ordered : scene.penalties.p1 ≤ scene.penalties.p2

@@ -10,7 +10,7 @@ use sgm_census::{CodePlane, cost_at};
 use sgm_energy::Pen;
 use std::marker::Model;
 
-/// What is matched: the codes of the left and of the right image, of one size and one window, the
+/// What is matched: the codes of the left and of the right image, of one size, one window and one rule of cost, the
 /// disparities that are tried, the penalties, and the guide that they follow where the pen is adaptive.
 #[derive(Drop)]
 pub struct Scene {
@@ -35,6 +35,7 @@ impl Scene {
         requires same_width { left.width ≡ right.width }
         requires same_height { left.height ≡ right.height }
         requires same_window { left.window ≡ right.window }
+        requires same_rule { left.rule ≡ right.rule }
         requires guide_width { guide.width ≡ left.width }
         requires guide_height { guide.height ≡ left.height }
         ensures { result ≡ scene_of left right span (penalties_of pen) guide }

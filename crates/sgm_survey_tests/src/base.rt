@@ -4,6 +4,7 @@ use sgm_base::{
     MAX_VOLUME, MAX_WINDOW_HEIGHT, MAX_WINDOW_WIDTH, MAX_WORKERS, MIN_FIRST, MIN_WINDOW_SIDE,
     Plane, Size, Span, round_div,
 };
+use sgm_refine::{LINK_DISTANCE, MAX_PEAK};
 use std::alloc::Global;
 use std::test::Fail;
 
@@ -137,4 +138,5 @@ fn limits_as_numbers(rt: HostRuntime) {
         [MAX_PENALTY, MAX_PATH_VALUE, MAX_SUM, MAX_DISPARITY] == [4000, 4062, 32_496, 4080]
     );
     assert!(rt; [MAX_REGIONS, MAX_IMAGE_BYTES, MAX_CALIB_BYTES] == [1000, 67_108_864, 16_777_216]);
+    assert!(rt; (LINK_DISTANCE, MAX_PEAK) == (16, 16_777_216));
 }

@@ -30,15 +30,24 @@ const ADAPT: Key = Key {
     index: 0,
 };
 
+const FINE: Key = Key {
+    number: 51,
+    index: 0,
+};
+
 /// Version 2, which doesn't say whether its penalties follow the image.
 const WITHOUT_ADAPT: &str =
     "{\"version\":2,\"disparities\":{\"first\":0,\"count\":2},\"census\":{\"width\":3,\"height\":3},\"penalties\":{\"p1\":1,\"p2\":3}}";
 
-const FAULTS: [(&str, CalibFault); 8] = [
+/// Version 3, which doesn't say whether its disparities are made finer.
+const WITHOUT_FINE: &str =
+    "{\"version\":3,\"disparities\":{\"first\":0,\"count\":2},\"census\":{\"width\":3,\"height\":3},\"penalties\":{\"p1\":1,\"p2\":3,\"adapt\":false}}";
+
+const FAULTS: [(&str, CalibFault); 9] = [
     ("{", CalibFault::Json),
     ("[]", CalibFault::Type_(TOP)),
     ("{}", CalibFault::Missing(VERSION)),
-    ("{\"version\":3}", CalibFault::Version),
+    ("{\"version\":4}", CalibFault::Version),
     ("{\"version\":1,\"x\":0}", CalibFault::Unknown(TOP)),
     (
         "{\"version\":1,\"disparities\":{\"first\":0,\"count\":0}}",
@@ -49,6 +58,7 @@ const FAULTS: [(&str, CalibFault); 8] = [
         CalibFault::Type_(COUNT),
     ),
     (WITHOUT_ADAPT, CalibFault::Missing(ADAPT)),
+    (WITHOUT_FINE, CalibFault::Missing(FINE)),
 ];
 
 #[test]
@@ -78,6 +88,7 @@ fn paths_of_keys(rt: HostRuntime) {
         (5, "disparities.count", ""),
         (49, "regions[", "].base"),
         (50, "penalties.adapt", ""),
+        (51, "disparities.fine", ""),
         (255, "", ""),
     ] {
         let key = Key {

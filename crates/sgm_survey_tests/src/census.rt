@@ -3,7 +3,7 @@
 ghost use Rattle.std.specs.Prelude.{◌≡◌, ◌*◌, ◌<◌, ◌≤◌, length, IsTrue};
 
 use sgm_base::{Plane, Size, Span};
-use sgm_census::{CodePlane, Window, codes, cost_row};
+use sgm_census::{CodePlane, CostRule, Window, codes, cost_row};
 use std::alloc::Global;
 use std::test::Fail;
 
@@ -27,7 +27,7 @@ fn codes_of_entries(
 ) -> Result<CodePlane, Fail> {
     let (size, window) = sides_of(sides, window)?;
     let plane = Plane::make(size, entries).ok_or("entries")?;
-    Ok(codes(alloc, &plane, window)?)
+    Ok(codes(alloc, &plane, window, CostRule::Plain)?)
 }
 
 /// The codes of a plane with these values, row by row, none of them void.
@@ -170,5 +170,42 @@ fn void_pixels_have_no_code(rt: HostRuntime) -> Result<(), Fail> {
     entries[0] = Some(7);
     entries[7] = None;
     assert!(rt; voids_give(rt.alloc(), &entries, &[8; 5])?);
+    Ok(())
+}
+
+/// The smoothed codes of five columns and three rows, with a window of 3 x 3.
+fn smoothed_codes(alloc: Global, entries: &[Option<u16>; 15]) -> Result<CodePlane, Fail> {
+    let (size, window) = sides_of((5, 3), (3, 3))?;
+    let plane = Plane::make(size, entries.to_vec(alloc)?).ok_or("entries")?;
+    Ok(codes(alloc, &plane, window, CostRule::Smoothed)?)
+}
+
+/// Whether the row `y` of these planes has these smoothed costs, with the disparities 0 and 1.
+fn smoothed_are(
+    alloc: Global,
+    left: &[Option<u16>; 15],
+    right: &[Option<u16>; 15],
+    y: u32,
+    want: &[u8; 10],
+) -> Result<bool, Fail> {
+    let left = smoothed_codes(alloc, left)?;
+    let right = smoothed_codes(alloc, right)?;
+    Ok(have_costs(&left, &right, (0, 2), y, want))
+}
+
+#[test]
+fn smoothed_costs_of_a_pair_with_a_void_column(rt: HostRuntime) -> Result<(), Fail> {
+    let mut left = [0, 90, 10, 50, 20, 0, 15, 70, 30, 60, 0, 80, 35, 55, 45].map(Some);
+    for at in [0, 5, 10] {
+        left[at] = None;
+    }
+    let right = [12, 52, 22, 42, 30, 68, 33, 58, 27, 40, 37, 54, 47, 63, 20].map(Some);
+    for (y, want) in &[
+        (0, [3, 3, 2, 4, 1, 6, 1, 5, 1, 3]),
+        (1, [2, 4, 2, 5, 2, 5, 2, 5, 2, 5]),
+        (2, [3, 2, 2, 3, 1, 5, 1, 6, 1, 4]),
+    ] {
+        assert!(rt; smoothed_are(rt.alloc(), &left, &right, *y, want)?);
+    }
     Ok(())
 }

@@ -8,26 +8,28 @@ use crate::fixtures::{LEFT, RIGHT, calib, image_of_rows};
 use sgm_calib::Calib;
 use sgm_example::{CAMERA, GRID, REGIONS, SETTINGS};
 use sgm_job::{Surveyed, survey};
+use sgm_recorders::{Meeting, ONE_AT_THREE, Recorder};
 use sgm_report::RegionTally;
-use sgm_work::OpenGate;
+use sgm_work::{Gate, OpenGate};
 use std::alloc::Global;
 use std::test::Fail;
 use std::thread::Threads;
 
-/// The survey of the worked example's images over so many strips.
-fn example<R: Threads + Sync>(
+/// The survey of the worked example's images over so many strips, whose workers pass the gate.
+fn example<R: Threads + Sync, G: Gate + Sync>(
     rt: &R,
     alloc: Global,
     calib: &Calib,
     strips: u32,
     workers: u32,
+    gate: &G,
 ) -> Result<Surveyed, Fail>
     requires strips { (1 ≤ strips) × (strips ≤ MAX_STRIPS) }
     requires workers { (1 ≤ workers) × (workers ≤ MAX_WORKERS) }
 {
     let left = image_of_rows(alloc, &LEFT)?;
     let right = image_of_rows(alloc, &RIGHT)?;
-    let found = survey(rt, alloc, &left, &right, calib, strips, workers, &OpenGate);
+    let found = survey(rt, alloc, &left, &right, calib, strips, workers, gate);
     Ok(found.ok().ok_or("survey")?)
 }
 
@@ -92,18 +94,19 @@ fn is_example(found: &Surveyed) -> bool {
         && has_tallies(found, &TALLIES)
 }
 
-/// Whether the survey of its images over so many strips is that.
-fn gives_example<R: Threads + Sync>(
+/// Whether the survey of its images over so many strips, whose workers pass the gate, is that.
+fn gives_example<R: Threads + Sync, G: Gate + Sync>(
     rt: &R,
     alloc: Global,
     calib: &Calib,
     strips: u32,
     workers: u32,
+    gate: &G,
 ) -> Result<bool, Fail>
     requires strips { (1 ≤ strips) × (strips ≤ MAX_STRIPS) }
     requires workers { (1 ≤ workers) × (workers ≤ MAX_WORKERS) }
 {
-    let found = example(rt, alloc, calib, strips, workers)?;
+    let found = example(rt, alloc, calib, strips, workers, gate)?;
     Ok(is_example(&found))
 }
 
@@ -112,7 +115,25 @@ fn the_worked_example(rt: HostRuntime) -> Result<(), Fail> {
     let alloc = rt.alloc();
     let calib = calib(alloc, &[SETTINGS, CAMERA, GRID, REGIONS])?;
     for (strips, workers) in [(1, 1), (3, 2), (64, 16)] {
-        assert!(rt; gives_example(&rt, alloc, &calib, strips, workers)?);
+        assert!(rt; gives_example(&rt, alloc, &calib, strips, workers, &OpenGate)?);
     }
+    Ok(())
+}
+
+#[test]
+fn one_worker_goes_through_three_strips(rt: HostRuntime) -> Result<(), Fail> {
+    let calib = calib(rt.alloc(), &[SETTINGS, CAMERA, GRID, REGIONS])?;
+    let recorder = Recorder::new();
+    assert!(rt; gives_example(&rt, rt.alloc(), &calib, 3, 1, &recorder)?);
+    assert!(rt; recorder.has(&ONE_AT_THREE));
+    Ok(())
+}
+
+#[test]
+fn two_workers_overlap(rt: HostRuntime) -> Result<(), Fail> {
+    let calib = calib(rt.alloc(), &[SETTINGS, CAMERA, GRID, REGIONS])?;
+    let meeting = Meeting::of(2);
+    assert!(rt; gives_example(&rt, rt.alloc(), &calib, 2, 2, &meeting)?);
+    assert!(rt; meeting.has_met());
     Ok(())
 }

@@ -84,6 +84,34 @@ fn penalties_may_follow_the_image(rt: HostRuntime) -> Result<(), Fail> {
     Ok(())
 }
 
+/// Peaks of fewer than twenty pixels are all there is of the fifteen, and nothing is left to fill the gaps with.
+const NOTHING: End<'static> = End {
+    status: 0,
+    out: b"valid 0 of 15\n",
+    err: b"",
+    outputs: [
+        Some(
+            b"P5\n5 3\n65535\n\x00\x00\x00\x00\x00\x00\x00\x00\x00\x00\x00\x00\x00\x00\x00\x00\x00\x00\x00\x00\x00\x00\x00\x00\x00\x00\x00\x00\x00\x00",
+        ),
+        Some(
+            b"ncols 4\nnrows 3\nxllcorner 2000\nyllcorner -2000\ncellsize 1000\nNODATA_value -2147483648\n-2147483648 -2147483648 -2147483648 -2147483648\n-2147483648 -2147483648 -2147483648 -2147483648\n-2147483648 -2147483648 -2147483648 -2147483648\n",
+        ),
+        Some(b"region,cells,empty,fill,cut,lowest,highest\nall,0,12,0,0,,\neast,0,1,0,0,,\n"),
+    ],
+};
+
+#[test]
+fn peaks_and_gaps_whatever_the_strips_and_the_workers(rt: HostRuntime) -> Result<(), Fail> {
+    let alloc = rt.alloc();
+    for line in [
+        "match l.pgm r.pgm c.json o peak=20 fill=1 strips=1 workers=1",
+        "match l.pgm r.pgm c.json o peak=20 fill=1 strips=3 workers=2",
+    ] {
+        assert!(rt; ends(&rt, alloc, example(alloc)?, line, NOTHING)?);
+    }
+    Ok(())
+}
+
 // A pair of two pixels.
 fn two_pixels(alloc: Global) -> Result<Vec<(String, Vec<u8>)>, AllocError> {
     let mut files = Vec::new(alloc);

@@ -1,6 +1,6 @@
-//! The generated pair: a demo, and a whole run over a larger one.
+//! Whole runs over the larger generated pair.
 
-use super::ended::{End, ends, held, run_line, shelf_of};
+use super::ended::{held, run_line, shelf_of};
 use super::fixtures::{add, files_with};
 use sgm_app::pair;
 use sgm_base::{Image, Size};
@@ -10,21 +10,6 @@ use sgm_work::OpenGate;
 use std::alloc::{AllocError, Global};
 use std::test::Fail;
 use std::thread::Threads;
-
-#[test]
-fn a_demo_has_two_lines_and_no_file(rt: HostRuntime) -> Result<(), Fail> {
-    let alloc = rt.alloc();
-    let end = End {
-        status: 0,
-        out: b"valid 45516 of 49152\nsum 11360085\n",
-        err: b"",
-        outputs: [None; 3],
-    };
-    for line in ["demo 0", "demo 0 workers=3 strips=5"] {
-        assert!(rt; ends(&rt, alloc, files_with(alloc, &[])?, line, end)?);
-    }
-    Ok(())
-}
 
 /// The image as a PGM text of one byte a sample, with a comment after the magic.
 fn pgm_text(alloc: Global, image: &Image) -> Result<Vec<u8>, AllocError> {
@@ -78,73 +63,84 @@ fn pair_shelf(alloc: Global) -> Result<MemoryShelf, Fail> {
     Ok(shelf)
 }
 
-/// Whether the run of a line over the generated pair is done.
+/// Whether the run of a line over the generated pair is done, with this summary.
 fn is_done<R: Threads + Sync>(
     rt: &R,
     alloc: Global,
     line: &str,
     shelf: &mut MemoryShelf,
+    summary: &str,
 ) -> Result<bool, AllocError> {
     let mut out = MemorySink::make(alloc, 4096, None)?;
     let mut err = MemorySink::make(alloc, 4096, None)?;
     let status = run_line(rt, alloc, line, shelf, &mut out, &mut err, &OpenGate)?;
-    Ok(status == 0 && err.taken().is_empty() && out.taken().ends_with(b" of 307200\n"))
+    Ok(status == 0 && err.taken().is_empty() && out.taken() == summary.as_bytes())
 }
 
-/// Adds what a run of this line over the generated pair, which is done, writes: one file after the other.
-fn add_written<R: Threads + Sync>(
+/// FNV-1a over 64 bits, from the sum of what stands before.
+fn sum_on(before: u64, bytes: &[u8]) -> u64 {
+    let mut sum = before;
+    for byte in bytes {
+        sum = (sum ^ u64::from(*byte)).wrapping_mul(0x100_0000_01b3);
+    }
+    sum
+}
+
+/// The sum of the three files, one after the other.
+fn sum_of_files(alloc: Global, shelf: &mut MemoryShelf) -> Result<u64, Fail> {
+    let mut sum = 0xcbf2_9ce4_8422_2325;
+    for name in ["o.pgm", "o.asc", "o.csv"] {
+        let file = held(alloc, shelf, name)?.ok_or("a file is absent")?;
+        sum = sum_on(sum, &file);
+    }
+    Ok(sum)
+}
+
+/// Whether the run of a line over the generated pair is done, with this summary, and writes files of this sum.
+fn writes<R: Threads + Sync>(
     rt: &R,
     alloc: Global,
     line: &str,
-    into: &mut Vec<u8>,
-) -> Result<(), Fail> {
+    summary: &str,
+    sum: u64,
+) -> Result<bool, Fail> {
     let mut shelf = pair_shelf(alloc)?;
-    if !is_done(rt, alloc, line, &mut shelf)? {
-        return Err(Fail::new("the run isn't done"));
-    }
-    for name in ["o.pgm", "o.asc", "o.csv"] {
-        let file = held(alloc, &mut shelf, name)?.ok_or("a file is absent")?;
-        into.extend_from_slice(&file)?;
-    }
+    Ok(is_done(rt, alloc, line, &mut shelf, summary)? && sum_of_files(alloc, &mut shelf)? == sum)
+}
+
+// `tests/large_pair.py` works out both summaries and both sums, apart from the program. Each run is a test of its own,
+// since it takes its time.
+
+/// What a plain match prints, and the sum of what it writes.
+const PLAIN: (&str, u64) = ("valid 299947 of 307200\n", 0xba9e_fc21_dc40_7359);
+
+/// The same of a match whose peaks are removed and whose gaps are filled.
+const REFINED: (&str, u64) = ("valid 307200 of 307200\n", 0xbc32_14d8_60ea_4a54);
+
+#[test]
+fn one_strip_and_one_worker(rt: HostRuntime) -> Result<(), Fail> {
+    let line = "match left.pgm right.pgm c.json o strips=1 workers=1";
+    assert!(rt; writes(&rt, rt.alloc(), line, PLAIN.0, PLAIN.1)?);
     Ok(())
 }
 
-/// The sample of a pixel in a text of 640 columns.
-fn sample_of(text: &[u8], x: u16, y: u16) -> Option<u16> {
-    let at = "P5\n640 480\n65535\n".len() + 2 * (640 * y as usize + x as usize);
-    let high = text.get(at)?;
-    let low = text.get(at + 1)?;
-    Some(256 * *high as u16 + *low as u16)
-}
-
-// A pixel of the square, and one in each of the first four bands of the ground and in the band after
-// them, has the shift that its place is generated with, in sixteenths and 16 more, to within the half
-// pixel that an offset can be.
-fn are_shifted(disparities: &[u8]) -> bool {
-    for (x, y, shift) in &[
-        (128, 96, 28),
-        (300, 24, 8),
-        (300, 72, 12),
-        (300, 120, 16),
-        (300, 168, 20),
-        (300, 216, 8),
-    ] {
-        match sample_of(disparities, *x, *y) {
-            Some(sample) if sample.abs_diff(16 * *shift + 16) <= 8 => {}
-            _ => return false,
-        }
-    }
-    true
+#[test]
+fn eight_strips_and_four_workers(rt: HostRuntime) -> Result<(), Fail> {
+    let line = "match left.pgm right.pgm c.json o strips=8 workers=4";
+    assert!(rt; writes(&rt, rt.alloc(), line, PLAIN.0, PLAIN.1)?);
+    Ok(())
 }
 
 #[test]
-fn strips_and_workers_change_no_byte(rt: HostRuntime) -> Result<(), Fail> {
-    let alloc = rt.alloc();
-    let (mut some, mut one) = (Vec::new(alloc), Vec::new(alloc));
-    let line = "match left.pgm right.pgm c.json o strips=8 workers=4";
-    add_written(&rt, alloc, line, &mut some)?;
-    let line = "match left.pgm right.pgm c.json o strips=1 workers=1";
-    add_written(&rt, alloc, line, &mut one)?;
-    assert!(rt; are_shifted(&some) && some.as_slice() == one.as_slice());
+fn one_strip_and_one_worker_refined(rt: HostRuntime) -> Result<(), Fail> {
+    let line = "match left.pgm right.pgm c.json o strips=1 workers=1 peak=20 fill=1";
+    assert!(rt; writes(&rt, rt.alloc(), line, REFINED.0, REFINED.1)?);
+    Ok(())
+}
+
+#[test]
+fn eight_strips_and_four_workers_refined(rt: HostRuntime) -> Result<(), Fail> {
+    let line = "match left.pgm right.pgm c.json o strips=8 workers=4 peak=20 fill=1";
+    assert!(rt; writes(&rt, rt.alloc(), line, REFINED.0, REFINED.1)?);
     Ok(())
 }

@@ -64,12 +64,17 @@ fn even_file(
 }
 
 #[test]
-fn what_is_too_large_is_refused(rt: HostRuntime) -> Result<(), Fail> {
+fn a_volume_that_is_too_large_is_refused(rt: HostRuntime) -> Result<(), Fail> {
     let alloc = rt.alloc();
     let files = even_file(alloc, "P5 4096 4096 255\n", 17 + 16_777_216)?;
     let end = refused(3, "sgm: volume of 1073741824 cells is above 268435456\n");
     assert!(rt; ends(&rt, alloc, files, "match big.pgm big.pgm - o", end)?);
+    Ok(())
+}
 
+#[test]
+fn an_input_that_is_too_long_is_refused(rt: HostRuntime) -> Result<(), Fail> {
+    let alloc = rt.alloc();
     let files = even_file(alloc, "", 67_108_865)?;
     let end = refused(3, "sgm: left is too long\n");
     assert!(rt; ends(&rt, alloc, files, "match big.pgm r.pgm - o", end)?);

@@ -13,14 +13,19 @@ ghost use Rattle.sgm_board.specs.Boards.{parts_of, scene_of, passes_of, IsPassOf
 
 use sgm_base::{MAX_STRIPS, MAX_WORKERS, Plane, Size, Span};
 use sgm_board::{Board, Pass};
-use sgm_census::{CodePlane, Window, codes};
+use sgm_census::{CodePlane, CostRule, Window, codes};
 use sgm_energy::{Dir, Pen};
 use sgm_strip::{Cut, Front, Guide, Parcel, Row, Scene};
 use std::alloc::Global;
 use std::test::Fail;
 
+/// A row of its left image, and one of its right image.
+pub(super) const LEFT: [u16; 5] = [90, 10, 50, 20, 40];
+
+pub(super) const RIGHT: [u16; 5] = [10, 50, 20, 40, 30];
+
 /// The plane of three rows, each of these values.
-fn plane_of(alloc: Global, row: &[u16; 5]) -> Result<Plane, Fail> {
+pub(super) fn plane_of(alloc: Global, row: &[u16; 5]) -> Result<Plane, Fail> {
     let size = Size::make(5, 3).ok_or("size")?;
     let mut entries = Vec::new(alloc);
     for at in 0..15 {
@@ -32,7 +37,7 @@ fn plane_of(alloc: Global, row: &[u16; 5]) -> Result<Plane, Fail> {
 /// Its codes, with a window of 3 x 3.
 fn codes_of(alloc: Global, row: &[u16; 5]) -> Result<CodePlane, Fail> {
     let window = Window::make(3, 3).ok_or("window")?;
-    Ok(codes(alloc, &plane_of(alloc, row)?, window)?)
+    Ok(codes(alloc, &plane_of(alloc, row)?, window, CostRule::Plain)?)
 }
 
 /// A guide of that size, which no pen here follows.
@@ -49,16 +54,17 @@ fn are_alike(left: &CodePlane, right: &CodePlane) -> bool
     ensures width { IsTrue result → left.now.width ≡ right.now.width }
     ensures height { IsTrue result → left.now.height ≡ right.now.height }
     ensures window { IsTrue result → left.now.window ≡ right.now.window }
+    ensures rule { IsTrue result → left.now.rule ≡ right.now.rule }
 {
-    left.size() == right.size() && left.window() == right.window()
+    left.size() == right.size() && left.window() == right.window() && left.rule() == right.rule()
 }
 
 /// The scene of the worked example.
 pub(super) fn scene_of(alloc: Global) -> Result<Scene, Fail> {
     let span = Span::make(0, 2).ok_or("span")?;
     let pen = Pen::make(1, 3).ok_or("pen")?;
-    let left = codes_of(alloc, &[90, 10, 50, 20, 40])?;
-    let right = codes_of(alloc, &[10, 50, 20, 40, 30])?;
+    let left = codes_of(alloc, &LEFT)?;
+    let right = codes_of(alloc, &RIGHT)?;
     if !are_alike(&left, &right) {
         return Err("sides")?;
     }

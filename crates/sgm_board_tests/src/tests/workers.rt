@@ -1,13 +1,14 @@
 //! When the gate is called, that workers are at work at once, and what the caller finishes.
-ghost use Rattle.std.specs.Prelude.{◌≡◌, ◌≤◌};
+ghost use Rattle.std.specs.Prelude.{◌≡◌, ◌≤◌, IfOk};
 ghost use Rattle.sgm_base.specs.declared.limits.TheConstants.{MAX_STRIPS, MAX_WORKERS};
 ghost use Rattle.sgm_strip.specs.Cuts.{CutParts};
 ghost use Rattle.sgm_strip.specs.Scenes.{SceneParts, row_length};
+ghost use Rattle.sgm_strip.specs.Strips.{AreComplete};
 ghost use Rattle.sgm_board.specs.Settled.{AreSettled};
 
-use super::gates::{Meeting, Recorder};
 use super::making::{board_of, fronts_of, only_of, parcels_of, row_of, scene_of};
 use super::sums::are_whole;
+use sgm_recorders::{Meeting, ONE_AT_THREE, Recorder};
 use sgm_strip::{Cut, Front, Parcel, Row, Scene, Visit};
 use sgm_work::{CALLER, Gate, Matched, OpenGate, finish, match_all, scan};
 use std::alloc::Global;
@@ -15,7 +16,7 @@ use std::test::Fail;
 use std::thread::Threads;
 
 /// A scene by so many strips and workers.
-fn matched_of<R: Threads + Sync, G: Gate + Sync>(
+pub(super) fn matched_of<R: Threads + Sync, G: Gate + Sync>(
     rt: &R,
     alloc: Global,
     scene: &Scene,
@@ -25,6 +26,7 @@ fn matched_of<R: Threads + Sync, G: Gate + Sync>(
 ) -> Result<Matched, Fail>
     requires strips { (1 ≤ strips) × (strips ≤ MAX_STRIPS) }
     requires workers { (1 ≤ workers) × (workers ≤ MAX_WORKERS) }
+    ensures { IfOk result (λ found. AreComplete scene.now found.parcels.items) }
 {
     let cut = Cut::even(scene.size().height, strips);
     let parcels = parcels_of(alloc, scene, cut)?;
@@ -88,34 +90,49 @@ fn sums_are_the_same_whatever_the_strips_and_the_workers(rt: HostRuntime) -> Res
 fn one_worker_by_board(rt: HostRuntime) -> Result<(), Fail> {
     let recorder = Recorder::new();
     let found = matched(&rt, rt.alloc(), 3, 1, &recorder)?;
-    assert!(rt; recorder.count() == 9);
-    for call in 0..9 {
-        assert!(rt; recorder.call(call) == (0, call % 3));
-    }
+    assert!(rt; recorder.has(&ONE_AT_THREE));
     for front in &found.fronts {
         assert!(rt; front.visits().iter().all(|visit| visit.worker == 0));
     }
     Ok(())
 }
 
+/// Whether a front was passed on by this worker.
+fn is_by(front: &Front, worker: u32) -> bool {
+    front.visits().iter().any(|visit| visit.worker == worker)
+}
+
+/// Whether each visit by one of so many workers is of a strip with which that worker came.
+fn are_of_comers(front: &Front, meeting: &Meeting, workers: u32) -> bool {
+    front.visits().iter().all(|visit| visit.worker >= workers
+        || meeting.has_come(visit.worker, visit.strip))
+}
+
+// Each worker holds one of the two strips while the other claims, and so gets the three fronts that begin there.
 #[test]
 fn two_workers_overlap(rt: HostRuntime) -> Result<(), Fail> {
-    let meeting = Meeting::new();
+    let meeting = Meeting::of(2);
     let found = matched(&rt, rt.alloc(), 2, 2, &meeting)?;
-    assert!(rt; meeting.has_called(0) && meeting.has_called(1));
-    assert!(rt; !meeting.has_ended());
-    // Each worker is the first at its strip, where three fronts begin.
-    let mut signed = [false; 2];
-    for front in &found.fronts {
-        for visit in front.visits() {
-            if visit.worker < 2 {
-                assert!(rt; meeting.has_come(visit.worker, visit.strip));
-                signed[visit.worker as usize] = true;
-            }
-        }
+    assert!(rt; meeting.has_met());
+    for worker in 0..2 {
+        assert!(rt; found.fronts.iter().any(|front| is_by(front, worker)));
     }
-    assert!(rt; signed[0] && signed[1]);
+    assert!(rt;
+        found
+            .fronts
+            .iter()
+            .all(|front| are_of_comers(front, &meeting, 2))
+    );
     assert!(rt; are_whole(&found.parcels, 2));
+    Ok(())
+}
+
+#[test]
+fn three_workers_overlap(rt: HostRuntime) -> Result<(), Fail> {
+    let meeting = Meeting::of(3);
+    let found = matched(&rt, rt.alloc(), 3, 3, &meeting)?;
+    assert!(rt; meeting.has_met());
+    assert!(rt; are_whole(&found.parcels, 3));
     Ok(())
 }
 

@@ -4,13 +4,12 @@ ghost use Rattle.sgm_energy.specs.Dirs.{is_level};
 ghost use Rattle.sgm_strip.specs.Parcels.{ParcelParts};
 ghost use Rattle.sgm_strip.specs.Scenes.{row_length};
 ghost use Rattle.sgm_board.specs.Settled.{AreSettled};
-ghost use Rattle.sgm_board.specs.Boards.{parts_of, scene_of, cut_of, passes_of, IsPassOf, IsIdle, IsHeld};
+ghost use Rattle.sgm_board.specs.Boards.{parts_of, scene_of, cut_of, passes_of, strips_of, IsPassOf, IsIdle, IsHeld};
 
 use super::making::dir_of;
 use sgm_board::{Board, Pass};
 use sgm_energy::Dir;
 use sgm_strip::{Front, Parcel, Row, pass as pass_on};
-use sgm_work::{OpenGate, scan};
 use std::thread::{Threads, join, yield_now};
 
 /// Tries a front once, and passes it on if it comes.
@@ -71,7 +70,76 @@ fn is_over(board: &Board, pass: &mut Pass) -> bool
     true
 }
 
-/// Scans until all fronts have passed all strips; of three strips it tries to claim one at most a million times.
+/// Tries the front of this number once, and passes it on if it comes.
+fn try_front(board: &Board, pass: &mut Pass, parcel: &mut Parcel, spare: &mut Row, number: usize)
+    requires own { IsPassOf board.now pass.old }
+    requires bare { (parts_of pass.old).front ≡ None }
+    requires held { IsHeld board.now (parts_of pass.old) parcel.old }
+    requires spare { spare.old ≡ row_length (scene_of board.now) }
+    ensures own { IsPassOf board.now pass.new }
+    ensures bare { (parts_of pass.new).front ≡ None }
+    ensures held { IsHeld board.now (parts_of pass.new) parcel.new }
+    ensures spare { spare.new ≡ spare.old }
+    ensures gathered { (parts_of pass.new).gathered ≡ (parts_of pass.old).gathered }
+{
+    match dir_of(number) {
+        Some(dir) => {
+            hand_on(board, pass, parcel, spare, dir);
+        }
+        None => {}
+    }
+}
+
+/// Tries each front once at the strip held, and gives the strip back.
+fn serve(board: &Board, pass: &mut Pass, mut parcel: Parcel, spare: &mut Row)
+    requires own { IsPassOf board.now pass.old }
+    requires bare { (parts_of pass.old).front ≡ None }
+    requires held { IsHeld board.now (parts_of pass.old) parcel }
+    requires spare { spare.old ≡ row_length (scene_of board.now) }
+    ensures own { IsPassOf board.now pass.new }
+    ensures idle { IsIdle (parts_of pass.new) }
+    ensures spare { spare.new ≡ spare.old }
+    ensures gathered { (parts_of pass.new).gathered ≡ (parts_of pass.old).gathered }
+{
+    for number in 0..6 {
+        try_front(board, pass, &mut parcel, spare, number);
+    }
+    board.give_back(pass, parcel);
+}
+
+/// Tries to claim a strip, and each front at it if it is claimed.
+fn visit(board: &Board, pass: &mut Pass, spare: &mut Row, strip: u32)
+    requires own { IsPassOf board.now pass.old }
+    requires idle { IsIdle (parts_of pass.old) }
+    requires spare { spare.old ≡ row_length (scene_of board.now) }
+    requires strip { strip < strips_of board.now }
+    ensures own { IsPassOf board.now pass.new }
+    ensures idle { IsIdle (parts_of pass.new) }
+    ensures spare { spare.new ≡ spare.old }
+    ensures gathered { (parts_of pass.new).gathered ≡ (parts_of pass.old).gathered }
+{
+    match board.try_claim(pass, strip) {
+        Some(parcel) => serve(board, pass, parcel, spare),
+        None => {}
+    }
+}
+
+/// Tries to claim each strip once.
+fn go_round(board: &Board, pass: &mut Pass, spare: &mut Row)
+    requires own { IsPassOf board.now pass.old }
+    requires idle { IsIdle (parts_of pass.old) }
+    requires spare { spare.old ≡ row_length (scene_of board.now) }
+    ensures own { IsPassOf board.now pass.new }
+    ensures idle { IsIdle (parts_of pass.new) }
+    ensures spare { spare.new ≡ spare.old }
+    ensures gathered { (parts_of pass.new).gathered ≡ (parts_of pass.old).gathered }
+{
+    for strip in 0..board.strips() {
+        visit(board, pass, spare, strip);
+    }
+}
+
+/// Goes round until all fronts have passed all strips; of three strips it tries to claim one at most a million times.
 fn work(board: &Board, mut pass: Pass, mut spare: Row) -> Pass
     requires own { IsPassOf board.now pass }
     requires idle { IsIdle (parts_of pass) }
@@ -81,7 +149,7 @@ fn work(board: &Board, mut pass: Pass, mut spare: Row) -> Pass
     ensures gathered { (parts_of result).gathered ≡ (parts_of pass).gathered }
 {
     for _ in 0..333_333 {
-        scan(board, &mut pass, &mut spare, &OpenGate);
+        go_round(board, &mut pass, &mut spare);
         if is_over(board, &mut pass) {
             return pass;
         }

@@ -27,8 +27,19 @@ pub fn end_of<R: Threads + Wait + Sync, G: Gate + Sync>(
     list: &[u8],
     gate: &G,
 ) -> Result<Ended, AllocError> {
+    end_over(rt, alloc, line, files_with(alloc, list)?, gate)
+}
+
+/// How the series of these words ends over these files.
+pub fn end_over<R: Threads + Wait + Sync, G: Gate + Sync>(
+    rt: &R,
+    alloc: Global,
+    line: &str,
+    files: Vec<(String, Vec<u8>)>,
+    gate: &G,
+) -> Result<Ended, AllocError> {
     let trips: Vec<Trip> = Vec::new(alloc);
-    let mut shelf = MemoryShelf::make(alloc, files_with(alloc, list)?, trips)?;
+    let mut shelf = MemoryShelf::make(alloc, files, trips)?;
     let mut out = MemorySink::make(alloc, 4096, None)?;
     let mut err = MemorySink::make(alloc, 4096, None)?;
     let words = words_of(alloc, line)?;

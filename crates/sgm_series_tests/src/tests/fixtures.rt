@@ -6,6 +6,9 @@ use std::alloc::{AllocError, Global};
 /// The worked example, and its pair under the plain calibration.
 pub const LIST: &[u8] = b"l.pgm r.pgm c.json o\nl.pgm r.pgm - p\n";
 
+/// Three entries, the last of them as the first.
+pub const THREE: &[u8] = b"l.pgm r.pgm c.json o\nl.pgm r.pgm - p\nl.pgm r.pgm c.json q\n";
+
 /// The disparity image of the example: three times the samples 16 16 32 32 32.
 pub const DISPARITIES: &[u8] =
     b"P5\n5 3\n65535\n\x00\x10\x00\x10\x00\x20\x00\x20\x00\x20\x00\x10\x00\x10\x00\x20\x00\x20\x00\x20\x00\x10\x00\x10\x00\x20\x00\x20\x00\x20";
@@ -24,10 +27,13 @@ pub const SUMMARY: &[u8] = b"valid 15 of 15\n";
 
 pub const BOTH_SUMMARIES: &[u8] = b"valid 15 of 15\nvalid 15 of 15\n";
 
+pub const SUMMARIES_OF_THREE: &[u8] = b"valid 15 of 15\nvalid 15 of 15\nvalid 15 of 15\n";
+
 /// An image of 4 x 3 pixels.
 const NARROW: &[u8] = b"P5\n4 3\n255\n\x0a\x32\x14\x28\x0a\x32\x14\x28\x0a\x32\x14\x28";
 
-fn file(alloc: Global, name: &str, bytes: &[u8]) -> Result<(String, Vec<u8>), AllocError> {
+/// A file of this name and these bytes.
+pub fn file(alloc: Global, name: &str, bytes: &[u8]) -> Result<(String, Vec<u8>), AllocError> {
     Ok((String::from_str(alloc, name)?, bytes.to_vec(alloc)?))
 }
 

@@ -1,11 +1,10 @@
-use Rattle.std.proofs.Common.{◌≡◌, Option, Some, None, IfErr, OnOk, subst, sym}
+use Rattle.std.proofs.Common.{◌≡◌, Option, Some, None, IfErr, OnOk, ap, subst, sym}
 use Rattle.std.proofs.lemmas.Result.{err_from_is_err_and}
 use Rattle.serde_json.specs.View.{view}
 use Rattle.sgm_calib.specs.declared.keys.CalibFault.{CalibFault}
 use Rattle.sgm_calib.specs.Table as table
-use Rattle.sgm_calib.specs.Judge.{sort_of}
+use Rattle.sgm_calib.specs.Table.{rows_in}
 use Rattle.sgm_calib.proofs.KeyLemmas.{section_fault-held, section_fault-itself}
-use Rattle.sgm_calib.proofs.Objects.{rows_in-disparities}
 use Rattle.sgm_calib.proofs.sections.disparities.Goals as goal
 
 pub returns-in_err-found-clause-fault : goal.returns-in_err-found-clause-fault
@@ -15,8 +14,8 @@ returns-in_err-found-clause-fault c =
 
 pub returns-clause-ok : goal.returns-clause-ok
 returns-clause-ok c =
-    subst (λ (fault : Option CalibFault). OnOk c.span_of.result (fault ≡ None)) (sym (section_fault-held (view c.args.top.now) table.disparities table.disparities_keys c.in_ok-found.found c.in-Some.object c.in_ok-found.ensures.ok c.in_ok-found.ensures.there c.in-Some.is (rows_in-disparities (sort_of (view c.args.top.now))))) c.span_of.ensures.ok
+    subst (λ (fault : Option CalibFault). OnOk c.span_of.result (fault ≡ None)) (sym (section_fault-held (view c.args.top.now) table.disparities (rows_in table.disparities c.sort_of.result) c.in_ok-found.found c.in-Some.object c.in_ok-found.ensures.ok c.in_ok-found.ensures.there c.in-Some.is (ap (rows_in table.disparities) (sym c.sort_of.ensures)))) c.span_of.ensures.ok
 
 pub returns-clause-fault : goal.returns-clause-fault
 returns-clause-fault c =
-    subst (λ (fault : Option CalibFault). IfErr c.span_of.result (λ f. fault ≡ Some f)) (sym (section_fault-held (view c.args.top.now) table.disparities table.disparities_keys c.in_ok-found.found c.in-Some.object c.in_ok-found.ensures.ok c.in_ok-found.ensures.there c.in-Some.is (rows_in-disparities (sort_of (view c.args.top.now))))) c.span_of.ensures.fault
+    subst (λ (fault : Option CalibFault). IfErr c.span_of.result (λ f. fault ≡ Some f)) (sym (section_fault-held (view c.args.top.now) table.disparities (rows_in table.disparities c.sort_of.result) c.in_ok-found.found c.in-Some.object c.in_ok-found.ensures.ok c.in_ok-found.ensures.there c.in-Some.is (ap (rows_in table.disparities) (sym c.sort_of.ensures)))) c.span_of.ensures.fault

@@ -6,8 +6,8 @@ use Rattle.sgm_census.proofs.pack.window_marks.Goals as goal
 
 pub loop-j-preserved : goal.loop-j-preserved
 loop-j-preserved c = λ k h.
-    let there = c.args.there.now in
-    let width = c.args.width in
+    let there = c.args.plain.there.now in
+    let width = c.args.plain.width in
     let j = c.loop-j.j in
     let from = (c.args.top + j) * width in
     let inside = c.window.inside.width in
@@ -23,14 +23,14 @@ loop-j-preserved c = λ k h.
 pub overflow_mul-from : goal.overflow_mul-from
 overflow_mul-from c =
     let high : c.window.inside.height ≡ c.args.window.height = ap (λ (s : WindowSides). s.height) c.window.view_is in
-    omega (arith, ends_in c.args.top c.loop-j.j c.args.window.height c.args.width (length c.args.there.now) (omega (arith, high, c.loop-j-test.true)) c.requires.rows)
+    omega (arith, ends_in c.args.top c.loop-j.j c.args.window.height c.args.plain.width (length c.args.plain.there.now) (omega (arith, high, c.loop-j-test.true)) c.requires.rows)
 
 pub overflow_add-from-in-loop-j : goal.overflow_add-from-in-loop-j
 overflow_add-from-in-loop-j c =
     let high : c.window.inside.height ≡ c.args.window.height = ap (λ (s : WindowSides). s.height) c.window.view_is in
-    omega (arith, ends_in c.args.top c.loop-j.j c.args.window.height c.args.width (length c.args.there.now) (omega (arith, high, c.loop-j-test.true)) c.requires.rows)
+    omega (arith, ends_in c.args.top c.loop-j.j c.args.window.height c.args.plain.width (length c.args.plain.there.now) (omega (arith, high, c.loop-j-test.true)) c.requires.rows)
 
 pub slice_bounds-keep_row-end : goal.slice_bounds-keep_row-end
 slice_bounds-keep_row-end c =
     let high : c.window.inside.height ≡ c.args.window.height = ap (λ (s : WindowSides). s.height) c.window.view_is in
-    omega (arith, ends_in c.args.top c.loop-j.j c.args.window.height c.args.width (length c.args.there.now) (omega (arith, high, c.loop-j-test.true)) c.requires.rows)
+    omega (arith, ends_in c.args.top c.loop-j.j c.args.window.height c.args.plain.width (length c.args.plain.there.now) (omega (arith, high, c.loop-j-test.true)) c.requires.rows)

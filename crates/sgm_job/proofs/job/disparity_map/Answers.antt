@@ -1,4 +1,4 @@
-use Rattle.std.proofs.Common.{◌≡◌, ◌∙◌, ap, sym, subst}
+use Rattle.std.proofs.Common.{◌≡◌, ◌∙◌, ap, subst}
 use Rattle.sgm_base.specs.Disparities.{Disparities, IsCount}
 use Rattle.sgm_base.specs.declared.limits.TheConstants.{MAX_DISPARITY}
 use Rattle.sgm_census.specs.Matching.{matching_problem}

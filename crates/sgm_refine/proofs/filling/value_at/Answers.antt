@@ -1,13 +1,16 @@
-use Rattle.std.proofs.Common.{◌≡◌, ◌∙◌, ap, sym, arith, length, get_or, None, true, false}
+use Rattle.std.proofs.Common.{◌≡◌, ◌∙◌, ap, subst, sym, arith, length, get_or, None, true, false}
 use Rattle.std.specs.Prelude.{is_some, slice_get}
 use Rattle.std.specs.List.{flat_map}
+use Rattle.std.specs.List.Sorted.{IsPermutation}
+use Rattle.std.proofs.lemmas.List.Sorted.{length_permutation}
 use Rattle.std.specs.Option.{option_to_list}
 use Rattle.sgm_base.specs.Sides.{Sides}
 use Rattle.sgm_base.specs.Values.{value_at}
 use Rattle.sgm_energy.specs.Rays.{pixel_at}
-use Rattle.sgm_refine.specs.Filling.{ascending, entry_taken, met}
+use Rattle.sgm_refine.specs.Filling.{entry_taken, met}
 use Rattle.sgm_refine.proofs.Filled.{filled_own, filled_void, filled_met}
 use Rattle.sgm_refine.proofs.MetLemmas.{row_value}
+use Rattle.sgm_refine.proofs.Ranks.{in_order}
 use Rattle.sgm_refine.proofs.filling.value_at.Goals as goal
 
 pub returns-then-is_some : goal.returns-then-is_some
@@ -40,8 +43,11 @@ returns-in-Some c =
     let some : is_some own ≡ false = (cc) in
     let there = sym (ap (λ vs. get_or vs c.args.x None) c.row-2.ensures.value ∙ row_value left c.args.x c.args.y (omega (arith, c.requires.left_width)) (omega (arith, c.requires.left_height))) ∙ c.in-Some.is in
     let wide : m.width ≡ c.met_at.inside.width = sym (ap (λ (s : Sides). s.width) c.met_at.view_is ∙ c.size.ensures.width) in
-    let list : c.as_slice.result.now ≡ met m p =
-    c.as_slice.ensures.value ∙ c.sorted.ensures
-    ∙ ap (λ zs. ascending (flat_map option_to_list zs)) (c.met_at-met.ensures m c.args.y wide c.requires.level c.requires.down c.requires.up) in
-    c.taken.ensures ∙ ap (λ zs. slice_get zs (entry_taken c.args.mismatched (length zs))) list
+    let list = c.sorted.result.items in
+    let found : flat_map option_to_list c.met_at-met.result ≡ met m p =
+    ap (flat_map option_to_list) (c.met_at-met.ensures m c.args.y wide c.requires.level c.requires.down c.requires.up) in
+    let moved : IsPermutation (met m p) list = subst (λ zs. IsPermutation zs list) found c.sorted.ensures.permutation in
+    c.taken.ensures ∙ ap (λ zs. slice_get zs (entry_taken c.args.mismatched (length zs))) c.as_slice.ensures.value
+    ∙ ap (λ n. slice_get list (entry_taken c.args.mismatched n)) (length_permutation (met m p) list moved)
+    ∙ sym (in_order (met m p) list (entry_taken c.args.mismatched (length (met m p))) moved c.sorted.ensures.ascending)
     ∙ filled_met m left c.args.mismatched p own _ is some there

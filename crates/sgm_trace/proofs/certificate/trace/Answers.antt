@@ -1,6 +1,7 @@
-use Rattle.std.proofs.Common.{◌≡◌, ℕ, ◌+◌, ◌-◌, List, take, get_or, length, map, sum_by, ap, ◌∙◌, subst, arith}
+use Rattle.std.proofs.Common.{◌≡◌, ℕ, ◌+◌, ◌-◌, ◌*◌, ◌≤◌, List, take, get_or, length, map, sum_by, ap, ◌∙◌, subst, arith}
 use Rattle.std.proofs.lemmas.List.{length-map, take_all}
 use Rattle.std.proofs.lemmas.List.FromFn.{get_or-map-range_with_len}
+use Rattle.sgm_base.specs.declared.limits.TheConstants.{MAX_COST}
 use Rattle.sgm_census.proofs.Limits.{matching-within}
 use Rattle.sgm_energy.specs.Energies.{energy, least_ending}
 use Rattle.sgm_energy.specs.Rays.{Pixel, pixel_at, ray}
@@ -9,7 +10,7 @@ use Rattle.sgm_trace.specs.declared.place.Place.{Place}
 use Rattle.sgm_trace.specs.Best.{best}
 use Rattle.sgm_trace.specs.Rows.{energies_of, first_energies, pixel_of}
 use Rattle.sgm_trace.proofs.Existing.{part, best_least, steps_sum}
-use Rattle.sgm_trace.proofs.Growing.{rows_length, row_at, energies_length}
+use Rattle.sgm_trace.proofs.Growing.{energies_length, energy_small, inside_map, row_at, rows_length}
 use Rattle.sgm_trace.proofs.certificate.trace.Goals as goal
 
 pub energies-requires-clause-within : goal.energies-requires-clause-within
@@ -60,6 +61,25 @@ returns-clause-energy c =
     ∙ get_or-map-range_with_len (least_ending g ps) 0 g.count c.args.d c.args.d r c.requires.index (omega arith) in
     let ray : least_ending g ps c.args.d ≡ least_ending g (ray g c.args.dir (pixel_at c.args.x c.args.y)) c.args.d = ap (λ (qs : List Pixel). least_ending g qs c.args.d) c.in_ok-places.ensures.ray in
     omega (arith, c.index-energy.ensures, is, ray)
+
+-- the same index everywhere costs no more than the greatest cost at each pixel of the ray
+pub returns-clause-bound : goal.returns-clause-bound
+returns-clause-bound c =
+    let scene = c.args.scene.now in
+    let g = problem_of scene in
+    let places = c.in_ok-places.places.items in
+    let ps = map pixel_of places in
+    let kept = c.size-size.ensures.kept in
+    let within = matching-within scene.left scene.right scene.span scene.penalties scene.guide kept.left_kept kept.ordered kept.limited in
+    let j : ℕ = length places - 1 in
+    let long = length-map places pixel_of in
+    let some = c.in_ok-places.ensures.short.0 in
+    let whole : take (j + 1) ps ≡ ps = take_all (j + 1) ps (omega (arith, long, some)) in
+    let small : least_ending g (take (j + 1) ps) c.args.d ≤ MAX_COST * (j + 1) =
+    energy_small g MAX_COST within.costs ps (inside_map g places c.in_ok-places.ensures.inside) j c.args.d (omega (arith, long, some)) c.requires.index in
+    let along : least_ending g (take (j + 1) ps) c.args.d ≡ least_ending g (ray g c.args.dir (pixel_at c.args.x c.args.y)) c.args.d =
+    ap (λ (qs : List Pixel). least_ending g qs c.args.d) (whole ∙ c.in_ok-places.ensures.ray) in
+    omega (arith, small, along, returns-clause-energy c, c.in_ok-places.ensures.short.1)
 
 pub returns-clause-adds : goal.returns-clause-adds
 returns-clause-adds c =

@@ -6,4 +6,4 @@ use Rattle.sgm_census.proofs.code_plane.CodePlane.size.Goals as goal
 pub returns-clause-kept : goal.returns-clause-kept
 returns-clause-kept c =
     let p = c.self.inside in
-    subst IsCodes c.self.view_is (codes_in-kept p.size.width p.size.height p.window p.words.items p.present.items c.self.invariant)
+    subst IsCodes c.self.view_is (codes_in-kept p.size.width p.size.height p.window p.rule p.words.items p.present.items c.self.invariant)
