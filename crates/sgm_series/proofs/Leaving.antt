@@ -76,7 +76,7 @@ stop_unfinished n m entries at old mid new none turned = by_stop at.stop turned
     by_stop stop.NoMemory left =
         left_since (λ name. (entry : ℕ) × (output : Output) × IsOutputAt entries entry output name) old mid new none (λ name on. elim (left name on) [
           | inl was ↦ inl was
-          | inr is ↦ inr (n + at.place, is.0, is.1.0, cut_get n m entries at.place is.1.0 is.1.1, is.1.2)
+          | inr is ↦ inr (n + at.place, is.0, (is.1.0, cut_get n m entries at.place is.1.0 is.1.1, is.1.2))
         ])
 
 pub stop_finished : (entry : ℕ) (at : WriteStop) (vs : List Verdict) (names : NameSet) → SeriesFinished (stop_outcome entry at) vs names

@@ -179,7 +179,7 @@ unfinished_stop entries place entry (stop.Unwritten output) old mid new at none 
 unfinished_stop entries place entry stop.NoMemory old mid new at none leaves =
     left_since (IsLeftAt entries place stop.NoMemory) old mid new none (λ name on. elim (leaves.no_more name on) [
       | inl was ↦ inl was
-      | inr is ↦ inr (is.0, entry, at, is.1)
+      | inr is ↦ inr (is.0, (entry, at, is.1))
     ])
 
 -- ---- one entry's writing

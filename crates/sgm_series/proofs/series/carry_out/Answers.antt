@@ -12,7 +12,7 @@ use Rattle.sgm_series.specs.Received.{Received}
 use Rattle.sgm_series.specs.Stands.{SeriesPut, outcome_for}
 use Rattle.sgm_series.specs.Turns.{lines_for}
 use Rattle.sgm_series.specs.Unfinished.{SeriesFinished, SeriesUnfinished}
-use Rattle.sgm_series.proofs.Carrying.{list_calls, entries_call, all_counts, verdicts_along, put_along, counts_along, list_along}
+use Rattle.sgm_series.proofs.Carrying.{list_calls, list_stands, entries_call, all_counts, verdicts_along, put_along, counts_along, list_along}
 use Rattle.sgm_series.proofs.Leaving.{all_finished, all_unfinished, all_untouched, list_finished, list_unfinished, list_untouched, no_more_back, unfinished_along}
 use Rattle.sgm_series.proofs.WordLaws.{are_read}
 use Rattle.sgm_series.proofs.series.carry_out.Goals as goal
@@ -21,6 +21,12 @@ pub returns-in-Err-read_entries-clause-counts : goal.returns-in-Err-read_entries
 returns-in-Err-read_entries-clause-counts g c =
     let read = are_read (bytes_of c.args.words.now) c.in-Ok.words (sym c.read_series_words.ensures ∙ c.in-Ok.is) in
     list_along _ _ c.in-Err-read_entries.outcome _ _ (read.list ∙ sym c.list.ensures) (c.in-Err-read_entries.ensures.counts _)
+
+pub returns-in-Err-read_entries-clause-stands : goal.returns-in-Err-read_entries-clause-stands
+returns-in-Err-read_entries-clause-stands g c = λ told p calls.
+    let s = list_stands c.in-Err-read_entries.outcome (verdicts_of p) _ _ (g.O.Sink.written c.args.out.now) (g.E.Sink.written c.args.err.now) c.args.tally.now.whole
+    c.in-Err-read_entries.ensures.kind (c.in-Err-read_entries.ensures.held told) c.requires.start.1 in
+    (0, s.0, s.1, (λ _. s.2), (λ _. s.3))
 
 pub returns-in-Err-read_entries-clause-untouched : goal.returns-in-Err-read_entries-clause-untouched
 returns-in-Err-read_entries-clause-untouched g c = λ told. list_untouched c.in-Err-read_entries.outcome _ c.in-Err-read_entries.ensures.kind

@@ -1,5 +1,4 @@
-use Rattle.std.proofs.Common.{refl}
-use Rattle.sgm_series.proofs.ListEnds.{few, unfetched_counts, unfetched_end, unfetched_kind, unlisted_counts, unlisted_end, unlisted_kind}
+use Rattle.sgm_series.proofs.ListEnds.{few, unfetched_counts, unfetched_end, unfetched_kind}
 use Rattle.sgm_series.proofs.NoClash.{no_clash}
 use Rattle.sgm_series.proofs.series.read_entries.Goals as goal
 
