@@ -46,12 +46,7 @@ fn worker_of(
     ensures gathered { IfOk result (λ worker. (parts_of worker.ticket).gathered ≡ (parts_of ticket).gathered) }
 {
     let kept = places(alloc, job.inputs.len())?;
-    Ok(Worker {
-        number: ticket.number(),
-        ticket,
-        pass,
-        kept,
-    })
+    Ok(Worker { ticket, pass, kept })
 }
 
 /// The only worker.
@@ -170,12 +165,7 @@ fn join(job: &Job<'_>, whole: &mut Worker, other: Worker)
     ensures done { IsDone job.now whole.new }
     ensures joined { IsJoined whole.old other whole.new }
 {
-    let Worker {
-        number: _,
-        ticket,
-        pass,
-        kept,
-    } = other;
+    let Worker { ticket, pass, kept } = other;
     job.draws.join(&mut whole.ticket, ticket);
     job.line.join(&mut whole.pass, pass);
     take_over(whole.kept.as_mut_slice(), kept);
@@ -263,7 +253,6 @@ pub fn work_batch<R: Threads + Wait + Sync, G: Gate + Sync>(
     let mut whole = gather(&job, crew);
     pop_all(rt, &job, &mut whole);
     let Worker {
-        number: _,
         ticket: _,
         pass: _,
         kept,

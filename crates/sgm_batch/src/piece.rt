@@ -3,7 +3,7 @@ ghost use Rattle.std.specs.Prelude.{◌≡◌};
 ghost use Rattle.sgm_batch.specs.Pieces.{IsMadeOf};
 
 use sgm_app::{Inputs, MadeTexts, Refine, TextsError, texts};
-use sgm_work::OpenGate;
+use sgm_work::{Came, OpenGate};
 use std::alloc::Global;
 use std::marker::Model;
 use std::snapshot::Snapshot;
@@ -30,15 +30,15 @@ impl Model for Piece {
 }
 
 impl Piece {
-    /// The piece of an entry, made by one worker in one strip.
-    pub(crate) fn make<R: Threads + Sync>(
+    /// The piece of the entry with which a worker came to the gate, made by that worker in one strip.
+    pub(crate) fn make<R: Threads + Sync, G>(
         rt: &R,
         alloc: Global,
         inputs: &Inputs,
-        entry: u32,
-        worker: u32,
+        came: Came<G>,
     ) -> Piece
-        ensures entry { result.entry ≡ entry }
+        ensures entry { result.entry ≡ came.task }
+        ensures worker { result.worker ≡ came.worker }
         ensures inputs { result.inputs ≡ inputs.now }
     {
         let made = texts(
@@ -53,8 +53,8 @@ impl Piece {
             &OpenGate,
         );
         Piece {
-            entry,
-            worker,
+            entry: came.task(),
+            worker: came.worker(),
             made,
             inputs: Snapshot::of(inputs),
         }

@@ -1,5 +1,6 @@
 //! What a worker does.
 ghost use Rattle.std.specs.Prelude.{◌≡◌, ◌<◌, length};
+ghost use Rattle.sgm_draws.specs.Tickets.{parts_of};
 ghost use Rattle.sgm_line.specs.Lines.{log_of};
 ghost use Rattle.sgm_batch.specs.Batches.{CanWork, Covers, HasPiece, IsAtWork, IsDone, IsJob, IsSameWorker};
 
@@ -7,16 +8,15 @@ use crate::piece::Piece;
 use sgm_app::Inputs;
 use sgm_draws::{Draws, Ticket};
 use sgm_line::{Line, LinePass};
-use sgm_work::Gate;
+use sgm_work::{Came, Gate, come};
 use std::alloc::Global;
 use std::sync::Wait;
 use std::thread::Threads;
 
-/// A worker's own place: its number, what it draws with and pushes with, and by entry the pieces that the
-/// line didn't take.
+/// A worker's own place: what it draws with, whose number is the worker's, what it pushes with, and by entry
+/// the pieces that the line didn't take.
 #[derive(Drop)]
 pub struct Worker {
-    pub number: u32,
     pub ticket: Ticket,
     pub pass: LinePass<Piece>,
     pub kept: Vec<Option<Piece>>,
@@ -30,29 +30,31 @@ pub struct Job<'a> {
     pub line: &'a Line<Piece>,
 }
 
-/// Makes a piece, and pushes or keeps it.
-fn hand_on<R: Threads + Wait + Sync>(
+/// Makes the piece of the entry with which the worker came to the gate, and pushes or keeps it.
+fn hand_on<R: Threads + Wait + Sync, G>(
     rt: &R,
     alloc: Global,
     job: &Job<'_>,
     worker: &mut Worker,
-    entry: u32,
+    came: Came<G>,
 )
-    requires inside { entry < length job.now.inputs.now }
+    requires worker { came.worker ≡ (parts_of worker.old.ticket).number }
+    requires inside { came.task < length job.now.inputs.now }
     requires at_work { IsAtWork job.now worker.old }
     ensures at_work { IsAtWork job.now worker.new }
     ensures same_ticket { worker.new.ticket ≡ worker.old.ticket }
     ensures same_shares { (log_of worker.new.pass).shares ≡ (log_of worker.old.pass).shares }
-    ensures piece { HasPiece worker.new entry }
+    ensures piece { HasPiece worker.new came.task }
     ensures pieces { Covers worker.old worker.new }
 {
-    let piece = Piece::make(rt, alloc, &job.inputs[entry as usize], entry, worker.number);
+    let entry = came.task() as usize;
+    let piece = Piece::make(rt, alloc, &job.inputs[entry], came);
     if let Err(piece) = job.line.push(rt, &mut worker.pass, piece) {
-        worker.kept[entry as usize] = Some(piece);
+        worker.kept[entry] = Some(piece);
     }
 }
 
-/// Draws entries until there is none left, and makes their pieces.
+/// Draws entries until there is none left, comes to the gate with each, and then makes its piece.
 pub fn work<R: Threads + Wait + Sync, G: Gate>(
     rt: &R,
     alloc: Global,
@@ -69,7 +71,7 @@ pub fn work<R: Threads + Wait + Sync, G: Gate>(
         let Some(entry) = job.draws.draw(&mut worker.ticket) else {
             return;
         };
-        gate.at(worker.number, entry);
-        hand_on(rt, alloc, job, worker, entry);
+        let came = come(gate, worker.ticket.number(), entry);
+        hand_on(rt, alloc, job, worker, came);
     }
 }

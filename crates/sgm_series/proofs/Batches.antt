@@ -25,7 +25,6 @@ use Rattle.sgm_series.specs.Plans.{AreVerdicts, IsJudged}
 use Rattle.sgm_series.specs.Stands.{AreApart, batch_outcome, stop_outcome, place_in, SeriesPut, PutStop}
 use Rattle.sgm_series.specs.Turned.{BatchShown, BatchCounts, TurnsShown, StopShown, TurnsCounts, FilesTurned, OutTurned}
 use Rattle.sgm_series.specs.Turns.{files_for, summaries_for, lines_for, AtEntry, IsReached, HasOutput}
-use Rattle.sgm_series.specs.declared.limits.TheConstants.{BATCH}
 use Rattle.sgm_series.specs.declared.making.BatchStop.{BatchStop}
 use Rattle.sgm_series.specs.declared.making.BatchStop.TheVariants as batch
 use Rattle.sgm_series.specs.declared.turns.TurnsStop.{TurnsStop}
@@ -68,7 +67,7 @@ unmade_shows n m vs (batch.Unread place input) le before shown =
     (is_reached n m place vs le before shown.0, at_entry n m place vs (NoneBefore (order_of input)) shown.1)
 unmade_shows n m vs batch.NoMemory le before shown = tt
 
-pub unmade_turns : (n count : ℕ) (at : BatchStop) → (batches : ℕ) × (n ≡ batches * BATCH) → place_in at < BATCH → n ≤ count → HadTurns (batch_outcome n at) count n
+pub unmade_turns : (n count : ℕ) (at : BatchStop) → (batches : ℕ) × (n ≡ batches * 8) → place_in at < 8 → n ≤ count → HadTurns (batch_outcome n at) count n
 unmade_turns n count (batch.Unread place input) whole lt le = (whole.0, whole.1, omega arith, omega arith)
 unmade_turns n count batch.NoMemory whole lt le = le
 

@@ -55,3 +55,19 @@ counts_along P before mid now same p =
 
 pub list_along : (list name : List ℕ) (outcome : SeriesOutcome) (before now : Faults) → list ≡ name → SeriesCounts name outcome before now → SeriesCounts list outcome before now
 list_along list name outcome before now is counts = let P : List ℕ → Type 0 = λ n. SeriesCounts n outcome before now in subst P (sym is) counts
+
+-- ---- where a series ended before its first entry
+
+none_received : (whole : Bool) (err : List ℕ) → whole ≡ true → Received whole [] err err
+none_received whole err is = subst (λ (b : Bool). Received b [] err err) (sym is) (sym (append-nil err))
+
+pub list_stands : (outcome : SeriesOutcome) (vs : List Verdict) (old now : Held) (out err : List ℕ) (whole : Bool) → IsListOutcome outcome → now ≡ old → whole ≡ true
+    → HadTurns outcome (length vs) 0 × SeriesPut outcome 0 vs old now × SeriesOut outcome 0 vs out out × Received whole (lines_for (take 0 vs)) err err
+list_stands (RefusedList fault) vs old now out err whole kind same is = (refl, same, refl, none_received whole err is)
+list_stands ListUnread vs old now out err whole kind same is = (refl, same, refl, none_received whole err is)
+list_stands NoMemory vs old now out err whole kind same is = (omega arith, inl same, sym (append-nil out), none_received whole err is)
+list_stands Done vs old now out err whole kind same is = absurd kind
+list_stands (Usage fault) vs old now out err whole kind same is = absurd kind
+list_stands (SomeRefused refused) vs old now out err whole kind same is = absurd kind
+list_stands (ReadFault entry input) vs old now out err whole kind same is = absurd kind
+list_stands (WriteFault entry output) vs old now out err whole kind same is = absurd kind

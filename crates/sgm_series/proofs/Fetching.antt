@@ -1,10 +1,11 @@
 -- An entry as it is fetched.
-use Rattle.std.proofs.Common.{◌≡◌, inl, inr, sym, subst, Result, Ok, Err}
+use Rattle.std.proofs.Common.{◌≡◌, ℕ, inl, inr, refl, sym, subst, Result, Ok, Err}
 use Rattle.sgm_io.specs.Held.{Held}
 use Rattle.sgm_refine.specs.Refining.{plain}
 use Rattle.sgm_words.specs.Operands.{Operands, FileNames}
 use Rattle.sgm_words.specs.declared.files.Input.{Input}
 use Rattle.sgm_list.specs.Entries.{EntryNames}
+use Rattle.sgm_outcome.specs.declared.outcome.Refusal.{Refusal}
 use Rattle.sgm_outcome.specs.declared.outcome.Refusal.TheVariants.{TooLong}
 use Rattle.sgm_app.specs.Ends.{ShownBy, NoneBefore, Faults, CountsShow}
 use Rattle.sgm_app.specs.Gather.{AtHand, HavePair, StopCounts}
@@ -19,7 +20,10 @@ use Rattle.sgm_app.specs.declared.stops.TextsError.TheVariants.{Refused, NoMemor
 use Rattle.sgm_app.proofs.Answering.{GoesOn, VerdictIs, made_is, fetch_shown, judged}
 use Rattle.sgm_series.specs.Plans.{asked_for, names_for, EntryCallsFor, IsJudged}
 use Rattle.sgm_series.specs.Answers.{Answers, IsAnswerOf}
-use Rattle.sgm_series.specs.Batches.{AreInputsOf, IsReadable}
+use Rattle.sgm_series.specs.Batches.{AreInputsOf, IsReadable, PlaceCounts, PlaceShown}
+use Rattle.sgm_series.specs.Stands.{refused_at}
+use Rattle.sgm_series.specs.declared.making.BatchStop.{BatchStop}
+use Rattle.sgm_series.specs.declared.making.BatchStop.TheVariants as batch
 
 is_answer : (entry : EntryNames) (v : Verdict) (made : Result MadeTexts TextsError) → VerdictIs (asked_for entry) v made → Answers entry.out v made
 is_answer entry v (Ok texts) is = is
@@ -72,3 +76,35 @@ pub stop_counts : (entry : EntryNames) (asked : Operands) (stop is_stop : FetchS
 stop_counts entry asked stop is_stop before now is same counts =
     let P : FetchStop → Type 0 = λ s. StopCounts (names_for entry) s before now in
     subst P same (counts (names_for entry) (have_names entry asked is))
+
+-- ---- what a stop comes to
+
+-- a refused entry has an input that is too long
+pub refused_is : (place : ℕ) (stop : FetchStop) (refusal : Refusal) → refused_at place stop ≡ Ok refusal → (input : Input) × (stop ≡ fetch.TooLong input) × (refusal ≡ TooLong input)
+refused_is place (fetch.TooLong input) refusal is = (input, refl, cc)
+refused_is place (fetch.Unread input) refusal is = absurd (cc)
+refused_is place fetch.NoMemory refusal is = absurd (cc)
+
+-- the verdict and the counts show the stop of the batch
+pub place_shown : (place : ℕ) (stop : FetchStop) (at : BatchStop) (v : Verdict) → refused_at place stop ≡ Err at → ShownBy v (fetch_outcome stop) → PlaceShown place v at
+place_shown place (fetch.TooLong input) at v is shown = absurd (cc)
+place_shown place (fetch.Unread input) at v is shown =
+    let P : BatchStop → Type 0 = λ b. PlaceShown place v b in
+    let same : batch.Unread place input ≡ at = cc in
+    subst P same (refl, shown)
+place_shown place fetch.NoMemory at v is shown =
+    let P : BatchStop → Type 0 = λ b. PlaceShown place v b in
+    let same : batch.NoMemory ≡ at = cc in
+    subst P same tt
+
+pub place_counts : (place : ℕ) (entry : EntryNames) (stop : FetchStop) (at : BatchStop) (before now : Faults) → refused_at place stop ≡ Err at
+    → CountsShow (names_for entry) (fetch_outcome stop) before now → PlaceCounts place entry at before now
+place_counts place entry (fetch.TooLong input) at before now is counts = absurd (cc)
+place_counts place entry (fetch.Unread input) at before now is counts =
+    let P : BatchStop → Type 0 = λ b. PlaceCounts place entry b before now in
+    let same : batch.Unread place input ≡ at = cc in
+    subst P same (refl, counts)
+place_counts place entry fetch.NoMemory at before now is counts =
+    let P : BatchStop → Type 0 = λ b. PlaceCounts place entry b before now in
+    let same : batch.NoMemory ≡ at = cc in
+    subst P same counts

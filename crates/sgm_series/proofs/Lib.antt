@@ -6,6 +6,7 @@ pub mod EntryLines
 pub mod Fetching
 pub mod Holding
 pub mod Keeping
+pub mod Leaving
 pub mod ListEnds
 pub mod NoClash
 pub mod OnePlan

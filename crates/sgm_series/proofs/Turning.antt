@@ -29,7 +29,8 @@ use Rattle.sgm_series.specs.Plans.{names_for, is_refused}
 use Rattle.sgm_series.specs.Turns.{files_for, summaries_for, lines_for, line_for, HasOutput}
 use Rattle.sgm_series.specs.Answers.{Answers, AreAnswered}
 use Rattle.sgm_series.specs.Received.{ReceivesMore}
-use Rattle.sgm_series.specs.Turned.{NoMoreUnfinished, IsEntryOutput}
+use Rattle.sgm_series.specs.Turned.{IsLeftAt}
+use Rattle.sgm_series.specs.Unfinished.{NoMoreUnfinished}
 use Rattle.sgm_series.proofs.Receiving.{receives_both}
 
 -- ---- whose turn it is
@@ -146,7 +147,7 @@ writing_both old mid new one (inr two) = inr two
 pub no_more_both : (old mid new : NameSet) → NoMoreUnfinished (λ name. ⊥) old mid → NoMoreUnfinished (λ name. ⊥) mid new → NoMoreUnfinished (λ name. ⊥) old new
 no_more_both old mid new one two = λ name on. elim (two name on) [ inl was ↦ one name was | inr none ↦ absurd none ]
 
-stays_finished : (mid new : NameSet) (name : List ℕ) → NoMoreUnfinished (λ name. ⊥) mid new → mid name ≡ false → new name ≡ false
+pub stays_finished : (mid new : NameSet) (name : List ℕ) → NoMoreUnfinished (λ name. ⊥) mid new → mid name ≡ false → new name ≡ false
 stays_finished mid new name none off = elim (new name) as (λ b. new name ≡ b → b ≡ false) [
   | true ↦ λ on. elim (none name on) [ inl was ↦ absurd (cc) | inr never ↦ absurd never ]
   | false ↦ λ is. refl
@@ -161,15 +162,25 @@ finished_more verdicts n v mid new more before none here = λ file among.
       | inr own ↦ here file own
     ]
 
-pub unfinished_stop : (entry : EntryNames) (end : WriteStop) (old mid new : NameSet) → NoMoreUnfinished (λ name. ⊥) old mid → UnfinishedStands (names_for entry) (write_outcome end) mid new → NoMoreUnfinished (IsEntryOutput entry) old new
-unfinished_stop entry (stop.Unwritten output) old mid new none leaves = λ name on. elim (leaves.no_more name on) [
-  | inl was ↦ elim (none name was) [ inl first ↦ inl first | inr never ↦ absurd never ]
-  | inr is ↦ inr (output, is)
-]
-unfinished_stop entry stop.NoMemory old mid new none leaves = λ name on. elim (leaves.no_more name on) [
+-- a name that is left after names were left before, of which this holds
+pub left_since : (IsLeft : List ℕ → Type 0) (old mid new : NameSet) → NoMoreUnfinished (λ name. ⊥) old mid → NoMoreUnfinished IsLeft mid new → NoMoreUnfinished IsLeft old new
+left_since IsLeft old mid new none leaves = λ name on. elim (leaves name on) [
   | inl was ↦ elim (none name was) [ inl first ↦ inl first | inr never ↦ absurd never ]
   | inr is ↦ inr is
 ]
+
+pub unfinished_stop : (entries : List EntryNames) (place : ℕ) (entry : EntryNames) (end : WriteStop) (old mid new : NameSet) → slice_get entries place ≡ Some entry
+    → NoMoreUnfinished (λ name. ⊥) old mid → UnfinishedStands (names_for entry) (write_outcome end) mid new → NoMoreUnfinished (IsLeftAt entries place end) old new
+unfinished_stop entries place entry (stop.Unwritten output) old mid new at none leaves =
+    left_since (IsLeftAt entries place (stop.Unwritten output)) old mid new none (λ name on. elim (leaves.no_more name on) [
+      | inl was ↦ inl was
+      | inr is ↦ inr (entry, at, is)
+    ])
+unfinished_stop entries place entry stop.NoMemory old mid new at none leaves =
+    left_since (IsLeftAt entries place stop.NoMemory) old mid new none (λ name on. elim (leaves.no_more name on) [
+      | inl was ↦ inl was
+      | inr is ↦ inr (is.0, (entry, at, is.1))
+    ])
 
 -- ---- one entry's writing
 

@@ -1,12 +1,12 @@
 -- What stands after a series, and what caused its outcome.
-use Rattle.std.specs.Prelude.{◌≡◌, ⊤, ◌⊎◌, ℕ, ◌+◌, ◌*◌, ◌<◌, ◌≤◌, List, [], ◌++◌, take, length, count_by, All}
+use Rattle.std.specs.Prelude.{◌≡◌, ◌≢◌, ⊤, ◌⊎◌, ℕ, ◌+◌, ◌*◌, ◌<◌, ◌≤◌, List, [], ◌++◌, take, length, count_by, All}
 use Rattle.sgm_io.specs.Held.{Held}
 use Rattle.sgm_app.specs.Ends.{Hold, FilesStand, OutStands, NoneBefore, order_of}
 use Rattle.sgm_app.specs.Verdict.{Verdict, IsFiles}
+use Rattle.sgm_words.specs.declared.files.Output.TheVariants.{Summary}
 use Rattle.sgm_outcome.specs.declared.outcome.Outcome.TheVariants as run
 use Rattle.sgm_series.specs.Plans.{Plan, usage, no_list, faulty, series, verdicts_of, is_refused, IsJudged}
 use Rattle.sgm_series.specs.Turns.{files_for, summaries_for, AtEntry, IsReached, HasOutput}
-use Rattle.sgm_series.specs.declared.limits.TheConstants.{BATCH}
 use Rattle.sgm_series.specs.declared.outcome.SeriesOutcome.{SeriesOutcome}
 use Rattle.sgm_series.specs.declared.outcome.SeriesOutcome.TheVariants.{Done, Usage, RefusedList, SomeRefused, ListUnread, ReadFault, WriteFault, NoMemory}
 
@@ -36,15 +36,15 @@ SeriesShownBy (series entries verdicts) outcome = EntriesShow verdicts outcome
 
 -- ---- how far it came
 
--- so many entries had their turns, to their ends: all of them; or those of the batches before the one that has an input that
--- couldn't be read; or those before one whose output couldn't be written
+-- so many entries had their turns, to their ends: all of them; or those of the batches of eight before the one that has an input
+-- that couldn't be read; or those before one whose output couldn't be written
 abbrev pub HadTurns : SeriesOutcome → ℕ → ℕ → Type 0
 HadTurns Done count turns = turns ≡ count
 HadTurns (Usage fault) count turns = turns ≡ 0
 HadTurns (RefusedList fault) count turns = turns ≡ 0
 HadTurns (SomeRefused entries) count turns = turns ≡ count
 HadTurns ListUnread count turns = turns ≡ 0
-HadTurns (ReadFault entry input) count turns = (batches : ℕ) × (turns ≡ batches * BATCH) × (turns ≤ entry) × (entry < turns + BATCH)
+HadTurns (ReadFault entry input) count turns = (batches : ℕ) × (turns ≡ batches * 8) × (turns ≤ entry) × (entry < turns + 8)
 HadTurns (WriteFault entry output) count turns = turns ≡ entry
 HadTurns NoMemory count turns = turns ≤ count
 
@@ -79,3 +79,15 @@ SeriesOut (ReadFault entry input) turns verdicts old new = new ≡ old ++ summar
 SeriesOut (WriteFault entry output) turns verdicts old new =
     AtEntry turns verdicts (λ v. OutStands (run.WriteFault output) v (old ++ summaries_for (take turns verdicts)) new)
 SeriesOut NoMemory turns verdicts old new = new ≡ old ++ summaries_for (take turns verdicts)
+
+-- `out` has received nothing where there are no entries, where an input of the first eight couldn't be read, and where a file of
+-- the first one couldn't be written
+abbrev pub SeriesUntouched : SeriesOutcome → List ℕ → List ℕ → Type 0
+SeriesUntouched Done old new = ⊤
+SeriesUntouched (Usage fault) old new = new ≡ old
+SeriesUntouched (RefusedList fault) old new = new ≡ old
+SeriesUntouched (SomeRefused entries) old new = ⊤
+SeriesUntouched ListUnread old new = new ≡ old
+SeriesUntouched (ReadFault entry input) old new = entry < 8 → new ≡ old
+SeriesUntouched (WriteFault entry output) old new = entry ≡ 0 → output ≢ Summary → new ≡ old
+SeriesUntouched NoMemory old new = ⊤

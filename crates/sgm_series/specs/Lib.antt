@@ -6,6 +6,7 @@ pub mod Plans
 pub mod Turns
 pub mod Ends
 pub mod Counted
+pub mod Unfinished
 pub mod Complete
 pub mod Answers
 pub mod Received

@@ -1,14 +1,23 @@
 -- How the entries of a series stand, as their files are put. No public clause speaks of this.
 use Rattle.std.specs.Prelude.{◌≡◌, ⊤, ◌⊎◌, ℕ, zero, suc, ◌+◌, List, take, All, Option, None, Some, Result, Ok, Err}
 use Rattle.sgm_io.specs.Held.{Held}
+use Rattle.sgm_io.specs.declared.shelf.FetchError.{FetchError}
+use Rattle.sgm_io.specs.declared.shelf.FetchError.TheVariants as fetch
 use Rattle.sgm_list.specs.Clashes.{first_clash}
 use Rattle.sgm_list.specs.Entries.{EntryNames, entries_of}
 use Rattle.sgm_list.specs.Faults.{list_fault}
+use Rattle.sgm_list.specs.declared.fault.ListError.{ListError}
+use Rattle.sgm_list.specs.declared.fault.ListError.TheVariants as error
+use Rattle.sgm_list.specs.declared.fault.ListFault.TheVariants.{TooLong}
 use Rattle.sgm_outcome.specs.declared.outcome.Outcome.{Outcome}
 use Rattle.sgm_outcome.specs.declared.outcome.Outcome.TheVariants as run
+use Rattle.sgm_outcome.specs.declared.outcome.Refusal.{Refusal}
+use Rattle.sgm_outcome.specs.declared.outcome.Refusal.TheVariants as refusal
 use Rattle.sgm_app.specs.Deliver.{after_files, FilesPut}
 use Rattle.sgm_app.specs.Ends.{Faults, SameFaults}
 use Rattle.sgm_app.specs.Verdict.{Verdict}
+use Rattle.sgm_app.specs.declared.stops.FetchStop.{FetchStop}
+use Rattle.sgm_app.specs.declared.stops.FetchStop.TheVariants as fetch_stop
 use Rattle.sgm_app.specs.declared.stops.WriteStop.{WriteStop}
 use Rattle.sgm_app.specs.declared.stops.WriteStop.TheVariants as stop
 use Rattle.sgm_series.specs.Counted.{SeriesCounts}
@@ -76,6 +85,16 @@ ListCounts list (Err outcome) before now = SeriesCounts list outcome before now
 
 -- ---- outcomes of parts of a series
 
+-- that of a list that can't be fetched, and that of one that has no entries to give
+abbrev pub unfetched_outcome : FetchError → SeriesOutcome
+unfetched_outcome fetch.Failed = ListUnread
+unfetched_outcome fetch.TooLong = RefusedList TooLong
+unfetched_outcome fetch.NoMemory = NoMemory
+
+abbrev pub unlisted_outcome : ListError → SeriesOutcome
+unlisted_outcome (error.Fault fault) = RefusedList fault
+unlisted_outcome error.NoMemory = NoMemory
+
 -- one that ends a series before its first entry
 abbrev pub IsListOutcome : SeriesOutcome → Type 0
 IsListOutcome (RefusedList fault) = ⊤
@@ -102,6 +121,12 @@ IsEntryOutcome ListUnread = ⊥
 abbrev pub batch_outcome : ℕ → BatchStop → SeriesOutcome
 batch_outcome first (batch.Unread place input) = ReadFault (first + place) input
 batch_outcome first batch.NoMemory = NoMemory
+
+-- an entry whose inputs weren't fetched is refused where one is too long; else its batch stops
+abbrev pub refused_at : ℕ → FetchStop → Result Refusal BatchStop
+refused_at place (fetch_stop.TooLong input) = Ok (refusal.TooLong input)
+refused_at place (fetch_stop.Unread input) = Err (batch.Unread place input)
+refused_at place fetch_stop.NoMemory = Err batch.NoMemory
 
 -- the place of the entry that stopped it
 abbrev pub place_in : BatchStop → ℕ

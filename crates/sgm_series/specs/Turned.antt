@@ -1,9 +1,8 @@
 -- The turns of entries, one after the other, to their ends or to a stop. No public clause speaks of this.
-use Rattle.std.specs.Prelude.{◌≡◌, ⊤, ◌⊎◌, ℕ, List, [], ◌++◌, take, slice_get, All, true, if◌then◌else◌}
+use Rattle.std.specs.Prelude.{◌≡◌, ⊤, ◌⊎◌, ℕ, List, [], ◌++◌, take, All, if◌then◌else◌}
 use Rattle.std.specs.Prelude.{Option, None, Some, Result, Ok, Err}
 use Rattle.sgm_io.specs.Held.{Held}
 use Rattle.sgm_io.specs.Unfinished.{NameSet}
-use Rattle.sgm_words.specs.Operands.{IsOutputName}
 use Rattle.sgm_words.specs.declared.files.Output.{Output}
 use Rattle.sgm_list.specs.Entries.{EntryNames}
 use Rattle.sgm_outcome.specs.declared.outcome.Outcome.{Outcome}
@@ -14,9 +13,10 @@ use Rattle.sgm_app.specs.Stops.{write_outcome}
 use Rattle.sgm_app.specs.Verdict.{Verdict}
 use Rattle.sgm_app.specs.declared.stops.WriteStop.{WriteStop}
 use Rattle.sgm_app.specs.declared.stops.WriteStop.TheVariants as stop
-use Rattle.sgm_series.specs.Plans.{names_for, IsJudged, is_refused}
+use Rattle.sgm_series.specs.Plans.{IsJudged, is_refused}
 use Rattle.sgm_series.specs.Turns.{files_for, summaries_for, line_for, AtEntry, IsReached, HasOutput}
 use Rattle.sgm_series.specs.Counted.{EntryShows}
+use Rattle.sgm_series.specs.Unfinished.{NoMoreUnfinished, IsOutputAt}
 use Rattle.sgm_series.specs.declared.making.BatchStop.{BatchStop}
 use Rattle.sgm_series.specs.declared.making.BatchStop.TheVariants.{Unread, NoMemory}
 use Rattle.sgm_series.specs.declared.turns.TurnsStop.{TurnsStop}
@@ -90,19 +90,15 @@ abbrev pub TurnsCounts : {T : Type 0} → List EntryNames → Result T TurnsStop
 TurnsCounts entries (Ok done) before now = SameFaults before now
 TurnsCounts entries (Err stop) before now = EntryShows entries stop.place (write_outcome stop.stop) before now
 
--- a name that is unfinished now was so before, or this holds of it
-abbrev pub NoMoreUnfinished : (List ℕ → Type 0) → NameSet → NameSet → Type 0
-NoMoreUnfinished IsLeft old new = (name : List ℕ) → new name ≡ true → (old name ≡ true) ⊎ IsLeft name
+-- the name is that of the output of the entry that couldn't be written, or, where there was no memory, of any of its outputs
+abbrev pub IsLeftAt : List EntryNames → ℕ → WriteStop → List ℕ → Type 0
+IsLeftAt entries place (stop.Unwritten output) name = IsOutputAt entries place output name
+IsLeftAt entries place stop.NoMemory name = (output : Output) × IsOutputAt entries place output name
 
--- the name is that of an output of the entry
-abbrev pub IsEntryOutput : EntryNames → List ℕ → Type 0
-IsEntryOutput asked name = (output : Output) × IsOutputName (names_for asked) output name
-
--- no more names are unfinished than before, but perhaps those of outputs of the entry that stopped
+-- no more names are unfinished than before, but perhaps that of an output that wasn't written to its end
 abbrev pub UnfinishedTurned : {T : Type 0} → List EntryNames → Result T TurnsStop → NameSet → NameSet → Type 0
 UnfinishedTurned entries (Ok done) old new = NoMoreUnfinished (λ name. ⊥) old new
-UnfinishedTurned entries (Err stop) old new =
-    (asked : EntryNames) × (slice_get entries stop.place ≡ Some asked) × NoMoreUnfinished (IsEntryOutput asked) old new
+UnfinishedTurned entries (Err stop) old new = NoMoreUnfinished (IsLeftAt entries stop.place stop.stop) old new
 
 -- ---- the making of a batch
 

@@ -11,7 +11,7 @@ ghost use Rattle.sgm_series.specs.Answers.{AreAnswers};
 ghost use Rattle.sgm_series.specs.Batches.{HasEntry, IsFetched, IsReadable, AreInputsAt, PlaceShown, PlaceCounts};
 ghost use Rattle.sgm_series.specs.Plans.{AreVerdicts, EntryCallsFor};
 ghost use Rattle.sgm_series.specs.Turned.{BatchCounts, BatchShown};
-ghost use Rattle.sgm_series.specs.Stands.{batch_outcome, place_in};
+ghost use Rattle.sgm_series.specs.Stands.{batch_outcome, place_in, refused_at};
 
 use crate::SeriesOutcome;
 use crate::entries::operands_of;
@@ -61,6 +61,18 @@ struct Batch {
     answers: Vec<Answer>,
 }
 
+/// What a stop of fetching the inputs of the entry at this place comes to: the entry's refusal, or the
+/// batch's stop.
+fn refused(place: usize, stop: FetchStop) -> Result<Refusal, BatchStop>
+    ensures { result ≡ refused_at place stop }
+{
+    match stop {
+        FetchStop::TooLong(input) => Ok(Refusal::TooLong(input)),
+        FetchStop::Unread(input) => Err(BatchStop::Unread { place, input }),
+        FetchStop::NoMemory => Err(BatchStop::NoMemory),
+    }
+}
+
 /// The inputs of the entry at this place of the batch, or the refusal of the first that is too long.
 fn fetch_entry<S: Shelf>(
     alloc: Global,
@@ -79,9 +91,10 @@ fn fetch_entry<S: Shelf>(
 {
     match gather(alloc, shelf, &operands_of(entry)) {
         Ok(inputs) => Ok(Ok(inputs)),
-        Err(FetchStop::TooLong(input)) => Ok(Err(Refusal::TooLong(input))),
-        Err(FetchStop::Unread(input)) => Err(BatchStop::Unread { place, input }),
-        Err(FetchStop::NoMemory) => Err(BatchStop::NoMemory),
+        Err(stop) => match refused(place, stop) {
+            Ok(refusal) => Ok(Err(refusal)),
+            Err(stop) => Err(stop),
+        },
     }
 }
 

@@ -10,12 +10,13 @@ ghost use Rattle.sgm_series.specs.Words.{series_words, list_of};
 ghost use Rattle.sgm_series.specs.Lines.{series_line};
 ghost use Rattle.sgm_series.specs.Plans.{AreVerdicts, Plan, SeriesCallsFor, verdicts_of, entries_in, is_refused};
 ghost use Rattle.sgm_series.specs.Turns.{lines_for};
-ghost use Rattle.sgm_series.specs.Ends.{EntriesShow, HadTurns, SeriesFiles, SeriesOut, SeriesShownBy};
+ghost use Rattle.sgm_series.specs.Ends.{EntriesShow, HadTurns, SeriesFiles, SeriesOut, SeriesShownBy, SeriesUntouched};
 ghost use Rattle.sgm_series.specs.Counted.{SeriesCounts, EntryCounts};
+ghost use Rattle.sgm_series.specs.Unfinished.{SeriesFinished, SeriesUnfinished};
 ghost use Rattle.sgm_series.specs.Complete.{SeriesComplete};
 ghost use Rattle.sgm_series.specs.Received.{Received, IsWhole};
 ghost use Rattle.sgm_series.specs.Stands.{AreApart, end_of, outcome_for, SeriesPut, EntriesEnd, IsListed, IsListEnd, IsListOutcome, IsEntryOutcome, ListCounts};
-ghost use Rattle.sgm_series.specs.declared.limits.TheConstants.{BATCH};
+ghost use Rattle.sgm_series.specs.Stands.{unfetched_outcome, unlisted_outcome};
 ghost use Rattle.sgm_series.specs.declared.words.SeriesUsage.{SeriesUsage};
 ghost use Rattle.sgm_series.specs.declared.outcome.SeriesOutcome.TheVariants.{Usage};
 
@@ -31,6 +32,27 @@ use std::alloc::Global;
 use std::sync::Wait;
 use std::thread::Threads;
 
+/// The outcome of a series whose list can't be fetched.
+fn unfetched(error: FetchError) -> SeriesOutcome
+    ensures { result ≡ unfetched_outcome error }
+{
+    match error {
+        FetchError::Failed => SeriesOutcome::ListUnread,
+        FetchError::TooLong => SeriesOutcome::RefusedList(ListFault::TooLong),
+        FetchError::NoMemory => SeriesOutcome::NoMemory,
+    }
+}
+
+/// The outcome of a series whose list has no entries to give.
+fn unlisted(error: ListError) -> SeriesOutcome
+    ensures { result ≡ unlisted_outcome error }
+{
+    match error {
+        ListError::Fault(fault) => SeriesOutcome::RefusedList(fault),
+        ListError::NoMemory => SeriesOutcome::NoMemory,
+    }
+}
+
 /// The entries of the list.
 fn read_entries<S: Shelf>(
     alloc: Global,
@@ -42,6 +64,7 @@ fn read_entries<S: Shelf>(
     ensures few { IfOk result (λ entries. length entries.items ≤ MAX_ENTRIES) }
     ensures end { IsTrue S.tells → IfErr result (IsListEnd (S.held shelf.old list.now) list.now) }
     ensures kind { IfErr result IsListOutcome }
+    ensures unfinished { S.unfinished shelf.new ≡ S.unfinished shelf.old }
     ensures held { IsTrue S.tells → S.held shelf.new ≡ S.held shelf.old }
     ensures counts { (out : ℕ) → ListCounts list.now result
         (faults (S.read_faults shelf.old) (S.write_faults shelf.old) out) (faults (S.read_faults shelf.new) (S.write_faults shelf.new) out) }
@@ -49,21 +72,18 @@ fn read_entries<S: Shelf>(
     let mut bytes = Vec::new(alloc);
     match shelf.fetch(list, MAX_LIST_BYTES, &mut bytes) {
         Ok(()) => {}
-        Err(FetchError::Failed) => return Err(SeriesOutcome::ListUnread),
-        Err(FetchError::TooLong) => return Err(SeriesOutcome::RefusedList(ListFault::TooLong)),
-        Err(FetchError::NoMemory) => return Err(SeriesOutcome::NoMemory),
+        Err(error) => return Err(unfetched(error)),
     }
     match read_list(alloc, &bytes, list) {
         Ok(entries) => Ok(entries),
-        Err(ListError::Fault(fault)) => Err(SeriesOutcome::RefusedList(fault)),
-        Err(ListError::NoMemory) => Err(SeriesOutcome::NoMemory),
+        Err(error) => Err(unlisted(error)),
     }
 }
 
 /// Where the batch ends that begins with an entry, of so many in all.
 fn batch_end(first: usize, count: usize) -> usize
     requires { (first < count) × (count ≤ MAX_ENTRIES) }
-    ensures { result ≡ min (first + BATCH) count }
+    ensures { result ≡ min (first + 8) count }
 {
     if count - first < BATCH {
         count
@@ -97,6 +117,10 @@ fn match_entries<R: Threads + Wait + Sync, S: Shelf, O: Sink, E: Sink, G: Gate +
         × SeriesPut (end_of result) turns verdicts (S.held shelf.old) (S.held shelf.new)
         × (IsTrue O.tells → SeriesOut (end_of result) turns verdicts (O.written out.old) (O.written out.new))
         × (IsTrue E.tells → Received tally.new.whole (lines_for (take turns verdicts)) (E.written err.old) (E.written err.new)) }
+    ensures untouched { IsTrue O.tells → SeriesUntouched (end_of result) (O.written out.old) (O.written out.new) }
+    ensures unfinished { SeriesUnfinished entries.now (end_of result) (S.unfinished shelf.old) (S.unfinished shelf.new) }
+    ensures finished { IsTrue S.tells → (verdicts : List Verdict) → AreVerdicts entries.now (S.held shelf.old) verdicts
+        → SeriesFinished (end_of result) verdicts (S.unfinished shelf.new) }
     ensures kind { IfErr result IsEntryOutcome }
     ensures counts { (list : List ℕ) → SeriesCounts list (end_of result)
         (faults (S.read_faults shelf.old) (S.write_faults shelf.old) (O.faults out.old))
@@ -150,6 +174,11 @@ fn carry_out<R: Threads + Wait + Sync, S: Shelf, O: Sink, E: Sink, G: Gate + Syn
         × SeriesPut result turns (verdicts_of p) (S.held shelf.old) (S.held shelf.new)
         × (IsTrue O.tells → SeriesOut result turns (verdicts_of p) (O.written out.old) (O.written out.new))
         × (IsTrue E.tells → Received tally.new.whole (lines_for (take turns (verdicts_of p))) (E.written err.old) (E.written err.new)) }
+    ensures untouched { IsTrue O.tells → SeriesUntouched result (O.written out.old) (O.written out.new) }
+    ensures unfinished { IsTrue S.tells → (p : Plan) → SeriesCallsFor (bytes_of words.now) (S.held shelf.old) p
+        → SeriesUnfinished (entries_in p) result (S.unfinished shelf.old) (S.unfinished shelf.new) }
+    ensures finished { IsTrue S.tells → (p : Plan) → SeriesCallsFor (bytes_of words.now) (S.held shelf.old) p
+        → SeriesFinished result (verdicts_of p) (S.unfinished shelf.new) }
     ensures counts { SeriesCounts (list_of (bytes_of words.now)) result
         (faults (S.read_faults shelf.old) (S.write_faults shelf.old) (O.faults out.old))
         (faults (S.read_faults shelf.new) (S.write_faults shelf.new) (O.faults out.new)) }
@@ -209,6 +238,16 @@ pub fn run_series<R: Threads + Wait + Sync, S: Shelf, O: Sink, E: Sink, G: Gate 
         × (IsTrue O.tells → SeriesOut result turns (verdicts_of p) (O.written out.old) (O.written out.new))
         × (IsTrue E.tells → TakesLine (lines_for (take turns (verdicts_of p)) ++ series_line result)
         (E.faults err.old) (E.faults err.new) (E.written err.old) (E.written err.new)) }
+
+    // `out` has received nothing before the first batch is made.
+    ensures untouched { IsTrue O.tells → SeriesUntouched result (O.written out.old) (O.written out.new) }
+
+    // No name is left begun, but that of an output whose writing stopped; where all entries had their turns, each of
+    // their files is finished.
+    ensures unfinished { IsTrue S.tells → (p : Plan) → SeriesCallsFor (bytes_of words.now) (S.held shelf.old) p
+        → SeriesUnfinished (entries_in p) result (S.unfinished shelf.old) (S.unfinished shelf.new) }
+    ensures finished { IsTrue S.tells → (p : Plan) → SeriesCallsFor (bytes_of words.now) (S.held shelf.old) p
+        → SeriesFinished result (verdicts_of p) (S.unfinished shelf.new) }
 
     // A fault of reading or writing comes only where its count rose; without one no count changed.
     ensures counts { SeriesCounts (list_of (bytes_of words.now)) result

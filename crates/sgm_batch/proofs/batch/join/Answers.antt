@@ -13,7 +13,7 @@ returns-clause-done c =
     let places = c.take_over.new.places in
     let kept = with_items c.args.whole.now.kept places in
     let is = with_items_is c.args.whole.now.kept places (omega (arith, c.take_over.ensures.count, c.args.whole.now.kept.ok)) in
-    let now : Worker = record { number = c.args.whole.now.number; ticket = c.join.new.ticket; pass = c.join-2.new.pass; kept = kept } in
+    let now : Worker = record { ticket = c.join.new.ticket; pass = c.join-2.new.pass; kept = kept } in
     joined_done c.args.job.now c.args.whole.now c.args.other now c.requires.done.0 c.requires.done.1 c.join.ensures.own c.join.ensures.joined
     c.join.ensures.all c.join-2.ensures.own c.join-2.ensures.joined
     (ap (λ (xs : List (Option PieceParts)). length xs) is ∙ c.take_over.ensures.count ∙ ap (λ (xs : List (Option PieceParts)). length xs) c.as_mut_slice.ensures.value)

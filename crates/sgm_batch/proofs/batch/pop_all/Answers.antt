@@ -16,14 +16,14 @@ index_mut-requires g c =
 
 pub loop-preserved-in-Some-pop : goal.loop-preserved-in-Some-pop
 loop-preserved-in-Some-pop g c =
-    let now : Worker = record { number = c.loop.worker.number; ticket = c.loop.worker.ticket; pass = c.pop.new.pass; kept = with_item c.loop.worker.kept c.entry-place.result (Some c.in-Some-pop.piece) } in
+    let now : Worker = record { ticket = c.loop.worker.ticket; pass = c.pop.new.pass; kept = with_item c.loop.worker.kept c.entry-place.result (Some c.in-Some-pop.piece) } in
     pops_on c.args.job.now c.args.worker.now c.loop.worker now c.in-Some-pop.piece c.requires.at_work c.loop.invariant
     (c.in-Some-pop.ensures.pushed c.loop.invariant.both) c.pop.ensures.own c.in-Some-pop.ensures.some
     (ap (λ n. set c.loop.worker.kept.items n (Some c.in-Some-pop.piece)) c.entry-place.ensures)
 
 pub loop-preserved : goal.loop-preserved
 loop-preserved g c =
-    let now : Worker = record { number = c.loop.worker.number; ticket = c.loop.worker.ticket; pass = c.pop.new.pass; kept = with_item c.loop.worker.kept c.entry-place.result (Some c.in-Some-pop.piece) } in
+    let now : Worker = record { ticket = c.loop.worker.ticket; pass = c.pop.new.pass; kept = with_item c.loop.worker.kept c.entry-place.result (Some c.in-Some-pop.piece) } in
     pops_on c.args.job.now c.args.worker.now c.loop.worker now c.in-Some-pop.piece c.requires.at_work c.loop.invariant
     (c.in-Some-pop.ensures.pushed c.loop.invariant.both) c.pop.ensures.own c.in-Some-pop.ensures.some
     (ap (λ n. set c.loop.worker.kept.items n (Some c.in-Some-pop.piece)) c.entry-place.ensures)

@@ -1,7 +1,9 @@
-use Rattle.std.proofs.Common.{refl}
-use Rattle.sgm_app.specs.declared.stops.FetchStop.TheVariants as fetch
+use Rattle.std.proofs.Common.{◌≡◌, ◌∙◌, refl, sym, subst, Err}
+use Rattle.sgm_outcome.specs.declared.outcome.Refusal.{Refusal}
+use Rattle.sgm_app.specs.declared.stops.TextsError.TheVariants.{Refused}
+use Rattle.sgm_series.specs.Answers.{IsAnswerOf}
 use Rattle.sgm_series.specs.Plans.{names_for}
-use Rattle.sgm_series.proofs.Fetching.{inputs_of, readable, stop_shown, too_long, too_long_readable, have_names, stop_counts}
+use Rattle.sgm_series.proofs.Fetching.{inputs_of, readable, refused_is, place_counts, place_shown, stop_shown, too_long, too_long_readable, have_names, stop_counts}
 use Rattle.sgm_series.proofs.making.fetch_entry.Goals as goal
 
 pub returns-in-Ok-clause-fetched : goal.returns-in-Ok-clause-fetched
@@ -13,34 +15,33 @@ returns-in-Ok-clause-readable g c = λ told. readable c.args.entry.now c.operand
 pub returns-in-Ok-clause-counts : goal.returns-in-Ok-clause-counts
 returns-in-Ok-clause-counts g c = c.in-Ok.ensures.counts (names_for c.args.entry.now) (have_names c.args.entry.now c.operands_of.result c.operands_of.ensures)
 
-pub returns-in-Err-TooLong-clause-fetched : goal.returns-in-Err-TooLong-clause-fetched
-returns-in-Err-TooLong-clause-fetched g c = λ told.
-    too_long c.args.entry.now c.operands_of.result _ c.in-Err-TooLong.field-0 c.in-Err-TooLong.input c.operands_of.ensures (cc (c.in-Err-TooLong.field-0-is)) (c.in-Err-TooLong.ensures.verdict told)
+-- ---- a refusal
 
-pub returns-in-Err-TooLong-clause-readable : goal.returns-in-Err-TooLong-clause-readable
-returns-in-Err-TooLong-clause-readable g c = λ told.
-    too_long_readable c.args.entry.now c.operands_of.result _ c.in-Err-TooLong.field-0 c.in-Err-TooLong.input c.operands_of.ensures (cc (c.in-Err-TooLong.field-0-is)) (c.in-Err-TooLong.ensures.verdict told)
+pub returns-in-Ok-refused-clause-fetched : goal.returns-in-Ok-refused-clause-fetched
+returns-in-Ok-refused-clause-fetched g c = λ told.
+    let long = refused_is c.args.place c.in-Err.stop c.in-Ok-refused.refusal (sym c.refused.ensures ∙ c.in-Ok-refused.is) in
+    let P : Refusal → Type 0 = λ r. IsAnswerOf c.args.entry.now (g.S.Shelf.held c.args.shelf.now) (Err (Refused r)) in
+    subst P (sym long.2) (too_long c.args.entry.now c.operands_of.result _ c.in-Err.stop long.0 c.operands_of.ensures long.1 (c.in-Err.ensures.verdict told))
 
-pub returns-in-Err-TooLong-clause-counts : goal.returns-in-Err-TooLong-clause-counts
-returns-in-Err-TooLong-clause-counts g c =
-    let same = stop_counts c.args.entry.now c.operands_of.result c.in-Err-TooLong.field-0 (fetch.TooLong c.in-Err-TooLong.input) _ _ c.operands_of.ensures
-    (cc (c.in-Err-TooLong.field-0-is)) (λ names have. c.in-Err-TooLong.ensures.counts names have 0) in
+pub returns-in-Ok-refused-clause-readable : goal.returns-in-Ok-refused-clause-readable
+returns-in-Ok-refused-clause-readable g c = λ told.
+    let long = refused_is c.args.place c.in-Err.stop c.in-Ok-refused.refusal (sym c.refused.ensures ∙ c.in-Ok-refused.is) in
+    too_long_readable c.args.entry.now c.operands_of.result _ c.in-Err.stop long.0 c.operands_of.ensures long.1 (c.in-Err.ensures.verdict told)
+
+pub returns-in-Ok-refused-clause-counts : goal.returns-in-Ok-refused-clause-counts
+returns-in-Ok-refused-clause-counts g c =
+    let long = refused_is c.args.place c.in-Err.stop c.in-Ok-refused.refusal (sym c.refused.ensures ∙ c.in-Ok-refused.is) in
+    let same = stop_counts c.args.entry.now c.operands_of.result c.in-Err.stop _ _ _ c.operands_of.ensures long.1 (λ names have. c.in-Err.ensures.counts names have 0) in
     (same.reads, same.writes)
 
-pub returns-in-Err-Unread-clause-stop : goal.returns-in-Err-Unread-clause-stop
-returns-in-Err-Unread-clause-stop g c = λ told v calls. (
-  refl,
-  stop_shown c.args.entry.now c.operands_of.result _ c.in-Err-Unread.field-0 (fetch.Unread c.in-Err-Unread.input) v c.operands_of.ensures (cc (c.in-Err-Unread.field-0-is)) (c.in-Err-Unread.ensures.verdict told) calls,
-)
+-- ---- a stop of the batch
 
-pub returns-in-Err-Unread-clause-counts : goal.returns-in-Err-Unread-clause-counts
-returns-in-Err-Unread-clause-counts g c = λ out. (
-  refl,
-  stop_counts c.args.entry.now c.operands_of.result c.in-Err-Unread.field-0 (fetch.Unread c.in-Err-Unread.input) _ _ c.operands_of.ensures
-      (cc (c.in-Err-Unread.field-0-is)) (λ names have. c.in-Err-Unread.ensures.counts names have out),
-)
+pub returns-in-Err-refused-clause-stop : goal.returns-in-Err-refused-clause-stop
+returns-in-Err-refused-clause-stop g c = λ told v calls.
+    place_shown c.args.place c.in-Err.stop c.in-Err-refused.stop v (sym c.refused.ensures ∙ c.in-Err-refused.is)
+    (stop_shown c.args.entry.now c.operands_of.result _ c.in-Err.stop c.in-Err.stop v c.operands_of.ensures refl (c.in-Err.ensures.verdict told) calls)
 
-pub returns-in-Err-NoMemory-clause-counts : goal.returns-in-Err-NoMemory-clause-counts
-returns-in-Err-NoMemory-clause-counts g c = λ out.
-    stop_counts c.args.entry.now c.operands_of.result c.in-Err-NoMemory.field-0 fetch.NoMemory _ _ c.operands_of.ensures
-    (cc (c.in-Err-NoMemory.field-0-is)) (λ names have. c.in-Err-NoMemory.ensures.counts names have out)
+pub returns-in-Err-refused-clause-counts : goal.returns-in-Err-refused-clause-counts
+returns-in-Err-refused-clause-counts g c = λ out.
+    place_counts c.args.place c.args.entry.now c.in-Err.stop c.in-Err-refused.stop _ _ (sym c.refused.ensures ∙ c.in-Err-refused.is)
+    (stop_counts c.args.entry.now c.operands_of.result c.in-Err.stop c.in-Err.stop _ _ c.operands_of.ensures refl (λ names have. c.in-Err.ensures.counts names have out))

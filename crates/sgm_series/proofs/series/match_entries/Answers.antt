@@ -3,6 +3,7 @@ use Rattle.std.specs.Prelude.{All, count_by}
 use Rattle.std.proofs.lemmas.List.Elements.{All-append}
 use Rattle.sgm_app.specs.Deliver.{after_files}
 use Rattle.sgm_app.specs.Ends.{faults}
+use Rattle.sgm_app.specs.Unfinished.{AreFinished}
 use Rattle.sgm_app.specs.Verdict.{Verdict}
 use Rattle.sgm_series.specs.Stands.{batch_outcome, stop_outcome}
 use Rattle.sgm_series.specs.Plans.{AreVerdicts, IsJudged, is_refused}
@@ -12,8 +13,10 @@ use Rattle.sgm_series.specs.Received.{Received}
 use Rattle.sgm_series.specs.Turns.{files_for, summaries_for, lines_for}
 use Rattle.sgm_series.proofs.Batches.{batch_verdicts, batch_answered, unmade_shows, unmade_turns, unmade_put, unmade_out, unmade_within, unmade_counts}
 use Rattle.sgm_series.proofs.Batches.{stop_shows, stop_turns, stop_put, stop_out, stop_counts, stop_within, before_lines, shown_since, some_verdicts}
+use Rattle.sgm_series.proofs.Leaving.{finished_both, no_more_along, no_more_back, stop_finished, stop_unfinished, stop_untouched, unmade_finished, unmade_unfinished, unmade_untouched}
 use Rattle.sgm_series.proofs.Slices.{BatchSize, batch_size, full_cut, smaller}
 use Rattle.sgm_series.proofs.Stepping.{put_more, added_more, lines_more, refused_more, judged_more}
+use Rattle.sgm_series.proofs.Turning.{no_more_both}
 use Rattle.sgm_series.proofs.series.match_entries.Goals as goal
 
 pub outcome-requires : goal.outcome-requires
@@ -49,6 +52,17 @@ returns-in-Err-clause-stands g c = λ told vs are.
       (λ out_told. unmade_out n vs c.in-Err.stop _ _ (c.loop-first.invariant.out told out_told vs are)),
       (λ err_told. c.loop-first.invariant.lines told err_told vs are),
     )
+
+pub returns-in-Err-clause-untouched : goal.returns-in-Err-clause-untouched
+returns-in-Err-clause-untouched g c = λ told.
+    rw c.outcome.ensures (unmade_untouched c.loop-first.first c.in-Err.stop _ _ (c.loop-first.invariant.whole_batches c.loop-first-test.true) (c.loop-first.invariant.untouched told))
+
+pub returns-in-Err-clause-unfinished : goal.returns-in-Err-clause-unfinished
+returns-in-Err-clause-unfinished g c =
+    rw c.outcome.ensures (unmade_unfinished c.loop-first.first c.args.entries.now c.in-Err.stop _ _ (no_more_along (λ name. ⊥) _ _ _ c.in-Err.ensures.unfinished c.loop-first.invariant.unfinished))
+
+pub returns-in-Err-clause-finished : goal.returns-in-Err-clause-finished
+returns-in-Err-clause-finished g c = λ told vs are. rw c.outcome.ensures (unmade_finished c.loop-first.first c.in-Err.stop vs _)
 
 pub returns-in-Err-clause-counts : goal.returns-in-Err-clause-counts
 returns-in-Err-clause-counts g c = λ list. let n = c.loop-first.first in let entries = c.args.entries.now in let i = c.loop-first.invariant in
@@ -105,6 +119,21 @@ returns-in-Err-take_turns-clause-stands g c = λ told vs are.
           (c.in-Err-take_turns.ensures.lines err_told (take m (drop n vs)) answered _ _ (c.loop-first.invariant.lines told err_told vs are))),
     )
 
+pub returns-in-Err-take_turns-clause-untouched : goal.returns-in-Err-take_turns-clause-untouched
+returns-in-Err-take_turns-clause-untouched g c = λ told.
+    let some = some_verdicts _ _ c.in-Ok.ensures.count in
+    rw c.outcome-in-Err-take_turns.ensures (stop_untouched c.loop-first.first some.0 c.in-Err-take_turns.stop _ _ _ (c.loop-first.invariant.untouched told) (c.in-Err-take_turns.ensures.out told some.0 some.1))
+
+pub returns-in-Err-take_turns-clause-unfinished : goal.returns-in-Err-take_turns-clause-unfinished
+returns-in-Err-take_turns-clause-unfinished g c =
+    let n = c.loop-first.first in
+    rw c.outcome-in-Err-take_turns.ensures (stop_unfinished n (c.batch_end-end.result - n) c.args.entries.now c.in-Err-take_turns.stop _ _ _
+    (no_more_along (λ name. ⊥) _ _ _ c.in-Ok.ensures.unfinished c.loop-first.invariant.unfinished) c.in-Err-take_turns.ensures.unfinished)
+
+pub returns-in-Err-take_turns-clause-finished : goal.returns-in-Err-take_turns-clause-finished
+returns-in-Err-take_turns-clause-finished g c = λ told vs are.
+    rw c.outcome-in-Err-take_turns.ensures (stop_finished (c.loop-first.first + c.in-Err-take_turns.stop.place) c.in-Err-take_turns.stop.stop vs _)
+
 pub returns-in-Err-take_turns-clause-counts : goal.returns-in-Err-take_turns-clause-counts
 returns-in-Err-take_turns-clause-counts g c = λ list. let n = c.loop-first.first in let entries = c.args.entries.now in let i = c.loop-first.invariant in
     let kept = c.in-Ok.ensures.counts in
@@ -142,6 +171,11 @@ loop-first-preserved g c =
           subst P to (judged_more n m vs (i.judged told vs are) (c.in-Ok-take_turns.ensures.shown told (take m (drop n vs)) (answered told vs are)));
       out = λ told out_told vs are. let P : ℕ → Type 0 = λ k. g.O.Sink.written c.take_turns.new.out ≡ g.O.Sink.written c.args.out.now ++ summaries_for (take k vs) in
           subst P to (added_more n m vs _ _ _ (i.out told out_told vs are) (c.in-Ok-take_turns.ensures.out out_told (take m (drop n vs)) (answered told vs are)));
+      untouched = λ told none. let some = size.some in absurd (grind arith);
+      unfinished = no_more_both _ _ _ i.unfinished (no_more_back _ _ _ c.in-Ok.ensures.unfinished c.in-Ok-take_turns.ensures.unfinished);
+      finished = λ told vs are. let P : ℕ → Type 0 = λ k. AreFinished (files_for (take k vs)) (g.S.Shelf.unfinished c.take_turns.new.shelf) in
+          subst P to (finished_both n m vs _ _ (i.finished told vs are) (no_more_back _ _ _ c.in-Ok.ensures.unfinished c.in-Ok-take_turns.ensures.unfinished)
+          (c.in-Ok-take_turns.ensures.finished (take m (drop n vs)) (answered told vs are)));
       refused = λ told vs are. let P : ℕ → Type 0 = λ k. c.take_turns.new.tally.refused ≡ count_by is_refused (take k vs) in
           subst P to (refused_more n m vs _ _ (i.refused told vs are) (c.in-Ok-take_turns.ensures.refused (take m (drop n vs)) (answered told vs are)));
       lines = λ told err_told vs are. let P : List ℕ → Type 0 = λ x. Received c.take_turns.new.tally.whole x (g.E.Sink.written c.args.err.now) (g.E.Sink.written c.take_turns.new.err) in

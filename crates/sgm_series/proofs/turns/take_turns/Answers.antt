@@ -98,11 +98,10 @@ returns-in-Err-clause-out g c = λ told verdicts are.
 
 pub returns-in-Err-clause-unfinished : goal.returns-in-Err-clause-unfinished
 returns-in-Err-clause-unfinished g c =
-    let at = stop_at g c in (
-      c.index-entries-place.result,
-      slice_get_read c.args.entries.now (length c.args.answers.items) c.in-Some.place c.index-entries-place.result c.requires.count (omega (arith, at.0, at.1)) c.index-entries-place.is,
-      unfinished_stop c.index-entries-place.result c.in-Err.stop _ _ _ c.loop-place.invariant.unfinished c.in-Err.ensures.unfinished,
-    )
+    let at = stop_at g c in
+    unfinished_stop c.args.entries.now c.in-Some.place c.index-entries-place.result c.in-Err.stop _ _ _
+    (slice_get_read c.args.entries.now (length c.args.answers.items) c.in-Some.place c.index-entries-place.result c.requires.count (omega (arith, at.0, at.1)) c.index-entries-place.is)
+    c.loop-place.invariant.unfinished c.in-Err.ensures.unfinished
 
 pub returns-in-Err-clause-counts : goal.returns-in-Err-clause-counts
 returns-in-Err-clause-counts g c =

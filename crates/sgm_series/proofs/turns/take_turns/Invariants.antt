@@ -7,7 +7,7 @@ use Rattle.sgm_series.specs.Plans.{IsJudged, is_refused}
 use Rattle.sgm_series.specs.Turns.{files_for, summaries_for, lines_for}
 use Rattle.sgm_series.specs.Answers.{AreAnswered}
 use Rattle.sgm_series.specs.Received.{ReceivesMore, StaysWhole}
-use Rattle.sgm_series.specs.Turned.{NoMoreUnfinished}
+use Rattle.sgm_series.specs.Unfinished.{NoMoreUnfinished}
 use Rattle.sgm_series.proofs.turns.take_turns.Given as goal
 
 abbrev pub invariant-loop-place : goal.invariant-loop-place
