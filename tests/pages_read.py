@@ -27,7 +27,7 @@ TEST = re.compile(r"#\[test\]\s*(?:#\[[^\n]*\s*)*fn (\w+)")
 
 
 def read(path):
-    with open(path, encoding="utf-8") as file:
+    with open(path, encoding="utf-8", errors="replace") as file:
         return file.read()
 
 
