@@ -326,7 +326,7 @@ class Listener:
         failed = re.match(rb"(\w+): failed", line)
         if self.at == "summary" and failed:
             self.failed.append(failed[1].decode())
-        if b"waiting for" in line and not self.at:
+        if re.match(rb"rt: waiting for |\w+: another copy of the repository ", line):
             self.teller.say(line.decode(errors="replace"))
 
     def last(self, at):

@@ -28,6 +28,7 @@ PATH=$PATH:/usr/sbin
 table() {
     cat <<TABLE
 launcher            -           tests/launcher.sh
+first_build         -           packaging/test_first_build.py
 scripts             opencv      tests/scripts.py
 shellcheck          shellcheck  shellcheck -x sgm sgm_series .ci/run $(cd "$top" && echo tests/*.sh tools/*.sh packaging/*.sh packaging/*.bash)
 reference           -           tests/test_reference.py

@@ -23,9 +23,10 @@ done
 ln -s "$(python3 -c 'import sys; print(sys.executable)')" "$plain/python3"
 
 # The made-up rt. Its checks and its builds say what is asked for by files of the repository: `broken` has the names of
-# crates that aren't proved, or `rt` where none is looked at; where `waits` is there, the second crate's check starts a
-# process that goes on until it is ended, writes its number to the file `child`, and waits; and where `unchanged` is
-# there no program is made. A crate that it has checked says nothing the next time.
+# crates that aren't proved, or `rt` where none is looked at, or `run`; where `waits` is there, the second crate's check
+# starts a process that goes on until it is ended, writes its number to the file `child`, and waits, both of them deaf to
+# SIGTERM where it says so; where `beside` is there another rt works; and where `unchanged` is there no program is made.
+# A crate that it has checked says nothing the next time.
 made_up_rt() {
     cat <<RT
 #!/usr/bin/env bash
@@ -37,6 +38,7 @@ crate=$(basename "$PWD")
 is_broken() { grep -qsx "$1" "$repository/broken"; }
 check() {
     if [ "$1" = middle ] && [ -e "$repository/waits" ]; then
+        grep -qx deaf "$repository/waits" && trap '' TERM
         sleep 600 &
         echo $$ >"$repository/rt"
         echo $! >"$repository/child"
@@ -53,6 +55,7 @@ check() {
         summary+=("$1: ok")
     fi
 }
+[ -e "$repository/beside" ] && echo "rt: waiting for another rt to finish in a folder" >&2
 echo "rt: words" >&2
 echo printed by rt
 case $1 in
@@ -172,7 +175,7 @@ try_interrupted() {
     local signal number
     for signal in TERM HUP; do
         begin "stopped by $signal"
-        touch waits
+        if [ $signal = HUP ]; then echo deaf >waits; else touch waits; fi
         PATH=$path "./$launched" demo 0 >"$work/out" 2>"$work/err" &
         until_it_waits
         kill "-$signal" "$!"
@@ -184,6 +187,16 @@ $launched: stopped: the next start goes on where this one was"
         number=$(kill -l "$signal")
         was_interrupted $((128 + number))
     done
+    # What waits for the build is killed: nobody is left to say so, and the build ends by itself.
+    begin killed
+    touch waits
+    PATH=$path "./$launched" demo 0 >"$work/out" 2>"$work/err" &
+    until_it_waits
+    kill -KILL "$!"
+    { wait "$!"; } 2>/dev/null
+    status=$?
+    for _ in {1..100}; do lives "$(cat child)" && sleep 0.05; done
+    was_interrupted 137
     has script || return
     begin "stopped by Ctrl-C"
     touch waits
@@ -395,6 +408,12 @@ rt: words
 printed by rt
 no linking
 $launched: can't be built: see the messages above"
+
+    begin "beside another rt"
+    touch beside
+    started demo 0
+    is status "$status" 7
+    has_line "standard error" "$err" "$launched: rt: waiting for another rt to finish in a folder"
 
     # A failed build after a good one: the old program isn't started.
     begin stale
