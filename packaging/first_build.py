@@ -375,33 +375,41 @@ def greet(teller, is_first, file):
         teller.say(f"a source is newer than the program: {what} ({file})")
 
 
+def new_file(path):
+    """The file, opened anew: another build may still write to the one of that name."""
+    with contextlib.suppress(FileExistsError):
+        os.mkdir(os.path.dirname(path))
+    with contextlib.suppress(FileNotFoundError):
+        os.remove(path)
+    return open(path, "wb", buffering=0)
+
+
 def make(given):
     """Proves and builds; the status to end with."""
     folder = os.path.join(TOP, "crates", given.crate)
     path = os.path.join(folder, "out", "build.txt")
-    # Another build may still write to the file of that name.
-    os.makedirs(os.path.dirname(path), exist_ok=True)
-    with contextlib.suppress(FileNotFoundError):
-        os.remove(path)
     shown = os.path.relpath(path)
     shown = path if shown.startswith("..") else shown
     teller = Teller(given.program, Times(given.crate, at_once()))
     listener = Listener(teller)
     words = [*(["--cpu", given.cpu] if given.cpu else []), "--", *given.words]
-    with open(path, "wb", buffering=0) as log:
-        greet(teller, not os.path.exists(os.path.join(folder, "out", given.crate)), shown)
-        try:
+    try:
+        with new_file(path) as log:
+            greet(teller, not os.path.exists(os.path.join(folder, "out", given.crate)), shown)
             teller.show()
             prove(listener, folder, log)
             build(listener, folder, log, words)
-        except Stopped as stopped:
-            teller.say("stopped: the next start goes on where this one was")
-            return 128 + stopped.args[0]
-        except Failed as failed:
-            why, last = failed.args
-            teller.say(f"{why}. What was said last, of which {shown} has all:")
-            teller.write(last)
-            return 1
+    except Stopped as stopped:
+        teller.say("stopped: the next start goes on where this one was")
+        return 128 + stopped.args[0]
+    except Failed as failed:
+        why, last = failed.args
+        teller.say(f"{why}. What was said last, of which {shown} has all:")
+        teller.write(last)
+        return 1
+    except OSError as error:
+        teller.say(f"{error.filename or shown}: {error.strerror}")
+        return 1
     teller.phase = "the program is built"
     teller.tell()
     teller.write("\n" * teller.is_open)
