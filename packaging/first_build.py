@@ -11,8 +11,8 @@ that and starts it once, with the WORDs. A start after one that was stopped goes
 All that both say goes to crates/CRATE/out/build.txt. Standard error gets the progress: one line
 that is rewritten where it is a terminal, else a line for each crate when it ends. Nothing goes to
 standard output. Status 1 where a crate isn't proved or the program isn't built; the last lines of
-what was said of it then stand on standard error. SIGINT, SIGTERM and SIGHUP end all that was
-started, and then this with 130, 143 or 129.
+what was said of it, but for those of what is well, then stand on standard error. SIGINT, SIGTERM
+and SIGHUP end all that was started, and then this with 130, 143 or 129.
 
 How the time left is reckoned: packaging/build_times.txt has the seconds of each crate; one that
 has no line there counts as their mean. rt hands out the crates in one order, those with the
@@ -42,8 +42,10 @@ TIMES = os.path.join(TOP, "packaging", "build_times.txt")
 BUILDING = "program"
 # Memory of one crate's proof, in kB.
 PLACE = 1_400_000
-# How many of the last lines are shown where something fails.
-LAST = 20
+# How many of the last lines are shown where something fails, and how much of a line; what is well is
+# left out, since it stands behind the errors: each function that is proved, and what was loaded.
+LAST, WIDEST = 20, 400
+WELL = re.compile(rb".*: proved|(logic|statements|library|crate) .*=\d+.*")
 # Seconds between two looks, and between two rewritings of the line.
 LOOK, REWRITE = 0.2, 1
 # How long what was started has for ending by itself.
@@ -273,7 +275,7 @@ class Teller:
 
     def write(self, text):
         with contextlib.suppress(OSError):
-            os.write(2, text if isinstance(text, bytes) else text.encode(errors="replace"))
+            os.write(2, text.encode(errors="replace"))
 
     def say(self, text):
         """A line of its own, behind the one that is rewritten."""
@@ -318,7 +320,7 @@ class Listener:
         self.times.hears(is_end)
         if is_end or name == "summary":
             self.at = name
-        else:
+        elif not WELL.fullmatch(line):
             self.said[self.at].append(line)
         if is_end:
             self.times.end_of(name)
@@ -330,7 +332,9 @@ class Listener:
             self.teller.say(line.decode(errors="replace"))
 
     def last(self, at):
-        return b"".join(it + b"\n" for it in self.said[at])
+        """The last lines of what was said of a crate, for the eye."""
+        lines = [it.decode(errors="replace") for it in self.said[at]]
+        return "".join(f"{it[:WIDEST]}{' ..' * (len(it) > WIDEST)}\n" for it in lines)
 
 
 # The build
@@ -353,10 +357,7 @@ def build(listener, folder, log, words):
     teller, listener.at = listener.teller, BUILDING
     teller.phase = "building the program"
     teller.show()
-    listener.said.clear()
-    # (what it says has no crate's end in it)
-    hear = listener.said[BUILDING].append
-    status = run(["rt", "run", *words], folder, log, hear, teller.show)
+    status = run(["rt", "run", *words], folder, log, listener.hear, teller.show)
     if status:
         why = f"`rt run {' '.join(words)}` ended with {status}"
         raise Failed(f"not built: {why}", listener.last(BUILDING))

@@ -48,7 +48,11 @@ check() {
     [ -e "$repository/checked.$1" ] && return
     for number in {1..30}; do echo "checking $1, line $number"; done
     if is_broken "$1"; then
-        echo "error: no proof of $1"
+        echo "$1/src/lib.rt:1: error: $(printf '%.0s-' {1..600})"
+        # What is well stands behind it and isn't shown.
+        for number in {1..30}; do echo "fn $1::number_$number: proved"; done
+        printf '%s\n' "fn $1::other: not proved" "statements std: modules loaded=2 checked=1"
+        echo "library base: modules loaded=2 checked=1"
         summary+=("$1: failed (1)") status=1
     else
         : >"$repository/checked.$1"
@@ -373,8 +377,9 @@ in $repository/$crate: run -- $trial"
     is "standard output" "$out" ""
     is "standard error" "$(said "$err")" "$(plain_progress | head -n 4)
 $launched: not proved: middle. What was said last, of which $crate/out/build.txt has all:
-$(printf 'checking middle, line %s\n' {12..30})
-error: no proof of middle
+$(printf 'checking middle, line %s\n' {13..30})
+$(printf 'middle/src/lib.rt:1: error: %s' "$(printf '%.0s-' {1..600})" | cut -c1-400) ..
+fn middle::other: not proved
 $launched: can't be built: see the messages above"
     is "the lines of the check in the file" "$(grep -c "^checking middle, line" "$crate/out/build.txt")" 30
     is "whether there is a program (1: no)" "$([ -e "$program" ]; echo $?)" 1
