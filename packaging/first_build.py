@@ -42,8 +42,8 @@ TIMES = os.path.join(TOP, "packaging", "build_times.txt")
 BUILDING = "program"
 # Memory of one crate's proof, in kB.
 PLACE = 1_400_000
-# How many of the last lines are shown where something fails, and how much of a line; what is well is
-# left out, since it stands behind the errors: each function that is proved, and what was loaded.
+# How many of the last lines are shown where something fails, and how much of a line. What is well
+# stands behind the errors and is left out: each function that is proved, and what was loaded.
 LAST, WIDEST = 20, 400
 WELL = re.compile(rb".*: proved|(logic|statements|library|crate) .*=\d+.*")
 # Seconds between two looks, and between two rewritings of the line.
