@@ -28,6 +28,7 @@ PATH=$PATH:/usr/sbin
 table() {
     cat <<TABLE
 launcher            -           tests/launcher.sh
+first_build         -           packaging/test_first_build.py
 scripts             opencv      tests/scripts.py
 pages               -           tests/pages.py
 broken_pages        -           tests/test_pages.py
