@@ -1,0 +1,7 @@
+pub mod Finer
+pub mod Means
+pub mod Samples
+pub mod Scores
+pub mod Slopes
+pub mod Small
+pub mod Windows
