@@ -1,2 +1,4 @@
+pub mod Numbers
 pub mod Products
+pub mod StepLaws
 pub mod Totals

@@ -1,5 +1,5 @@
 -- Sums over places, and how large they and the covariances of small numbers can be.
-use Rattle.std.proofs.Common.{◌≡◌, ℕ, ◌+◌, ◌*◌, ◌<◌, ◌≤◌, zero, suc, refl, List, ℤ, pos, ◌+ℤ◌, ◌-ℤ◌, ◌*ℤ◌, unsigned_abs, to_z, of_z, w32, arith, ap, ap₂, subst, sym, ◌∙◌}
+use Rattle.std.proofs.Common.{◌≡◌, ℕ, ◌+◌, ◌*◌, ◌<◌, ◌≤◌, zero, suc, refl, List, ℤ, pos, negsuc, ◌+ℤ◌, ◌-ℤ◌, ◌*ℤ◌, unsigned_abs, to_z, of_z, w32, arith, ap, ap₂, subst, sym, ◌∙◌}
 use Rattle.std.proofs.lemmas.Int.{ints, unsigned_abs-mul}
 use Rattle.std.proofs.lemmas.Nat.{mul-le}
 use Rattle.std.proofs.Math.IntN.{*ℤ_comm, suc_ℤ-*ℤ}
@@ -131,3 +131,31 @@ covaries_within (suc n) x y f g hf hg =
     let wider : pairs n * (x * y) + n * (x * y) ≡ pairs (suc n) * (x * y) = omega (arith, ap (λ m. m * (x * y)) next) in
     subst (λ m. Within m (covaries (suc n) f g)) wider
     (sum_of_two (pairs n * (x * y)) (n * (x * y)) (covaries n f g) (sum_below n (λ k. (f k -ℤ f n) *ℤ (g k -ℤ g n))) (covaries (suc n) f g) (covaries_more n f g) s t)
+
+-- numbers from 0 on: their products and their sums
+pub product_from_to : (m n : ℕ) (p q : ℤ) → IsFromTo (pos 0) (pos m) p → IsFromTo (pos 0) (pos n) q → IsFromTo (pos 0) (pos (m * n)) (p *ℤ q)
+product_from_to m n (pos a) (pos b) h k =
+    let most : a * b ≤ m * n = mul-le a b m n (omega (arith, ints, h.1)) (omega (arith, ints, k.1)) in
+    (omega (arith, ints), omega (arith, ints, most))
+product_from_to m n (pos a) (negsuc b) h k = absurd (omega (arith, ints, k.0))
+product_from_to m n (negsuc a) q h k = absurd (omega (arith, ints, h.0))
+
+pub sum_from_to : (n m : ℕ) (f : ℕ → ℤ) → ((k : ℕ) → k < n → IsFromTo (pos 0) (pos m) (f k)) → IsFromTo (pos 0) (pos (n * m)) (sum_below n f)
+unfolding sum_below
+sum_from_to zero m f h = (omega (arith, ints), omega (arith, ints))
+sum_from_to (suc n) m f h =
+    let s = sum_from_to n m f (λ k lt. h k (omega arith)) in
+    let t = h n (omega arith) in
+    (omega (arith, ints, s.0, t.0), omega (arith, ints, s.1, t.1))
+
+pub square_from_to : (m : ℕ) (p : ℤ) → Within m p → IsFromTo (pos 0) (pos (m * m)) (p *ℤ p)
+square_from_to m (pos a) h =
+    let most : a * a ≤ m * m = mul-le a a m m (omega (arith, ints, h.1)) (omega (arith, ints, h.1)) in
+    (omega (arith, ints), omega (arith, ints, most))
+square_from_to m (negsuc a) h =
+    let least : suc a ≤ m = omega (arith, ints, h.0) in
+    let most : suc a * suc a ≤ m * m = mul-le (suc a) (suc a) m m least least in
+    (omega (arith, ints), omega (arith, ints, most))
+
+pub products_same : (f g p q : ℕ → ℤ) → ((k : ℕ) → k < 25 → f k ≡ p k) → ((k : ℕ) → k < 25 → g k ≡ q k) → products f g ≡ products p q
+products_same f g p q hf hg = sum_same 25 (λ k. f k *ℤ g k) (λ k. p k *ℤ q k) (λ k lt. ap₂ (λ (y z : ℤ). y *ℤ z) (hf k lt) (hg k lt))

@@ -65,10 +65,9 @@ fn steps_around(map: &Field, x: usize, y: usize, m: u16) -> Steps
         marks: [0; PLACES],
     };
     for k in 0..PLACES {
-        if let Some(step) = step_to(REACH, m, map.around(2, x, y, k % 5, k / 5)) {
-            found.steps[k] = step;
-            found.marks[k] = 1;
-        }
+        let step = step_to(REACH, m, map.around(2, x, y, k % 5, k / 5));
+        found.steps[k] = step.unwrap_or(0);
+        found.marks[k] = i16::from(step.is_some());
     }
     found
 }
