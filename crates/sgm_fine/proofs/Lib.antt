@@ -1,3 +1,4 @@
+pub mod Blends
 pub mod Numbers
 pub mod Products
 pub mod StepLaws

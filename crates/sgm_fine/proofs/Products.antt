@@ -29,3 +29,10 @@ times_more a b c d =
     let left = *ℤ_comm (a +ℤ c) b ∙ times_sum b a c in
     let right = *ℤ_comm (a +ℤ c) d ∙ times_sum d a c in
     omega (arith, ints, outer, left, right)
+
+-- the first two of three factors exchanged
+pub times_swap : (a b c : ℤ) → a *ℤ (b *ℤ c) ≡ b *ℤ (a *ℤ c)
+times_swap a b c =
+    let e : up (b *ℤ c) + (up b * down c + down b * up c) ≡ down (b *ℤ c) + (up b * up c + down b * down c) = omega (arith, ints) in
+    let f : up (a *ℤ c) + (up a * down c + down a * up c) ≡ down (a *ℤ c) + (up a * up c + down a * down c) = omega (arith, ints) in
+    omega (arith, ints, ap (λ n. up a * n) e, ap (λ n. down a * n) e, ap (λ n. up b * n) f, ap (λ n. down b * n) f)

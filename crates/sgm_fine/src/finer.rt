@@ -2,7 +2,7 @@
 
 use crate::around::Field;
 use crate::samples::{Pixel, samples_at};
-use crate::scores::{WindowSums, fit_at, left_part, score, window_sums};
+use crate::scores::{WindowSums, fit_at, left_part, score_of, window_sums};
 use crate::slopes::slopes_at;
 use crate::small::small_window;
 use sgm_base::{DispMap, Plane, Span};
@@ -16,7 +16,7 @@ fn best(sums: &WindowSums, m: i32, most: i32) -> (i32, u64) {
     for k in 0..ORDER.len() {
         let c = ORDER[k];
         if 0 <= m + c && m + c <= most {
-            let score = score(fit_at(sums, c));
+            let score = score_of(fit_at(sums, c));
             if best.1 < score {
                 best = (c, score);
             }
