@@ -1,2 +1,3 @@
+pub mod Halvings
 pub mod Products
 pub mod Totals
