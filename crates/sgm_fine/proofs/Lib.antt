@@ -1,3 +1,4 @@
 pub mod Halvings
+pub mod Nearby
 pub mod Products
 pub mod Totals
