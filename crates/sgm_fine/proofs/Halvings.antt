@@ -141,7 +141,7 @@ small_within limit low high a v all z h has e =
     let lt = halved_below (limit + 1) low high a v all h has in
     (omega (arith, ints, e, lt), omega (arith, ints, e, lt))
 
--- the samples of three windows
+-- the samples at three offsets
 pub in_first : (xs ys zs : List ℕ) (k : ℕ) → k < length xs → Contains (xs ++ ys ++ zs) (slice_index xs k)
 in_first xs ys zs k lt = Contains-append_left (xs ++ ys) zs _ (Contains-append_left xs ys _ (Contains-get_or xs k 0 lt))
 

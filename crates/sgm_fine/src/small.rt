@@ -41,7 +41,7 @@ fn greatest_of(samples: &Samples) -> u32
     greatest
 }
 
-/// The least of the samples of three windows.
+/// The least of the samples at three offsets.
 #[inline]
 fn least_of_three(after: &Samples, here: &Samples, before: &Samples) -> u32
     ensures { IsLeast result (after.now ++ here.now ++ before.now) }
@@ -50,7 +50,7 @@ fn least_of_three(after: &Samples, here: &Samples, before: &Samples) -> u32
     first.min(least_of(before))
 }
 
-/// The greatest of the samples of three windows.
+/// The greatest of the samples at three offsets.
 #[inline]
 fn greatest_of_three(after: &Samples, here: &Samples, before: &Samples) -> u32
     ensures { IsGreatest result (after.now ++ here.now ++ before.now) }
