@@ -1,4 +1,6 @@
 pub mod Blends
+pub mod Halvings
+pub mod Nearby
 pub mod Numbers
 pub mod Products
 pub mod StepLaws

@@ -1,6 +1,6 @@
 -- Samples made small.
-use Rattle.std.specs.Prelude.{◌≡◌, ℕ, ◌<◌, ◌-◌, ◌/◌, ◌^◌, ◌++◌, nat_lt, min, List, unwrap_or, slice_index, ℤ, pos, neg_ℤ}
-use Rattle.std.specs.List.{find, list_all, range_with_len, reduce}
+use Rattle.std.specs.Prelude.{◌≡◌, ℕ, ◌<◌, ◌≤◌, ◌-◌, ◌/◌, ◌^◌, ◌++◌, nat_lt, min, List, unwrap_or, slice_index, ℤ, pos, neg_ℤ}
+use Rattle.std.specs.List.{All, Contains, find, list_all, range_with_len, reduce}
 use Rattle.sgm_base.specs.Ranges.{IsFromTo}
 use Rattle.sgm_fine.specs.Samples.{Centre, half, lefts, rights}
 use Rattle.sgm_fine.specs.Windows.{number}
@@ -11,6 +11,16 @@ use Rattle.sgm_fine.specs.declared.sums.TheConstants.{PLACES}
 -- the least of some samples
 abbrev pub least : List ℕ → ℕ
 least samples = unwrap_or (reduce min samples) 0
+
+-- one of some numbers, and none of them is below it
+pub record IsLeast (number : ℕ) (numbers : List ℕ) : Type 0 where
+  pub contained : Contains numbers number
+  pub bound : All (λ v. number ≤ v) numbers
+
+-- one of some numbers, and none of them is above it
+pub record IsGreatest (number : ℕ) (numbers : List ℕ) : Type 0 where
+  pub contained : Contains numbers number
+  pub bound : All (λ v. v ≤ number) numbers
 
 -- a sample less the least, halved so often
 abbrev pub halved : ℕ → ℕ → ℕ → ℕ
