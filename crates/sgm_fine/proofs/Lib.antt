@@ -1,2 +1,4 @@
+pub mod PlaceSamples
 pub mod Products
 pub mod Totals
+pub mod WindowSamples
