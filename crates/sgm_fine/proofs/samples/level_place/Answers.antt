@@ -9,6 +9,7 @@ pub returns-clause-value : goal.returns-clause-value
 returns-clause-value c = omega (arith, ints, c.requires.pixel.0, c.requires.pixel.1, c.from.ensures, c.from-2.ensures)
 
 pub returns-clause-small : goal.returns-clause-small
-returns-clause-small c =
-    (omega (arith, ints, c.requires.pixel.0, c.requires.pixel.1, c.from.ensures, c.from-2.ensures),
-    omega (arith, ints, c.requires.pixel.0, c.requires.pixel.1, c.from.ensures, c.from-2.ensures))
+returns-clause-small c = (
+  omega (arith, ints, c.requires.pixel.0, c.requires.pixel.1, c.from.ensures, c.from-2.ensures),
+  omega (arith, ints, c.requires.pixel.0, c.requires.pixel.1, c.from.ensures, c.from-2.ensures),
+)

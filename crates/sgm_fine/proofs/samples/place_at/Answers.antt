@@ -1,4 +1,4 @@
-use Rattle.std.proofs.Common.{◌≡◌, ℕ, ◌+◌, ◌-◌, ◌/◌, pos, neg_ℤ, Some, refl, ap, sym, is_some, ◌∙◌}
+use Rattle.std.proofs.Common.{◌≡◌, ◌+◌, ◌-◌, ◌/◌, pos, neg_ℤ, Some, refl, ap, sym, is_some, ◌∙◌}
 use Rattle.sgm_fine.specs.Samples.{Centre, between, centre, half, left_at, right_at, sample}
 use Rattle.sgm_fine.proofs.PlaceSamples.{all_four, no_after, no_before, no_here, place_after, place_before, place_here}
 use Rattle.sgm_fine.proofs.samples.place_at.Goals as goal

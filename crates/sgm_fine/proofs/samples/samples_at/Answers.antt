@@ -1,4 +1,4 @@
-use Rattle.std.proofs.Common.{◌≡◌, ◌^◌, ◌<◌, ◌≤◌, true, false, is_some, pos, neg_ℤ, refl, ap, sym, ◌∙◌, arith, length-set}
+use Rattle.std.proofs.Common.{◌≡◌, ◌^◌, ◌<◌, false, is_some, pos, neg_ℤ, refl, ap, sym, ◌∙◌, arith, length-set}
 use Rattle.std.proofs.lemmas.List.Elements.{All-replicate, All-set}
 use Rattle.sgm_fine.specs.Samples.{Centre, centre, half, has, left_at, right_at}
 use Rattle.sgm_fine.proofs.WindowSamples.{all_pass, has_below, list_all_places, list_more, none_below, one_fails}
