@@ -2,6 +2,8 @@ pub mod Blends
 pub mod Halvings
 pub mod Nearby
 pub mod Numbers
+pub mod PlaceSamples
 pub mod Products
 pub mod StepLaws
 pub mod Totals
+pub mod WindowSamples

@@ -1,11 +1,12 @@
 -- The samples of a window that lies along the surface: on the left, and at three offsets on the right.
-use Rattle.std.specs.Prelude.{◌≡◌, ℕ, ◌<◌, ◌^◌, All, ◌+◌, ◌-◌, ◌*◌, ◌/◌, ◌%◌, ◌==◌, ◌&&◌, Bool, if◌then◌else◌, List, map, Option, Some, None, is_some, option_and_then, option_map, unwrap_or, unsigned_abs, ℤ, pos, neg_ℤ, ◌+ℤ◌, ◌-ℤ◌, ◌*ℤ◌}
+use Rattle.std.specs.Prelude.{◌≡◌, ℕ, ◌<◌, ◌^◌, All, ◌+◌, ◌-◌, ◌*◌, ◌/◌, ◌%◌, ◌==◌, ◌&&◌, Bool, if◌then◌else◌, List, map, Option, Some, is_some, option_and_then, option_map, unwrap_or, unsigned_abs, ℤ, pos, neg_ℤ, ◌+ℤ◌, ◌-ℤ◌, ◌*ℤ◌}
 use Rattle.std.specs.Int.{int_div_euclid, int_rem_euclid}
 use Rattle.std.specs.List.{list_all, range_with_len}
 use Rattle.sgm_base.specs.Columns.{column_within}
 use Rattle.sgm_base.specs.Values.{Values, value_at}
 use Rattle.sgm_fine.specs.Slopes.{rise, step_at}
 use Rattle.sgm_fine.specs.Windows.{column_of, row_of_place, value_around}
+use Rattle.sgm_fine.specs.declared.samples.Place.{Place}
 use Rattle.sgm_fine.specs.declared.samples.Window.{Window}
 use Rattle.sgm_fine.specs.declared.sums.TheConstants.{PLACES}
 
@@ -53,10 +54,12 @@ right_at c offset k = between (sample c.right (c.y + k / 5 - 2)) (place_of c k +
 abbrev pub half : ℤ
 half = pos 8
 
--- whether all samples are there
+-- whether the samples of the place k are there, and whether all are
+abbrev pub has : Centre → ℕ → Bool
+has c k = is_some (left_at c k) && is_some (right_at c half k) && is_some (right_at c (pos 0) k) && is_some (right_at c (neg_ℤ half) k)
+
 abbrev pub has_all : Centre → Bool
-has_all c = list_all (λ k. is_some (left_at c k) && is_some (right_at c half k) && is_some (right_at c (pos 0) k) && is_some (right_at c (neg_ℤ half) k))
-    (range_with_len 0 PLACES)
+has_all c = list_all (λ k. has c k) (range_with_len 0 PLACES)
 
 -- all samples, row by row
 abbrev pub lefts : Centre → List ℕ
@@ -65,14 +68,27 @@ lefts c = map (λ k. unwrap_or (left_at c k) 0) (range_with_len 0 PLACES)
 abbrev pub rights : Centre → ℤ → List ℕ
 rights c offset = map (λ k. unwrap_or (right_at c offset k) 0) (range_with_len 0 PLACES)
 
--- what the code holds of them
+-- what the code holds of those of the place k
+pub record HoldsPlace (place : Place) (p : Centre) (k : ℕ) : Type 0 where
+  pub left : left_at p k ≡ Some place.left
+  pub after : right_at p half k ≡ Some place.after
+  pub here : right_at p (pos 0) k ≡ Some place.here
+  pub before : right_at p (neg_ℤ half) k ≡ Some place.before
+
+-- and of all
 pub record HoldsSamples (window : Window) (p : Centre) : Type 0 where
   pub left : window.left ≡ lefts p
   pub after : window.after ≡ rights p half
   pub here : window.here ≡ rights p (pos 0)
   pub before : window.before ≡ rights p (neg_ℤ half)
 
--- what a window keeps: the left samples have 16 bits, and those on the right 20
+-- what a place and a window keep: the left samples have 16 bits, and those on the right 20
+pub record IsPlace (place : Place) : Type 0 where
+  pub left : place.left < 2 ^ 16
+  pub after : place.after < 2 ^ 20
+  pub here : place.here < 2 ^ 20
+  pub before : place.before < 2 ^ 20
+
 pub record IsWindow (window : Window) : Type 0 where
   pub left : All (λ v. v < 2 ^ 16) window.left
   pub after : All (λ v. v < 2 ^ 20) window.after
