@@ -4,6 +4,7 @@ pub mod Nearby
 pub mod Numbers
 pub mod PlaceSamples
 pub mod Products
+pub mod SideSums
 pub mod StepLaws
 pub mod Totals
 pub mod WindowSamples
