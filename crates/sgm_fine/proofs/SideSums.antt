@@ -1,8 +1,8 @@
 -- What the code computes of a window's sums.
-use Rattle.std.proofs.Common.{◌≡◌, ℕ, ◌+◌, ◌*◌, ◌<◌, ℤ, pos, ◌+ℤ◌, ◌-ℤ◌, ◌*ℤ◌, FitsSigned, to_z, of_z, w32, w64, arith, ap, ap₂, ◌∙◌}
+use Rattle.std.proofs.Common.{◌≡◌, ℕ, ◌+◌, ◌-◌, ◌*◌, ◌<◌, ◌≤◌, ℤ, pos, ◌+ℤ◌, ◌-ℤ◌, ◌*ℤ◌, FitsSigned, to_z, of_z, w32, w64, arith, ap, ap₂, ◌∙◌}
 use Rattle.std.proofs.lemmas.Int.{ints}
 use Rattle.sgm_base.specs.Ranges.{IsFromTo, Within}
-use Rattle.sgm_fine.proofs.Totals.{product_within, sum_from_to}
+use Rattle.sgm_fine.proofs.Totals.{product_from_to, product_within, sum_from_to}
 use Rattle.sgm_fine.specs.Windows.{over}
 
 -- what the code computes as a * b, of numbers that are p and q
@@ -58,3 +58,27 @@ pub total_from_to : (m : ℕ) (f : ℕ → ℤ) (r : ℤ) → 25 * m < 214748364
 total_from_to m f r few h e =
     let s = sum_from_to 25 m f h in
     (omega (arith, ints, few, e, s.0, s.1), omega (arith, ints, few, e, s.0, s.1))
+
+pub of_eight : (n : ℕ) → n ≤ 8 → (8 - n) + n ≡ 8
+of_eight n few = omega (arith, few)
+
+-- as many parts of two numbers from 0 to m as make eight of one
+pub eighths_from_to : (a n m : ℕ) (h s : ℤ) → a + n ≡ 8 → IsFromTo (pos 0) (pos m) h → IsFromTo (pos 0) (pos m) s → IsFromTo (pos 0) (pos (8 * m)) ((pos a *ℤ h) +ℤ (pos n *ℤ s))
+eighths_from_to a n m h s e p q =
+    let some : IsFromTo (pos 0) (pos a) (pos a) = (omega (arith, ints), omega (arith, ints)) in
+    let others : IsFromTo (pos 0) (pos n) (pos n) = (omega (arith, ints), omega (arith, ints)) in
+    let whole : (a * m) + (n * m) ≡ 8 * m = omega (arith, ap (λ k. k * m) e) in
+    let x = product_from_to a m (pos a) h some p in
+    let y = product_from_to n m (pos n) s others q in
+    (omega (arith, ints, x.0, y.0), omega (arith, ints, whole, x.1, y.1))
+
+-- a number of 32 bits that is cast to 64
+pub cast : (r z : ℤ) → FitsSigned w32 z → r ≡ to_z w32 (of_z w32 z) → to_z w64 (of_z w64 r) ≡ z
+cast r z f e = omega (arith, ints, f, e)
+
+pub narrow : (z : ℤ) → FitsSigned w32 z → Within 2147483648 z
+narrow z f = (omega (arith, ints, f), omega (arith, ints, f))
+
+-- parts of two numbers of which each is another one
+pub eighths_same : (a n : ℕ) (h s y z : ℤ) → h ≡ y → s ≡ z → (pos a *ℤ h) +ℤ (pos n *ℤ s) ≡ (pos a *ℤ y) +ℤ (pos n *ℤ z)
+eighths_same a n h s y z eh es = ap₂ (λ (t u : ℤ). (pos a *ℤ t) +ℤ (pos n *ℤ u)) eh es

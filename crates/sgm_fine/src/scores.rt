@@ -72,10 +72,10 @@ pub(crate) fn window_sums(window: &SmallWindow) -> WindowSums
 #[inline]
 fn blend(n: u32, here: i64, side: i64) -> i64
     requires eighths { n ≤ 8 }
-    requires here { Within (2 ^ 38) here }
-    requires side { Within (2 ^ 38) side }
+    requires here { Within (2 ^ 35) here }
+    requires side { Within (2 ^ 35) side }
     ensures value { result ≡ (pos (8 - n) *ℤ here) +ℤ (pos n *ℤ side) }
-    ensures small { Within (2 ^ 41) result }
+    ensures small { Within (2 ^ 38) result }
 {
     i64::from(8 - n) * here + i64::from(n) * side
 }
@@ -83,7 +83,7 @@ fn blend(n: u32, here: i64, side: i64) -> i64
 /// A covariance: so many times the sum of products as there are places, less the product of the sums.
 #[inline]
 fn covariance_of(products: i64, a: i64, b: i64) -> i64
-    requires products { Within (2 ^ 42) products }
+    requires products { Within (2 ^ 41) products }
     requires a { Within (2 ^ 20) a }
     requires b { Within (2 ^ 20) b }
     ensures { result ≡ (pos PLACES *ℤ products) -ℤ (a *ℤ b) }
@@ -129,7 +129,7 @@ fn sum_between(here: i32, side: i32, n: u32) -> i64
 fn products_between(here: i32, side: i32, n: u32) -> i64
     requires eighths { n ≤ 8 }
     ensures value { result ≡ (pos (8 - n) *ℤ here) +ℤ (pos n *ℤ side) }
-    ensures small { Within (2 ^ 35) result }
+    ensures small { Within (2 ^ 34) result }
 {
     blend(n, i64::from(here), i64::from(side))
 }
@@ -139,7 +139,7 @@ fn products_between(here: i32, side: i32, n: u32) -> i64
 fn squares_between(here: i32, cross: i32, side: i32, n: u32) -> i64
     requires eighths { n ≤ 8 }
     ensures value { result ≡ (pos (8 - n) *ℤ ((pos (8 - n) *ℤ here) +ℤ (pos n *ℤ cross))) +ℤ (pos n *ℤ ((pos (8 - n) *ℤ cross) +ℤ (pos n *ℤ side))) }
-    ensures small { Within (2 ^ 41) result }
+    ensures small { Within (2 ^ 38) result }
 {
     let nearer = products_between(here, cross, n);
     let further = products_between(cross, side, n);
