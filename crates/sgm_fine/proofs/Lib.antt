@@ -6,6 +6,7 @@ pub mod PixelSums
 pub mod PlaceSamples
 pub mod PlaceTests
 pub mod Products
+pub mod SideSums
 pub mod StepLaws
 pub mod Totals
 pub mod WindowSamples

@@ -112,6 +112,40 @@ fn side_of(sums: &WindowSums, c: i32) -> (Sums, i32)
     }
 }
 
+/// The sum of the numbers that lie `n` eighths of the way from those of no offset to those of another one.
+#[inline]
+fn sum_between(here: i32, side: i32, n: u32) -> i64
+    requires eighths { n ≤ 8 }
+    requires here { IsFromTo (pos 0) (pos 102375) here }
+    requires side { IsFromTo (pos 0) (pos 102375) side }
+    ensures value { result ≡ (pos (8 - n) *ℤ here) +ℤ (pos n *ℤ side) }
+    ensures small { IsFromTo (pos 0) (pos 819000) result }
+{
+    blend(n, i64::from(here), i64::from(side))
+}
+
+/// The same of sums of products.
+#[inline]
+fn products_between(here: i32, side: i32, n: u32) -> i64
+    requires eighths { n ≤ 8 }
+    ensures value { result ≡ (pos (8 - n) *ℤ here) +ℤ (pos n *ℤ side) }
+    ensures small { Within (2 ^ 34) result }
+{
+    blend(n, i64::from(here), i64::from(side))
+}
+
+/// The sum of their squares.
+#[inline]
+fn squares_between(here: i32, cross: i32, side: i32, n: u32) -> i64
+    requires eighths { n ≤ 8 }
+    ensures value { result ≡ (pos (8 - n) *ℤ ((pos (8 - n) *ℤ here) +ℤ (pos n *ℤ cross))) +ℤ (pos n *ℤ ((pos (8 - n) *ℤ cross) +ℤ (pos n *ℤ side))) }
+    ensures small { Within (2 ^ 38) result }
+{
+    let nearer = products_between(here, cross, n);
+    let further = products_between(cross, side, n);
+    blend(n, nearer, further)
+}
+
 /// The fit of sums that lie `n` eighths of the way from those of no offset to those of another one.
 #[inline]
 fn fit_between(left: i32, here: Sums, side: Sums, cross: i32, n: u32) -> Fit
@@ -122,13 +156,12 @@ fn fit_between(left: i32, here: Sums, side: Sums, cross: i32, n: u32) -> Fit
     ensures { (l h s : ℕ → ℤ) → left ≡ over l → HoldsSide here l h → HoldsSide side l s → cross ≡ products h s
         → (result.together ≡ covariance l (blended h s n)) × (result.right ≡ covariance (blended h s n) (blended h s n)) }
 {
-    let sum = blend(n, i64::from(here.sum), i64::from(side.sum));
-    let products = blend(n, i64::from(here.left), i64::from(side.left));
-    let nearer = blend(n, i64::from(here.square), i64::from(cross));
-    let further = blend(n, i64::from(cross), i64::from(side.square));
+    let sum = sum_between(here.sum, side.sum, n);
+    let products = products_between(here.left, side.left, n);
+    let squares = squares_between(here.square, cross, side.square, n);
     Fit {
         together: covariance_of(products, i64::from(left), sum),
-        right: covariance_of(blend(n, nearer, further), sum, sum),
+        right: covariance_of(squares, sum, sum),
     }
 }
 
