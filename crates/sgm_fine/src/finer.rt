@@ -1,10 +1,10 @@
 //! The finer value of a pixel.
 
-ghost use Rattle.std.specs.Prelude.{◌≡◌, ℕ, ◌+◌, ◌-◌, ◌*◌, ◌/◌, ◌^◌, ◌<◌, ◌≤◌, ◌&&◌, not, ℤ, pos, ◌≤ℤ◌, ◌+ℤ◌, ◌*ℤ◌, int_le, unsigned_abs, if◌then◌else◌, length, option_map, slice_index_or, None, IfSome, EachIndex};
+ghost use Rattle.std.specs.Prelude.{◌≡◌, ℕ, ◌+◌, ◌-◌, ◌*◌, ◌/◌, ◌^◌, ◌<◌, ◌≤◌, pos, ◌≤ℤ◌, ◌+ℤ◌, unsigned_abs, if◌then◌else◌, length, option_map, slice_index_or, None, IfSome, EachIndex};
 ghost use Rattle.sgm_base.specs.Disparities.{IsFirst};
 ghost use Rattle.sgm_base.specs.Ranges.{IsFromTo, Within};
 ghost use Rattle.sgm_base.specs.Values.{AtMost, value_at};
-ghost use Rattle.sgm_fine.specs.Finer.{ArePixelSums, AreSmallSums, best, by_itself, explains, finer_value, fits, left_alone, place_score, tells, with_left};
+ghost use Rattle.sgm_fine.specs.Finer.{ArePixelSums, AreSmallSums, best, finer_value, fits, place_score, tells};
 ghost use Rattle.sgm_fine.specs.Samples.{Centre, centre};
 ghost use Rattle.sgm_fine.specs.Scores.{IsSums};
 
@@ -36,7 +36,7 @@ fn score_at(sums: &WindowSums, m: u16, most: u16, c: i32) -> u64
 
 /// One of the places that are tried.
 #[inline]
-fn place_of(k: usize) -> i32
+fn tried(k: usize) -> i32
     requires { k < 17 }
     ensures value { result ≡ slice_index_or ORDER k (pos 0) }
     ensures near { Within 8 result }
@@ -56,7 +56,7 @@ fn best(sums: &WindowSums, m: u16, most: u16) -> i32
     let mut best = 0;
     let mut score = score_of(fit_at(sums, 0));
     for k in 1..17 {
-        let c = place_of(k);
+        let c = tried(k);
         let other = score_at(sums, m, most, c);
         if score < other {
             best = c;

@@ -37,8 +37,8 @@ loop-k-preserved c =
     let k = c.loop-k.k in
     let i = c.loop-k.invariant in
     let lt = c.loop-k-test.true in
-    let here = c.place_of-c.result in
-    let near = c.place_of-c.ensures.near in
+    let here = c.tried-c.result in
+    let near = c.tried-c.ensures.near in
     let same : to_z w32 (of_z w32 here) ≡ here = omega (arith, ints, near.0, near.1) in
     elim c.if-score-other.branch [
       | then-score-other w ↦
@@ -54,7 +54,7 @@ loop-k-preserved c =
             held = λ p h.
                 let old = i.held p h in
                 let other = c.score_at-other.ensures.value p h ∙ ap (λ z. if fits most m z then place_score p z else 0) same in
-                let new = best_takes (fits most m) (place_score p) k here (to_z w32 c.loop-k.best-bits) c.loop-k.score c.score_at-other.result lt c.place_of-c.ensures.value old.0 old.1 other w.if-score-other.true in
+                let new = best_takes (fits most m) (place_score p) k here (to_z w32 c.loop-k.best-bits) c.loop-k.score c.score_at-other.result lt c.tried-c.ensures.value old.0 old.1 other w.if-score-other.true in
                 (is ∙ new.0, w.score-is ∙ new.1 ∙ ap (place_score p) (sym is));
           }
       | else-score-other w ↦
@@ -69,7 +69,7 @@ loop-k-preserved c =
             held = λ p h.
                 let old = i.held p h in
                 let other = c.score_at-other.ensures.value p h ∙ ap (λ z. if fits most m z then place_score p z else 0) same in
-                let new = best_keeps (fits most m) (place_score p) k here (to_z w32 c.loop-k.best-bits) c.loop-k.score c.score_at-other.result lt c.place_of-c.ensures.value old.0 old.1 other w.if-score-other.false in
+                let new = best_keeps (fits most m) (place_score p) k here (to_z w32 c.loop-k.best-bits) c.loop-k.score c.score_at-other.result lt c.tried-c.ensures.value old.0 old.1 other w.if-score-other.false in
                 (is ∙ new, w.score-is ∙ old.1 ∙ ap (place_score p) (sym is));
           }
     ]
