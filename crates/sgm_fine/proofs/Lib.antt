@@ -2,7 +2,9 @@ pub mod Blends
 pub mod Halvings
 pub mod Nearby
 pub mod Numbers
+pub mod PixelSums
 pub mod PlaceSamples
+pub mod PlaceTests
 pub mod Products
 pub mod SideSums
 pub mod StepLaws

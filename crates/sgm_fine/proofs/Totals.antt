@@ -113,7 +113,7 @@ pub sum_of_two : (m n : ℕ) (p q r : ℤ) → r ≡ p +ℤ q → Within m p →
 sum_of_two m n p q r e h k = (omega (arith, ints, e, h.0, k.0), omega (arith, ints, e, h.1, k.1))
 
 -- the pairs of n places
-pub pairs : ℕ → ℕ
+unfoldable pub pairs : ℕ → ℕ
 pairs zero = 0
 pairs (suc n) = pairs n + n
 
