@@ -1,10 +1,12 @@
 pub mod Blends
+pub mod Covariances
 pub mod Halvings
 pub mod Nearby
 pub mod Numbers
 pub mod PlaceSamples
 pub mod Products
 pub mod SideSums
+pub mod Squares
 pub mod StepLaws
 pub mod Totals
 pub mod WindowSamples
