@@ -9,4 +9,5 @@ pub mod SideSums
 pub mod Squares
 pub mod StepLaws
 pub mod Totals
+pub mod Unhalved
 pub mod WindowSamples
