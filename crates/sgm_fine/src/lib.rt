@@ -5,6 +5,7 @@
 
 mod around;
 mod finer;
+pub mod laws;
 mod means;
 mod samples;
 mod scores;
