@@ -15,6 +15,3 @@ mod sums;
 
 pub use finer::finer_row;
 pub use means::mean_row;
-
-#[cfg(test)]
-mod tests;
