@@ -31,6 +31,7 @@ launcher            -           tests/launcher.sh
 scripts             opencv      tests/scripts.py
 shellcheck          shellcheck  shellcheck -x sgm sgm_series .ci/run $(cd "$top" && echo tests/*.sh tools/*.sh packaging/*.sh packaging/*.bash)
 reference           -           tests/test_reference.py
+reference_fine      -           tests/test_reference_fine.py
 reference_lists     -           tests/test_reference_lists.py
 reference_series    -           tests/test_reference_series.py
 quick_reference     pictures    tests/test_quick_reference.py
