@@ -157,8 +157,8 @@ done
 
 # What vouches for it.
 
-trusted=$(sed -n 's/^\*\*Trusted\*\*: //p' README.md)
-[ -n "$trusted" ] || fail "README.md has no paragraph that begins with **Trusted**:"
+trusted=$(sed -n 's/^\*\*Trusted\*\*: //p' docs/PROVED.md)
+[ -n "$trusted" ] || fail "docs/PROVED.md has no paragraph that begins with **Trusted**:"
 (cd "$usr" && sha256sum lib/sgm/*) >"$work/sums"
 fold -s -w 112 <<<"$trusted" | sed 's/^/    /; s/ *$//' >"$work/trusted"
 sed -e "s/@VERSION@/$version/" -e "s/@COMMIT@/$commit/" -e "s/@KIT@/$(rt version)/" -e "s/@CHANGED@/$changed/" \

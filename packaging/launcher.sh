@@ -7,9 +7,9 @@
 #   help     the text of --help;
 #   trial    the words of a run that shows that what was built runs, split at spaces.
 #
-# The program is built first where a source is newer than it; building proves every crate. Nothing but the program
-# writes to standard output, except for --help (or -h) and --version, which are answered here. tests/launcher.sh
-# tries it.
+# The program is built first where a source is newer than it; building proves the crates that it stands on
+# (packaging/first_build.py). Nothing but the program writes to standard output, except for --help (or -h) and
+# --version, which are answered here. tests/launcher.sh tries it.
 #
 # What is installed starts by packaging/launcher.c, which does the same but for building.
 # shellcheck shell=sh
@@ -70,27 +70,47 @@ cpu_flags() {
     echo --cpu x86-64-v3
 }
 
+# Proves and builds, by a script which tells its progress. Where a signal ends this one, it ends that too and waits for
+# it, and then ends as the signal has it: a loop around this start ends with it.
 build() {
     if ! command -v rt >/dev/null; then
         echo "$name: can't be built: rt, the toolchain's command, isn't on the PATH" >&2
         return 1
     fi
-    if [ ! -e "$program" ]; then
-        lines=$(cat "$top"/crates/*/src/*.rt | wc -l)
-        minutes="$((lines / 1000 + 1)) to $((3 * lines / 1000 + 1)) minutes"
-        echo "$name: first build: this proves every crate, about $minutes where none is proved;" >&2
-        echo "$name: later starts take no time until a source changes" >&2
-    else
-        echo "$name: a source is newer than the program: proving and building what has changed" >&2
-    fi
+    builder='' signal=''
+    trap 'signal=TERM; hand_on' TERM
+    trap 'signal=HUP; hand_on' HUP
+    # The terminal sends this one to both.
+    trap : INT
     # shellcheck disable=SC2046,SC2086
-    if ! (CDPATH='' cd "$top/crates/$crate" && rt run $(cpu_flags) -- $trial) </dev/null >/dev/null; then
+    "$top/packaging/first_build.py" $(cpu_flags) "$name" "$crate" -- $trial </dev/null >/dev/null &
+    builder=$!
+    hand_on
+    wait "$builder"
+    status=$?
+    # A signal ends the first wait.
+    while kill -0 "$builder" 2>/dev/null; do
+        wait "$builder"
+        status=$?
+    done
+    trap - TERM HUP INT
+    [ -z "$signal" ] || kill "-$signal" "$$"
+    case $status in
+    # A build that changed nothing leaves the file's time as it was.
+    0) touch "$program" ;;
+    129 | 130 | 143)
+        kill "-$((status - 128))" "$$"
+        exit "$status"
+        ;;
+    *)
         echo "$name: can't be built: see the messages above" >&2
         return 1
-    fi
-    # A build that changed nothing leaves the file's time as it was.
-    touch "$program"
+        ;;
+    esac
 }
+
+# Sends the script the signal that came, once both are there.
+hand_on() { [ -z "$signal" ] || [ -z "$builder" ] || kill "-$signal" "$builder" 2>/dev/null; }
 
 # Settings of the C library by which new memory takes less of the time (docs/SPEED.md has what each saves):
 # huge pages, which are used where the system allows it (madvise or always in

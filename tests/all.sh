@@ -28,7 +28,10 @@ PATH=$PATH:/usr/sbin
 table() {
     cat <<TABLE
 launcher            -           tests/launcher.sh
+first_build         -           packaging/test_first_build.py
 scripts             opencv      tests/scripts.py
+pages               -           tests/pages.py
+broken_pages        -           tests/test_pages.py
 shellcheck          shellcheck  shellcheck -x sgm sgm_series .ci/run $(cd "$top" && echo tests/*.sh tools/*.sh packaging/*.sh packaging/*.bash)
 reference           -           tests/test_reference.py
 reference_fine      -           tests/test_reference_fine.py

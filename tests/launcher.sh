@@ -1,8 +1,8 @@
 #!/usr/bin/env bash
-# Tries ./sgm and ./sgm_series themselves: the answers that they give without the program, when they build, and what
-# they hand on. Each case has a copy of both in a repository of its own, with a toolchain that is made up: its `rt`
-# notes how it was called and makes a program that notes its words. So nothing is proved, and the variables SGM and
-# SGM_SERIES have no part.
+# Tries ./sgm and ./sgm_series themselves: the answers that they give without the program, when they build and what
+# they tell of that, and what they hand on. Each case has a copy of both in a repository of its own, with a toolchain
+# that is made up: its `rt` notes how it was called, says what it would of each crate, and makes a program that notes
+# its words. So nothing is proved, and the variables SGM and SGM_SERIES have no part.
 #
 #     tests/launcher.sh
 set -u
@@ -13,12 +13,72 @@ unset GLIBC_TUNABLES CDPATH
 # What the launcher sets.
 tunables=glibc.malloc.hugetlb=1:glibc.malloc.mmap_threshold=1073741824
 tunables=$tunables:glibc.malloc.arena_max=1:glibc.malloc.top_pad=67108864
-# The commands that the launcher uses, and git where it is there: a folder without another rt.
+# The commands that the launcher and the made-up rt use, and git where it is there: a folder without another rt.
 plain=$work/commands
 mkdir "$plain"
-for command in bash basename cat cp dirname env find git grep mv realpath rm sed touch wc; do
+for command in bash basename cat cp dirname env find git grep mv realpath rm sed sh sleep touch; do
     has "$command" && ln -s "$(command -v "$command")" "$plain/"
 done
+# (what stands on the PATH may be a script that looks for it)
+ln -s "$(python3 -c 'import sys; print(sys.executable)')" "$plain/python3"
+
+# The made-up rt. Its checks and its builds say what is asked for by files of the repository: `broken` has the names of
+# crates that aren't proved, or `rt` where none is looked at, or `run`; where `waits` is there, the second crate's check
+# starts a process that goes on until it is ended, writes its number to the file `child`, and waits, both of them deaf to
+# SIGTERM where it says so; where `beside` is there another rt works; and where `unchanged` is there no program is made.
+# A crate that it has checked says nothing the next time.
+made_up_rt() {
+    cat <<RT
+#!/usr/bin/env bash
+repository='$repository' made='$work/made'
+RT
+    cat <<'RT'
+echo "in $PWD: $*" >>"$repository/calls"
+crate=$(basename "$PWD")
+is_broken() { grep -qsx "$1" "$repository/broken"; }
+check() {
+    if [ "$1" = middle ] && [ -e "$repository/waits" ]; then
+        grep -qx deaf "$repository/waits" && trap '' TERM
+        sleep 600 &
+        echo $$ >"$repository/rt"
+        echo $! >"$repository/child"
+        wait
+    fi
+    echo "== $1"
+    [ -e "$repository/checked.$1" ] && return
+    for number in {1..30}; do echo "checking $1, line $number"; done
+    if is_broken "$1"; then
+        echo "$1/src/lib.rt:1: error: $(printf '%.0s-' {1..600})"
+        # What is well stands behind it and isn't shown.
+        for number in {1..30}; do echo "fn $1::number_$number: proved"; done
+        printf '%s\n' "fn $1::other: not proved" "statements std: modules loaded=2 checked=1"
+        echo "library base: modules loaded=2 checked=1"
+        summary+=("$1: failed (1)") status=1
+    else
+        : >"$repository/checked.$1"
+        summary+=("$1: ok")
+    fi
+}
+[ -e "$repository/beside" ] && echo "rt: waiting for another rt to finish in a folder" >&2
+echo "rt: words" >&2
+echo printed by rt
+case $1 in
+all)
+    is_broken rt && echo "low/src/lib.rt:1: no such word" && exit 1
+    status=0 summary=()
+    for each in low middle "$crate"; do
+        if [ "$status" = 0 ]; then check "$each"; else summary+=("$each: not run, since another failed"); fi
+    done
+    printf '%s\n' '== summary' "${summary[@]}"
+    exit "$status"
+    ;;
+run)
+    is_broken run && echo "no linking" && exit 5
+    [ -e "$repository/unchanged" ] || cp "$made" "out/$crate"
+    ;;
+esac
+RT
+}
 
 # A new repository in a folder of that name, which becomes the folder at hand. The program that is tried, once made,
 # prints its words in brackets, where it runs and its GLIBC_TUNABLES, and ends with the status 7.
@@ -27,9 +87,11 @@ begin() {
     repository=$work/$launched/$1
     mkdir -p "$repository"/{bin,crates/{sgm,sgm_series}_cli/{src,out},crates/low/{src,specs,proofs,must-fail},docs,packaging} || exit 1
     cp "$top"/{sgm,sgm_series} "$repository/"
-    cp "$top"/packaging/{launcher.sh,help.txt,help_sgm_series.txt} "$repository/packaging/"
+    cp "$top"/packaging/{launcher.sh,first_build.py,help.txt,help_sgm_series.txt} "$repository/packaging/"
+    printf '# crate seconds\nlow 60\nmiddle 130 # both programs\n' >"$repository/packaging/build_times.txt"
     echo 7.8.9 >"$repository/VERSION"
-    touch "$repository/crates.txt" "$repository"/crates/{{sgm,sgm_series}_cli/src/main.rt,low/src/lib.rt,low/specs/Lib.antt}
+    printf '%s\n' low: 'middle: low itoa' beside: 'sgm_cli: middle' 'sgm_series_cli: low middle' >"$repository/crates.txt"
+    touch "$repository"/crates/{{sgm,sgm_series}_cli/src/main.rt,low/src/lib.rt,low/specs/Lib.antt}
     cat >"$work/made" <<'PROGRAM'
 #!/usr/bin/env bash
 printf '[%s]' "$@"
@@ -37,15 +99,7 @@ printf ' in %s with %s\n' "$PWD" "${GLIBC_TUNABLES-none}"
 sed -n 's/^flags:.*\(.\)$/\1/p' /proc/$$/fdinfo/[12] >"$(dirname "$0")/streams"
 exit 7
 PROGRAM
-    cat >"$repository/bin/rt" <<RT
-#!/usr/bin/env bash
-echo "in \$PWD: \$*" >>'$repository/calls'
-echo checking >&2
-echo printed by the program
-[ -e '$repository/broken' ] && exit 1
-[ -e '$repository/unchanged' ] && exit
-cp '$work/made' out/"\$(basename "\$PWD")"
-RT
+    made_up_rt >"$repository/bin/rt"
     chmod +x "$work/made" "$repository/bin/rt"
     path=$repository/bin:$plain
     cd "$repository" || exit 1
@@ -74,9 +128,127 @@ has_line() {
     is "$1: a line '$3'" $? 0
 }
 
-calls() { if [ -e "$repository/calls" ]; then wc -l <"$repository/calls"; else echo 0; fi; }
+# What the launcher says of a first build where there is no terminal, once each crate has ended at once: the seconds of
+# the table, of which those without a line count as the mean, 95: the last crate and the building of the program.
+plain_progress() {
+    cat <<TEXT
+$launched: first build: this proves 3 crates, N at a time, about 6 minutes where none is proved ($crate/out/build.txt);
+$launched: later starts take no time until a source changes
+$launched: 1 of 3 crates checked (low), 0:00 gone, about 5 minutes left
+$launched: 2 of 3 crates checked (middle), 0:00 gone, about 3 minutes left
+$launched: 3 of 3 crates checked (${crate##*/}), 0:00 gone, about 2 minutes left
+$launched: 3 of 3 crates checked, 0:00 gone, the program is built
+TEXT
+}
+
+# What the launcher said, without the number of places and the seconds that differ from run to run.
+said() { sed 's/, [0-9]* at a time/, N at a time/; s/, 0:0[0-9] gone/, 0:00 gone/' <<<"$1"; }
+
+# How often it was built, or tried to be.
+calls() { if [ -e "$repository/calls" ]; then grep -c ': all ' "$repository/calls"; else echo 0; fi; }
 # Makes the files at hand older than what is touched next, whatever the file system's clock can tell apart.
 age() { find "$repository" -exec touch -h -d '1 hour ago' {} +; }
+
+# Whether that process goes on: one that has ended and that nobody asked for has a state too.
+lives() { grep -qs '^State:[[:space:]]*[^ZX[:space:]]' "/proc/$1/status" || return 1; }
+
+# Waits until the made-up check waits.
+until_it_waits() {
+    for _ in {1..200}; do
+        [ -s "$repository/child" ] && return
+        sleep 0.05
+    done
+}
+
+# What stands after a signal: WANTED is the status.
+was_interrupted() {
+    is status "$status" "$1"
+    is "whether the check's process goes on (1: no)" "$(lives "$(cat child)"; echo $?)" 1
+    is "whether rt goes on (1: no)" "$(lives "$(cat rt)"; echo $?)" 1
+    is "whether there is a program (1: no)" "$([ -e "$program" ]; echo $?)" 1
+    rm waits child
+    started demo 0
+    is "status of the next start" "$status" 7
+    is "how it goes on" "$(said "$err")" "$(plain_progress)"
+    is "lines of the crate that was checked before" "$(grep -c "^checking low" "$crate/out/build.txt")" 0
+    is "lines of the one that wasn't" "$(grep -c "^checking middle" "$crate/out/build.txt")" 30
+}
+
+# A first build is stopped by a signal to the launcher, and by Ctrl-C.
+try_interrupted() {
+    local signal number
+    for signal in TERM HUP; do
+        begin "stopped by $signal"
+        if [ $signal = HUP ]; then echo deaf >waits; else touch waits; fi
+        PATH=$path "./$launched" demo 0 >"$work/out" 2>"$work/err" &
+        until_it_waits
+        kill "-$signal" "$!"
+        { wait "$!"; } 2>/dev/null
+        status=$? out=$(cat "$work/out") err=$(cat "$work/err")
+        is "standard output" "$out" ""
+        is "standard error" "$(said "$err")" "$(plain_progress | head -n 3)
+$launched: stopped: the next start goes on where this one was"
+        number=$(kill -l "$signal")
+        was_interrupted $((128 + number))
+    done
+    # What waits for the build is killed: nobody is left to say so, and the build ends by itself.
+    begin killed
+    touch waits
+    PATH=$path "./$launched" demo 0 >"$work/out" 2>"$work/err" &
+    until_it_waits
+    kill -KILL "$!"
+    { wait "$!"; } 2>/dev/null
+    status=$?
+    for _ in {1..100}; do lives "$(cat child)" && sleep 0.05; done
+    was_interrupted 137
+    has script || return
+    begin "stopped by Ctrl-C"
+    touch waits
+    on_terminal 120 $'\003'
+    is "the last line" "$(tail -n 1 <<<"$out")" "$launched: stopped: the next start goes on where this one was"
+    is "the line before" "$(said "$(tail -n 2 <<<"$out" | head -n 1)")" \
+        "$launched: 1 of 3 crates checked, 0:00 gone, about 5 minutes left"
+    was_interrupted 130
+}
+
+# on_terminal COLUMNS KEYS: starts the launcher on a terminal of so many columns, which gets the keys once the made-up
+# check waits; sets status, and out to what it shows, with what is rewritten line by line.
+on_terminal() {
+    { if [ -n "$2" ]; then until_it_waits && printf '%s' "$2"; fi; } |
+        script -qec "stty cols $1; PATH='$path' ./$launched demo 0" /dev/null >"$work/out"
+    status=${PIPESTATUS[1]}
+    out=$(sed 's/\r*$//; s/\r/\n/g; s/\x1b\[K//g; s/\^C//g' "$work/out")
+}
+
+try_terminal() {
+    has script || return
+    begin terminal
+    on_terminal 120 ''
+    is status "$status" 7
+    is "the first lines" "$(said "$(head -n 2 <<<"$out")")" "$(plain_progress | head -n 2)"
+    is "the last lines" "$(said "$(tail -n 2 <<<"$out")")" "$(plain_progress | tail -n 1)
+[demo][0] in $repository with $tunables"
+    is "the lines that stay" "$(said "$(sed -n 's/\r*$//; /\r/d; p' "$work/out")")" "$(plain_progress | head -n 2)
+[demo][0] in $repository with $tunables"
+    begin "a narrow terminal"
+    on_terminal 30 ''
+    is "the last line" "$(said "$(tail -n 2 <<<"$out" | head -n 1)")" "$(plain_progress | tail -n 1 | cut -c1-29)"
+}
+
+# As many crates at a time as there are processors, where there is memory for two.
+try_processors() {
+    local number free some
+    has taskset || return
+    free=$(sed -n 's/^MemAvailable: *\([0-9]*\).*/\1/p' /proc/meminfo)
+    for number in 1 2; do
+        if [ "$(nproc)" -lt $number ] || [ "$free" -lt 4000000 ]; then continue; fi
+        begin "$number processors"
+        some=$(python3 -c "import os; print(*sorted(os.sched_getaffinity(0))[:$number], sep=',')")
+        PATH=$path "$(command -v taskset)" -c "$some" "./$launched" demo 0 >"$work/out" 2>"$work/err"
+        is status $? 7
+        is "how rt was called" "$(head -n 1 calls)" "in $repository/$crate: all check --jobs $number"
+    done
+}
 
 # Everything that is tried of one launcher: its name, the crate of its program, the words with which a build starts it,
 # and the first line of its help.
@@ -116,8 +288,12 @@ try_launcher() {
     is status "$status" 7
     is "the program's words" "$out" "[match][a b][][c
 d][*] in $repository with $tunables"
-    has_line "standard error" "$err" "$launched: first build: this proves every crate, about 1 to 1 minutes where none is proved;"
-    is "how rt was called" "$(sed 's/ --cpu x86-64-v3//' calls)" "in $repository/$crate: run -- $trial"
+    is "standard error" "$(said "$err")" "$(plain_progress)"
+    is "how rt was called" "$(sed 's/ --cpu x86-64-v3//; s/--jobs [1-9][0-9]*$/--jobs N/' calls)" \
+        "in $repository/$crate: all check --jobs N
+in $repository/$crate: run -- $trial"
+    is "the lines of the check in the file" "$(grep -c "^checking middle, line" "$crate/out/build.txt")" 30
+    is "the last line of the file" "$(tail -n 1 "$crate/out/build.txt")" "printed by rt"
     started
     is "status without words" "$status" 7
     is "standard error of a later start" "$err" ""
@@ -195,26 +371,69 @@ d][*] in $repository with $tunables"
     is "builds after one is taken out" "$(calls)" $((count + 5))
 
     begin unbuilt
-    touch broken
+    echo middle >broken
     started demo 0
     is "status where it can't be built" "$status" 1
     is "standard output" "$out" ""
-    has_line "standard error" "$err" checking
-    has_line "standard error" "$err" "$launched: can't be built: see the messages above"
+    is "standard error" "$(said "$err")" "$(plain_progress | head -n 4)
+$launched: not proved: middle. What was said last, of which $crate/out/build.txt has all:
+$(printf 'checking middle, line %s\n' {13..30})
+$(printf 'middle/src/lib.rt:1: error: %s' "$(printf '%.0s-' {1..600})" | cut -c1-400) ..
+fn middle::other: not proved
+$launched: can't be built: see the messages above"
+    is "the lines of the check in the file" "$(grep -c "^checking middle, line" "$crate/out/build.txt")" 30
+    is "whether there is a program (1: no)" "$([ -e "$program" ]; echo $?)" 1
+    rm broken
+    started demo 0
+    is "status once it is mended" "$status" 7
     path=$plain
+    age
+    touch crates.txt
     started demo 0
     is "status without rt" "$status" 1
     is "standard output" "$out" ""
     is "standard error" "$err" "$launched: can't be built: rt, the toolchain's command, isn't on the PATH"
 
+    begin "unbuilt for another reason"
+    echo rt >broken
+    started demo 0
+    is "status where rt ends before any crate" "$status" 1
+    is "standard error" "$(said "$err" | tail -n +3 | sed 's/--jobs [0-9]*/--jobs N/')" \
+        "$launched: \`rt all check --jobs N\` ended with 1. What was said last, of which $crate/out/build.txt has all:
+rt: words
+printed by rt
+low/src/lib.rt:1: no such word
+$launched: can't be built: see the messages above"
+    echo run >broken
+    started demo 0
+    is "status where the program can't be built" "$status" 1
+    is "standard error" "$(said "$err" | tail -n 5 | sed 's/--cpu x86-64-v3 //')" \
+        "$launched: not built: \`rt run -- $trial\` ended with 5. What was said last, of which $crate/out/build.txt has all:
+rt: words
+printed by rt
+no linking
+$launched: can't be built: see the messages above"
+
+    begin "beside another rt"
+    touch beside
+    started demo 0
+    is status "$status" 7
+    has_line "standard error" "$err" "$launched: rt: waiting for another rt to finish in a folder"
+
     # A failed build after a good one: the old program isn't started.
     begin stale
     started demo 0
     age
-    touch broken crates.txt
+    touch crates.txt
+    echo low >broken
+    rm checked.low
     started demo 0
     is status "$status" 1
     is "standard output" "$out" ""
+
+    try_interrupted
+    try_terminal
+    try_processors
 
     begin "a folder with spaces"
     started demo 0

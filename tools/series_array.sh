@@ -13,7 +13,8 @@
 #
 # The programs are ./sgm_series and tools/series_left.py of that folder, else sgm_series and sgm-series-left of the PATH,
 # or what the variables SGM_SERIES and SERIES_LEFT say. Options of sbatch may stand before the script's name, as --mem=2G:
-# by reckoning a task takes less than 7 GB (docs/MANY.md says how much yours take).
+# by reckoning a task takes less than 7 GB with the versions 1 and 2 of the calibration (docs/MANY.md says how much
+# yours take).
 
 #SBATCH --job-name=sgm_series
 #SBATCH --cpus-per-task=2
