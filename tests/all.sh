@@ -41,6 +41,7 @@ quick_reference     pictures    tests/test_quick_reference.py
 stored_runs         -           tests/stored_runs.py
 least_energies      -           tests/least_energies.py --check
 kernels             -           tests/kernels.py
+fine_cases          -           tests/fine_cases.py --check
 large_pair          -           tests/large_pair.py
 edits_apply         -           tests/edits.py --apply
 cubic_metres        -           tools/test_cubic_metres.py
