@@ -16,7 +16,7 @@ if hasattr(sys, "set_int_max_str_digits"):
 
 # Whether a calibration may have `disparities.fine` true: False as long as the program refuses it.
 # The cases for the program follow it; the definitions and their own tests are there either way.
-TAKES_FINE = False
+TAKES_FINE = True
 
 USAGE, REFUSED, UNREAD, UNWRITTEN = 2, 3, 4, 5
 LONGEST_IMAGE, LONGEST_CALIBRATION, LONGEST_GRID = 67108864, 16777216, 268435456
