@@ -6,7 +6,7 @@ use Rattle.sgm_fine.specs.Finer.{ArePixelSums, best, by_itself, finer_value, lef
 use Rattle.sgm_fine.specs.Samples.{Centre, HoldsSamples, half, has_all}
 use Rattle.sgm_fine.specs.Scores.{HoldsSums, IsFitOf, blended, covariance, numbers_at}
 use Rattle.sgm_fine.specs.Small.{HoldsSmall, IsSmall, small, small_left, small_right}
-use Rattle.sgm_fine.specs.Windows.{number, over, products, sum_below}
+use Rattle.sgm_fine.specs.Windows.{number, sum_below}
 use Rattle.sgm_fine.specs.declared.scores.Fit.{Fit}
 use Rattle.sgm_fine.specs.declared.scores.WindowSums.{WindowSums}
 use Rattle.sgm_fine.specs.declared.samples.Window.{Window}

@@ -1,5 +1,5 @@
 -- Which places are tried, and the best one of those that are tried so far.
-use Rattle.std.proofs.Common.{◌≡◌, ℕ, ◌+◌, ◌-◌, ◌*◌, ◌/◌, ◌<◌, ◌≤◌, ◌≤ℤ◌, ◌<ℤ◌, Bool, true, false, ◌&&◌, not, ◌==◌, nat_lt, zero, suc, List, [], ◌∷◌, ◌++◌, filter, get_or, length, if◌then◌else◌, ℤ, pos, ◌+ℤ◌, ◌*ℤ◌, int_le, unsigned_abs, refl, arith, ap, ap₂, sym, ◌∙◌}
+use Rattle.std.proofs.Common.{◌≡◌, ℕ, ◌+◌, ◌-◌, ◌*◌, ◌/◌, ◌<◌, ◌≤◌, ◌≤ℤ◌, ◌<ℤ◌, Bool, true, false, ◌&&◌, not, ◌==◌, nat_lt, List, [], ◌∷◌, ◌++◌, filter, get_or, length, if◌then◌else◌, ℤ, pos, ◌+ℤ◌, int_le, unsigned_abs, refl, arith, ap, ap₂, sym, ◌∙◌}
 use Rattle.std.specs.List.{best_of}
 use Rattle.std.proofs.lemmas.Int.{ints}
 use Rattle.std.proofs.lemmas.List.{take_more}

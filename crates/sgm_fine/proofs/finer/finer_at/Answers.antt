@@ -1,4 +1,4 @@
-use Rattle.std.proofs.Common.{◌≡◌, ℤ, true, false, is_some, to_z, of_z, w32, arith, refl, subst, sym, ap, ◌∙◌}
+use Rattle.std.proofs.Common.{◌≡◌, ℤ, is_some, to_z, of_z, w32, arith, refl, subst, sym, ap, ◌∙◌}
 use Rattle.std.proofs.lemmas.Int.{ints}
 use Rattle.sgm_fine.specs.Samples.{Centre, HoldsSamples, centre, has_all}
 use Rattle.sgm_fine.proofs.PixelSums.{is_finer, not_finer, pixel_sums}

@@ -1,4 +1,4 @@
-use Rattle.std.proofs.Common.{◌≡◌, ◌*◌, ◌+◌, ◌/◌, ◌==◌, ◌&&◌, not, ℤ, pos, int_le, ◌≤ℤ◌, unsigned_abs, to_z, of_z, w32, w64, arith, refl, subst, sym, ap, ap₂, ◌∙◌}
+use Rattle.std.proofs.Common.{◌≡◌, ◌*◌, ◌+◌, ◌/◌, ◌==◌, ◌&&◌, not, pos, int_le, ◌≤ℤ◌, unsigned_abs, to_z, of_z, w64, arith, refl, subst, sym, ap, ap₂, ◌∙◌}
 use Rattle.std.proofs.lemmas.Int.{ints}
 use Rattle.sgm_base.specs.Ranges.{IsFromTo, Within}
 use Rattle.sgm_fine.specs.Finer.{by_itself, explains, left_alone, place_score, with_left}
