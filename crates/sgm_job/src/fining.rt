@@ -178,8 +178,6 @@ fn made_map<R: Threads + Sync>(
     requires height { cut.height ≡ map.now.height }
     ensures { IfOk result (λ m. m ≡ made step left.now right.now map.now span) }
 {
-    // Known from here on: what the cut keeps.
-    let _first = cut.first(0);
     let mut places = empty_places(alloc, cut.strips as usize)?;
     make_places(
         rt,
