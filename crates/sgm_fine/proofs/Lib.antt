@@ -1,4 +1,5 @@
 pub mod Blends
+pub mod Covariances
 pub mod Halvings
 pub mod Nearby
 pub mod Numbers
@@ -7,6 +8,8 @@ pub mod PlaceSamples
 pub mod PlaceTests
 pub mod Products
 pub mod SideSums
+pub mod Squares
 pub mod StepLaws
 pub mod Totals
+pub mod Unhalved
 pub mod WindowSamples

@@ -1,13 +1,12 @@
 -- The finer values of a map: of seventeen places the one at which the right window explains the left one best.
-use Rattle.std.specs.Prelude.{◌≡◌, ℕ, ◌<◌, ◌-◌, ◌*◌, ◌&&◌, ◌==◌, nat_lt, Bool, not, if◌then◌else◌, List, filter, option_map, unsigned_abs, ℤ, pos, neg_ℤ, ◌+ℤ◌, ◌*ℤ◌, int_lt, int_le}
-use Rattle.std.specs.List.{best_of}
+use Rattle.std.specs.Prelude.{◌≡◌, ℕ, ◌<◌, ◌+◌, ◌-◌, ◌*◌, ◌&&◌, ◌==◌, nat_lt, Bool, not, if◌then◌else◌, List, [], ◌∷◌, filter, option_map, unsigned_abs, ℤ, pos, negsuc, neg_ℤ, ◌+ℤ◌, ◌*ℤ◌, int_lt, int_le}
+use Rattle.std.specs.List.{best_of, flat_map, range_with_len}
 use Rattle.sgm_base.specs.Disparities.{Disparities}
 use Rattle.sgm_base.specs.Values.{Values, row_by_row, value_at, values_of}
 use Rattle.sgm_fine.specs.Samples.{Centre, half, has_all}
 use Rattle.sgm_fine.specs.Scores.{HoldsSums, blended, covariance, score}
 use Rattle.sgm_fine.specs.Small.{IsSmall, small_left, small_right}
 use Rattle.sgm_fine.specs.Windows.{number}
-use Rattle.sgm_fine.specs.declared.finer.TheConstants.{ORDER}
 use Rattle.sgm_fine.specs.declared.scores.WindowSums.{WindowSums}
 use Rattle.sgm_fine.specs.declared.small.SmallWindow.{SmallWindow}
 use Rattle.sgm_fine.specs.declared.sums.TheConstants.{PLACES}
@@ -31,10 +30,13 @@ place_score p c = score (with_left p c) (by_itself p c)
 abbrev pub fits : ℕ → ℕ → ℤ → Bool
 fits most value c = int_le (pos 0) (pos value +ℤ c) && int_le (pos value +ℤ c) (pos most)
 
--- the places whose values lie in the span, in the order in which the first of equal ones is taken: the nearest first,
--- and of two the negative one
+-- the places, 0 and then -1, 1, -2, 2 and so on to -8 and 8: the first of equal ones is taken
+abbrev pub order : List ℤ
+order = pos 0 ∷ flat_map (λ n. negsuc n ∷ pos (n + 1) ∷ []) (range_with_len 0 8)
+
+-- those whose values lie in the span
 abbrev pub places : ℕ → ℕ → List ℤ
-places count value = filter (fits (16 * (count - 1)) value) ORDER
+places count value = filter (fits (16 * (count - 1)) value) order
 
 -- the place of the greatest score
 abbrev pub best : ℕ → Centre → ℤ

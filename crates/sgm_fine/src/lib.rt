@@ -5,6 +5,7 @@
 
 mod around;
 mod finer;
+pub mod laws;
 mod means;
 mod samples;
 mod scores;
@@ -14,6 +15,3 @@ mod sums;
 
 pub use finer::finer_row;
 pub use means::mean_row;
-
-#[cfg(test)]
-mod tests;
