@@ -1,5 +1,6 @@
 pub mod Blends
 pub mod Covariances
+pub mod FinerBounds
 pub mod Halvings
 pub mod Nearby
 pub mod Numbers

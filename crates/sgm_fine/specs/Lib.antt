@@ -1,4 +1,5 @@
 pub mod Finer
+pub mod Making
 pub mod Means
 pub mod Samples
 pub mod Scores
