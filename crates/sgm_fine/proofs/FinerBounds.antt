@@ -73,8 +73,8 @@ unfolding row_by_row
 finer_low left right map span most few h =
     let at : ℕ → ℕ → Option ℕ = λ x y. option_map (λ value. finer_value span.count (centre left right map span.first x y value)) (value_at map x y) in
     let low : (x y : ℕ) → Low most (at x y) = λ x y.
-        mapped_low most (λ value. finer_value span.count (centre left right map span.first x y value)) (value_at map x y) (value_low most map x y h)
-        (λ v l. finer_value_low span.count most (centre left right map span.first x y v) few l) in
+    mapped_low most (λ value. finer_value span.count (centre left right map span.first x y value)) (value_at map x y) (value_low most map x y h)
+    (λ v l. finer_value_low span.count most (centre left right map span.first x y v) few l) in
     All-map (Low most) (λ k. at (k % map.width) (k / map.width)) (range_with_len 0 (map.width * map.height)) (λ k d l. low _ _)
 
 -- ---- means

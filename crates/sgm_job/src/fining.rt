@@ -215,6 +215,26 @@ pub(crate) fn finer_map<R: Threads + Sync>(
         return Ok(map);
     }
     let cut = Cut::even(map.size().height, strips);
-    let finer = made_map(rt, alloc, Step::Finer, left, right, &map, span, cut, threads)?;
-    made_map(rt, alloc, Step::Mean, left, right, &finer, span, cut, threads)
+    let finer = made_map(
+        rt,
+        alloc,
+        Step::Finer,
+        left,
+        right,
+        &map,
+        span,
+        cut,
+        threads,
+    )?;
+    made_map(
+        rt,
+        alloc,
+        Step::Mean,
+        left,
+        right,
+        &finer,
+        span,
+        cut,
+        threads,
+    )
 }

@@ -27,13 +27,13 @@ returns c w held =
     let b = int_lt c.args.c (pos 0) in
     let r = c.side_of-cross.result in
     let is : r ≡ (if b then (sums.after, sums.with_after) else (sums.before, sums.with_before)) =
-        c.side_of-cross.ensures ∙ ap (λ z. if int_lt z (pos 0) then (sums.after, sums.with_after) else (sums.before, sums.with_before)) near in
+    c.side_of-cross.ensures ∙ ap (λ z. if int_lt z (pos 0) then (sums.after, sums.with_after) else (sums.before, sums.with_before)) near in
     let s = if b then number w.after else number w.before in
     let n : c.unsigned_abs.result ≡ unsigned_abs c.args.c = c.unsigned_abs.ensures.value ∙ ap unsigned_abs near in
     let left : FitsSigned w32 sums.left = search rules in
     let crossed : FitsSigned w32 r.1 = search rules in
     let got = c.fit_between.ensures (number w.left) (number w.here) s (narrow_kept sums.left left ∙ held.left) held.here (held_side b r sums w is held)
-        (narrow_kept r.1 crossed ∙ held_cross b r sums w is held) in
+    (narrow_kept r.1 crossed ∙ held_cross b r sums w is held) in
     record {
       together = got.0 ∙ ap (λ m. covariance (number w.left) (blended (number w.here) s m)) n;
       right = got.1 ∙ ap (λ m. covariance (blended (number w.here) s m) (blended (number w.here) s m)) n;

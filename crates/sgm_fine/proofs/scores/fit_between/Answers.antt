@@ -71,20 +71,19 @@ returns c l h s left here side cross =
     let some = c.products_between-products.ensures.small in
     let many = c.squares_between-squares.ensures.small in
     let sum : to_z w64 (of_z w64 c.sum_between-sum.result) ≡ over b =
-        omega (arith, ints, few.0, few.1) ∙ c.sum_between-sum.ensures.value
-        ∙ eighths_same g n _ _ (over h) (over s) (narrow_kept c.args.here.sum in_here ∙ here.sum) (narrow_kept c.args.side.sum in_side ∙ side.sum) ∙ sym (over_blended h s n) in
+    omega (arith, ints, few.0, few.1) ∙ c.sum_between-sum.ensures.value
+    ∙ eighths_same g n _ _ (over h) (over s) (narrow_kept c.args.here.sum in_here ∙ here.sum) (narrow_kept c.args.side.sum in_side ∙ side.sum) ∙ sym (over_blended h s n) in
     let product : to_z w64 (of_z w64 c.products_between-products.result) ≡ products l b =
-        omega (arith, ints, some.0, some.1) ∙ c.products_between-products.ensures.value
-        ∙ eighths_same g n _ _ (products l h) (products l s) (narrow_kept c.args.here.left left_here ∙ here.left) (narrow_kept c.args.side.left left_side ∙ side.left)
-        ∙ sym (products_blended l h s n) in
+    omega (arith, ints, some.0, some.1) ∙ c.products_between-products.ensures.value
+    ∙ eighths_same g n _ _ (products l h) (products l s) (narrow_kept c.args.here.left left_here ∙ here.left) (narrow_kept c.args.side.left left_side ∙ side.left)
+    ∙ sym (products_blended l h s n) in
     let squares : to_z w64 (of_z w64 c.squares_between-squares.result) ≡ products b b =
-        omega (arith, ints, many.0, many.1) ∙ c.squares_between-squares.ensures.value
-        ∙ twice_same g n _ _ _ (products h h) (products h s) (products s s) (narrow_kept c.args.here.square square_here ∙ here.square) (narrow_kept c.args.cross crossed ∙ cross)
-        (narrow_kept c.args.side.square square_side ∙ side.square) ∙ sym (squares_blended h s n) in
+    omega (arith, ints, many.0, many.1) ∙ c.squares_between-squares.ensures.value
+    ∙ twice_same g n _ _ _ (products h h) (products h s) (products s s) (narrow_kept c.args.here.square square_here ∙ here.square) (narrow_kept c.args.cross crossed ∙ cross)
+    (narrow_kept c.args.side.square square_side ∙ side.square) ∙ sym (squares_blended h s n) in
     let whole_left : to_z w64 (of_z w64 c.from.result) ≡ over l = cast c.from.result c.args.left on_left c.from.ensures ∙ left in
     let first : to_z w64 (of_z w64 c.covariance_of.result) ≡ c.covariance_of.result = omega (arith, ints, c.covariance_of.type_inv) in
-    let second : to_z w64 (of_z w64 c.covariance_of-2.result) ≡ c.covariance_of-2.result = omega (arith, ints, c.covariance_of-2.type_inv) in
-    (
+    let second : to_z w64 (of_z w64 c.covariance_of-2.result) ≡ c.covariance_of-2.result = omega (arith, ints, c.covariance_of-2.type_inv) in (
       first ∙ c.covariance_of.ensures ∙ covariance_same _ _ _ (products l b) (over l) (over b) product whole_left sum,
       second ∙ c.covariance_of-2.ensures ∙ covariance_same _ _ _ (products b b) (over b) (over b) squares sum sum,
     )
