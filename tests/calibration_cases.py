@@ -16,6 +16,7 @@ import json
 import os
 import sys
 
+import reference_inputs
 from reference_inputs import RANGES
 
 MISSING = object()
@@ -179,7 +180,8 @@ def fine_faults():
     yield "fine", third(("disparities.fine", MISSING)), missing
     for wrong in (0, 1, 0.0, "false", "", None, [False], {}, {"fine": False}):
         yield "fine", third(("disparities.fine", wrong)), wrong_type
-    yield "fine", third(("disparities.fine", True)), outside
+    if not reference_inputs.TAKES_FINE:
+        yield "fine", third(("disparities.fine", True)), outside
     for made in (first, second):
         for value in (True, False, 0, None):
             yield "fine", made(("disparities.fine", value)), unknown
@@ -206,7 +208,8 @@ def fine_faults():
     for path, wrong in later:
         yield "fine", third(("disparities.fine", MISSING), (path, wrong)), missing
         yield "fine", third(("disparities.fine", 1), (path, wrong)), wrong_type
-        yield "fine", third(("disparities.fine", True), (path, wrong)), outside
+        if not reference_inputs.TAKES_FINE:
+            yield "fine", third(("disparities.fine", True), (path, wrong)), outside
     # The penalties are checked as in version 2.
     yield "fine", third(("penalties.adapt", MISSING)), "penalties.adapt is missing"
     yield "fine", third(("penalties.adapt", MISSING), ("warp", 0)), "penalties.adapt is missing"
@@ -331,6 +334,9 @@ def bounds():
             changes = (("penalties.p1", p1), ("penalties.p2", p2), ("penalties.adapt", is_adaptive))
             yield f"bound-adapt-{'yes' if is_adaptive else 'no'}-{p1}-{p2}", second(*changes)
             yield f"bound-third-{'yes' if is_adaptive else 'no'}-{p1}-{p2}", third(*changes)
+            if reference_inputs.TAKES_FINE:
+                fine = third(("disparities.fine", True), *changes)
+                yield f"bound-fine-{'yes' if is_adaptive else 'no'}-{p1}-{p2}", fine
     yield "bound-adapt-alone", {**PLAIN, "version": 2, "penalties": {**PLAIN["penalties"], "adapt": True}}
     third_alone = {**PLAIN, "version": 3, "disparities": {**PLAIN["disparities"], "fine": False}}
     yield "bound-third-alone", {**third_alone, "penalties": {**PLAIN["penalties"], "adapt": False}}

@@ -17,6 +17,7 @@ import sys
 
 import calibration_cases
 import random_inputs
+import reference_inputs
 from reference_inputs import DIRECTIONS
 
 HEAP = os.path.join(os.path.dirname(os.path.abspath(__file__)), "..", "examples", "stockpile")
@@ -70,6 +71,11 @@ def third(is_adaptive, **more):
     return {**made, "version": 3, "disparities": {**made["disparities"], "fine": False}}
 
 
+def finer(settings):
+    """Settings of version 3 with finer disparities."""
+    return {**settings, "disparities": {**settings["disparities"], "fine": True}}
+
+
 def calibration(first=0, count=8, window=(5, 5), penalties=(4, 30), **more):
     plain = calibration_cases.PLAIN
     return {
@@ -118,8 +124,12 @@ def cases():
         "two-columns": (2, 9, (3, 3)),
         "window-beyond": (4, 3, (9, 7)),
     }.items():
-        yield good("third-version-" + name, width, height, 255, third(True, count=3, window=window), "fill=1", deepest=2)
-    for name, (maxval, seed, settings, options) in {**second_versions(), **third_versions()}.items():
+        settings = third(True, count=3, window=window)
+        yield good("third-version-" + name, width, height, 255, settings, "fill=1", deepest=2)
+        if reference_inputs.TAKES_FINE:
+            yield good("finer-" + name, width, height, 255, finer(settings), "fill=1", deepest=2)
+    versions = {**second_versions(), **third_versions(), **finer_versions()}
+    for name, (maxval, seed, settings, options) in versions.items():
         yield good(name, 40, 30, maxval, settings, options, make=shapes, deepest=8, seed=seed)
     yield from refusals(left, right)
     yield from calibrations()
@@ -298,6 +308,16 @@ def third_versions():
             made[f"third-version-{width}-{height}"] = (255, 60 + width + height, settings, "strips=2 workers=2")
     for number, maxval in enumerate((1, 7, 255, 256, 4095, 65535)):
         made[f"third-version-of-{maxval}"] = (maxval, 80 + number, third(True, penalties=(5, 90)), "peak=4")
+    return made
+
+
+def finer_versions():
+    """The same with finer disparities, where the program can make them."""
+    if not reference_inputs.TAKES_FINE:
+        return {}
+    made = {}
+    for name, (maxval, seed, settings, options) in third_versions().items():
+        made[name.replace("third-version", "finer")] = (maxval, seed, finer(settings), options)
     return made
 
 

@@ -69,6 +69,8 @@ CASES = {
     "command lines": ["words"],
     "texts of grids": ["asc"],
     "of the six kernels": ["kernel"],
+    "of finer disparities": ["fine"],
+    "of means alone": ["mean"],
     "whole runs": ["run"],
     "matches": ["run", "match"],
     "certificates": ["run", "trace"],

@@ -3,9 +3,10 @@
 
     tests/quick_reference.py match LEFT RIGHT CALIB OUT
 
-It takes the words of `sgm` and ends as reference.py does; costs, sums and disparities alone are computed here, on whole
-rows at once, from the same definitions (test_quick_reference.py compares the two). A pair of 480 x 360
-pixels with 64 disparities takes some five seconds, and 40 bytes for each pixel and disparity. `trace` is as slow as there.
+It takes the words of `sgm` and ends as reference.py does; costs, sums, disparities and finer
+disparities alone are computed here, on many pixels at once, from the same definitions
+(test_quick_reference.py compares the two). A pair of 480 x 360 pixels with 64 disparities takes
+some five seconds, and 40 bytes for each pixel and disparity. `trace` is as slow as there.
 """
 
 import functools
@@ -23,6 +24,8 @@ from sgm_files import numpy
 # How many of the bits of a number below 2^16 are set.
 BITS = [bin(number).count("1") for number in range(1 << 16)]
 NOTHING = -1
+# How many pixels get their finer values at once.
+AT_ONCE = 1 << 13
 
 
 def as_array(plane):
@@ -147,6 +150,116 @@ def disparities_of(sums, matched, left, right, first):
     return numpy.where(holds, value, NOTHING)
 
 
+# Finer disparities
+
+
+class Windows:
+    """The windows of 5 x 5 pixels about some pixels, none of which sticks out of the picture. What
+    they hold is an array with a row for each place of the window and a column for each pixel."""
+
+    def __init__(self, y, x):
+        self.y, self.x = y, x
+        self.j, self.i = (side.reshape(-1, 1) for side in numpy.mgrid[-2:3, -2:3])
+
+    def of(self, array):
+        return array[self.y + self.j, self.x + self.i]
+
+    def slopes(self, values):
+        """What the slopes come to at each place: s(i) + t(j)."""
+        rise = self.of(values) - values[self.y, self.x]
+        is_near = (self.of(values) != NOTHING) & (abs(rise) <= 32)
+        total = 0
+        for step in (self.i, self.j):
+            parts = (numpy.where(is_near, step * part, 0) for part in (rise, step))
+            above, below = (part.sum(axis=0) for part in parts)
+            # Where no place beside the pixel counts, both sums are 0.
+            total = total + (2 * step * above + below) // numpy.maximum(1, 2 * below)
+        return total
+
+    def read(self, right, u):
+        """Sixteen times the right plane's values at u sixteenths of a pixel, and which miss."""
+        q, f = u // 16, u % 16
+        width, row = right.shape[1], self.y + self.j
+
+        def at(column):
+            is_inside = (column >= 0) & (column < width)
+            return numpy.where(is_inside, right[row, column.clip(0, width - 1)], NOTHING)
+
+        near, far = at(q), numpy.where(f > 0, at(q + 1), 0)
+        return (16 - f) * near + f * far, (near == NOTHING) | (far == NOTHING)
+
+
+def halved(samples, limit):
+    """The samples of each column less their least, halved until all of them are below the limit."""
+    samples = samples - samples.min(axis=0)
+    greatest, halvings = samples.max(axis=0), numpy.zeros(samples.shape[1], numpy.int64)
+    while (greatest >> halvings >= limit).any():
+        halvings += greatest >> halvings >= limit
+    return samples >> halvings
+
+
+def product_of(one, other):
+    return 25 * (one * other).sum(axis=0) - one.sum(axis=0) * other.sum(axis=0)
+
+
+def best_of(own, e, value, count):
+    """For each pixel the change with the greatest score, its score, A and B."""
+    best = [numpy.full_like(value, start) for start in (0, -1, 0, 0)]
+    # Of equal scores the first one in this order counts.
+    for c in sorted(range(-8, 9), key=lambda c: (abs(c), c)):
+        r = (8 - abs(c)) * e[0] + abs(c) * e[8 if c < 0 else -8]
+        a, b = product_of(own, r), product_of(r, r)
+        score = numpy.where((a > 0) & (b >= 256), a * a // numpy.maximum(1, b // 256), 0)
+        is_tried = (value + c >= 0) & (value + c <= 16 * (count - 1))
+        is_better = is_tried & (score > best[1])
+        best = [numpy.where(is_better, new, old) for new, old in zip((c, score, a, b), best)]
+    return best
+
+
+def finer_of(windows, values, left, right, first, count):
+    """The finer values of the windows' middles."""
+    made = values[windows.y, windows.x]
+    own, others = windows.of(left), {}
+    is_whole = (own != NOTHING).all(axis=0)
+    middle = 16 * (windows.x + windows.i - first) - made - windows.slopes(values)
+    for o in (8, 0, -8):
+        others[o], misses = windows.read(right, middle + o)
+        is_whole = is_whole & ~misses.any(axis=0)
+    if not is_whole.any():
+        return made
+    value, own = made[is_whole], halved(own[:, is_whole], 256)
+    together = halved(numpy.concatenate([them[:, is_whole] for them in others.values()]), 4096)
+    e = dict(zip(others, numpy.split(together, 3)))
+    c, score, a, b = best_of(own, e, value, count)
+    is_told = (score > 0) & (3 * a * a >= product_of(own, own) * b)
+    made[is_whole] = value + numpy.where(is_told, c, 0)
+    return made
+
+
+def finer_values_of(values, left, right, first, count):
+    """The finer values of a map; those of the two outermost columns and rows stay."""
+    made = values.copy()
+    y, x = numpy.nonzero(values[2:-2, 2:-2] != NOTHING)
+    for at in range(0, len(y), AT_ONCE):
+        windows = Windows(2 + y[at : at + AT_ONCE], 2 + x[at : at + AT_ONCE])
+        made[windows.y, windows.x] = finer_of(windows, values, left, right, first, count)
+    return made
+
+
+def means_of(values):
+    """The means of three by three pixels."""
+    nothing = numpy.full_like(values, NOTHING)
+    total, number = numpy.zeros_like(values), numpy.zeros_like(values)
+    for j in (-1, 0, 1):
+        for i in (-1, 0, 1):
+            other = moved(values, i, j, nothing)
+            is_near = (other != NOTHING) & (abs(other - values) <= 16)
+            total += numpy.where(is_near, other, 0)
+            number += is_near
+    mean = (2 * total + number) // numpy.maximum(1, 2 * number)
+    return numpy.where(values == NOTHING, NOTHING, mean)
+
+
 def as_rows(array):
     return [[None if value == NOTHING else value for value in row] for row in array.tolist()]
 
@@ -156,7 +269,10 @@ def match_planes(left, right, guide, calibration):
     left, right, guide = (None if plane is None else as_array(plane) for plane in (left, right, guide))
     sums = sums_of(costs_of(left, right, calibration), guide, calibration.p1, calibration.p2)
     matched = matched_of(sums, calibration.first)
-    return as_rows(disparities_of(sums, matched, left, right, calibration.first)), as_rows(matched)
+    found = disparities_of(sums, matched, left, right, calibration.first)
+    if calibration.is_fine:
+        found = means_of(finer_values_of(found, left, right, calibration.first, calibration.count))
+    return as_rows(found), as_rows(matched)
 
 
 def main(words):

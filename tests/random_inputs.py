@@ -222,7 +222,9 @@ def settings(draw, first, count, versions=(1, 2, 3), **sections):
     made = Pairs()
     version = draw.of(versions)
     made.put("version", version)
-    fine = [("fine", False)] if version == 3 else []
+    # In version 3 disparities are mostly made finer, where the program can do that.
+    is_fine = reference_inputs.TAKES_FINE and version == 3 and draw.chance(60)
+    fine = [("fine", is_fine)] if version == 3 else []
     made.put("disparities", completed(draw, "disparities", [("first", first), ("count", count), *fine]))
     # Small windows more often: a large one has no code anywhere in a small picture.
     sides = [("width", draw.of([3, 3, 3, 5, 7, 9])), ("height", draw.of([3, 3, 3, 5, 7]))]

@@ -9,6 +9,7 @@ written.
 import json
 
 import random_inputs
+import reference_inputs
 from calibration_cases import WHOLE, third
 from random_inputs import FOLDER, Case, Draw, Link
 
@@ -91,7 +92,9 @@ def pairs_of(draw):
     files = {"bad.pgm": b"P2 1 1 255 7", "bad.json": b"{", "c.json": json.dumps(WHOLE).encode()}
     files |= {"third.json": json.dumps(third()).encode(), "fine.json": json.dumps(third(("disparities.fine", True))).encode()}
     good, refused = [], [["bad.pgm", "l0.pgm", "-"], ["l0.pgm", "bad.pgm", "c.json"]]
-    refused += [["l0.pgm", "r0.pgm", name] for name in ("bad.json", "fine.json")]
+    refused.append(["l0.pgm", "r0.pgm", "bad.json"])
+    # The pair is refused or not, as the program takes finer disparities.
+    (good if reference_inputs.TAKES_FINE else refused).append(["l0.pgm", "r0.pgm", "fine.json"])
     for number in range(3):
         # Of different widths, so that none suits another.
         width, height = 3 * number + draw.between(1, 3), draw.between(1, 4)

@@ -14,6 +14,10 @@ import sys
 if hasattr(sys, "set_int_max_str_digits"):
     sys.set_int_max_str_digits(0)
 
+# Whether a calibration may have `disparities.fine` true: False as long as the program refuses it.
+# The cases for the program follow it; the definitions and their own tests are there either way.
+TAKES_FINE = True
+
 USAGE, REFUSED, UNREAD, UNWRITTEN = 2, 3, 4, 5
 LONGEST_IMAGE, LONGEST_CALIBRATION, LONGEST_GRID = 67108864, 16777216, 268435456
 
@@ -196,9 +200,9 @@ RANGES = {
 # A number whose least value is that of another key of its object, and the numbers that have to be odd.
 LEAST = {"penalties.p2": "p1", "camera.far": "near"}
 ODD = ("census.width", "census.height")
-# The keys that are true or false, each with the versions that have it and the values that it may have. They are checked
-# last in their object, and their names aren't known in other versions.
-FLAGS = {"disparities.fine": ((3,), (False,)), "penalties.adapt": ((2, 3), (False, True))}
+# The keys that are true or false, each with the versions that have it. They are checked last in
+# their object, and their names aren't known in other versions.
+FLAGS = {"disparities.fine": (3,), "penalties.adapt": (2, 3)}
 
 
 def keys_of(section):
@@ -208,7 +212,13 @@ def keys_of(section):
 
 def flags_of(section, version):
     """The names of an object's keys that are true or false."""
-    return [path.partition(".")[2] for path, (in_versions, _) in FLAGS.items() if path.startswith(section + ".") and version in in_versions]
+    known = [path for path, versions in FLAGS.items() if version in versions]
+    return [path.partition(".")[2] for path in known if path.startswith(section + ".")]
+
+
+def may_be_true(path):
+    """Whether `true` is in range for such a key."""
+    return TAKES_FINE or path != "disparities.fine"
 
 
 class Calibration:
@@ -218,7 +228,7 @@ class Calibration:
     first, count = 0, 64
     window = (9, 7)
     p1, p2 = 10, 120
-    is_adaptive = False
+    is_adaptive = is_fine = False
     left = right = {"kind": "identity"}
     camera = grid = regions = None
 
@@ -314,7 +324,7 @@ def read_calibration(data):
         for flag in flags:
             path = f"{name}.{flag}"
             made[flag] = get(it, path, bool)
-            in_range(made[flag] in FLAGS[path][1], path)
+            in_range(may_be_true(path) or not made[flag], path)
         return made
 
     def warp(parent, path):
@@ -356,6 +366,7 @@ def read_calibration(data):
     made.version = version
     disparities = section(top, "disparities", version)
     made.first, made.count = disparities["first"], disparities["count"]
+    made.is_fine = disparities.get("fine", False)
     census = section(top, "census", version)
     made.window = (census["width"], census["height"])
     penalties = section(top, "penalties", version)

@@ -268,6 +268,174 @@ def disparities(sums, left, right, first):
     return found
 
 
+# Finer disparities
+
+# The places of a window, row by row, and how far a disparity may be from a pixel's own to take part
+# in the pixel's slopes and in its mean.
+WINDOW = [(i, j) for j in range(-2, 3) for i in range(-2, 3)]
+SLOPES_MOST, MEAN_MOST = 32, 16
+# By how much, in sixteenths, the three places lie apart at which the right plane is read, how many
+# steps lie between two of them, and what the small samples of each plane stay below.
+READ, STEPS = (8, 0, -8), 8
+LEFT_LIMIT, RIGHT_LIMIT = 256, 4096
+
+
+def rounded(a, b):
+    return (2 * a + b) // (2 * b)
+
+
+def at(rows, x, y):
+    """What stands at (x, y); None outside."""
+    return rows[y][x] if 0 <= y < len(rows) and 0 <= x < len(rows[0]) else None
+
+
+def slope_sums(found, x, y):
+    """Nx, Mx, Ny and My: over the window's disparities near the pixel's own, the sums of i times
+    the difference, of i times i, and the same of j."""
+    own, near = found[y][x], []
+    for i, j in WINDOW:
+        value = at(found, x + i, y + j)
+        if value is not None and abs(value - own) <= SLOPES_MOST:
+            near.append((i, j, value - own))
+    across = sum(i * rise for i, _, rise in near), sum(i * i for i, _, _ in near)
+    down = sum(j * rise for _, j, rise in near), sum(j * j for _, j, _ in near)
+    return *across, *down
+
+
+def slopes(found, x, y):
+    """By how much the surface's disparity is greater at i and at j from -2 to 2: s(i) and t(j)."""
+    rise_x, square_x, rise_y, square_y = slope_sums(found, x, y)
+    of = lambda rise, square: [rounded(k * rise, square) if square else 0 for k in range(-2, 3)]
+    return of(rise_x, square_x), of(rise_y, square_y)
+
+
+def sampled(plane, u, y):
+    """Sixteen times the plane's value in row y at u sixteenths of a pixel, and None; or None, and
+    the pixel that is needed and misses."""
+    q, f = u // 16, u % 16
+    total = 0
+    for column, weight in ((q, 16 - f), (q + 1, f)):
+        value = at(plane, column, y) if weight else 0
+        if value is None:
+            return None, (column, y)
+        total += weight * value
+    return total, None
+
+
+def left_samples(left, x, y):
+    """l(i, j) over the window, and the pixels that miss."""
+    places = [(x + i, y + j) for i, j in WINDOW]
+    samples = [at(left, *place) for place in places]
+    return samples, [place for place, sample in zip(places, samples) if sample is None]
+
+
+def right_samples(found, right, first, x, y):
+    """E(o; i, j) over the window for each o, and the pixels that miss."""
+    (s, t), samples, missing = slopes(found, x, y), {}, []
+    for o in READ:
+        samples[o] = []
+        for i, j in WINDOW:
+            u = 16 * (x + i - first) - found[y][x] - s[i + 2] - t[j + 2] + o
+            sample, gap = sampled(right, u, y + j)
+            samples[o].append(sample)
+            missing += [gap] if gap else []
+    return samples, missing
+
+
+def made_small(samples, limit):
+    """The samples less the least of them, divided by the least power of two for which all of them
+    are below the limit."""
+    least, halvings = min(samples), 0
+    while any((sample - least) // 2**halvings >= limit for sample in samples):
+        halvings += 1
+    return [(sample - least) // 2**halvings for sample in samples]
+
+
+def small_windows(own, others):
+    """l' and, for each o, e: the samples of both planes made small, the right one's together."""
+    together = made_small([sample for o in READ for sample in others[o]], RIGHT_LIMIT)
+    size = len(WINDOW)
+    e = {o: together[size * part : size * part + size] for part, o in enumerate(READ)}
+    return made_small(own, LEFT_LIMIT), e
+
+
+def moved_samples(e, c):
+    """r: what the right plane has for a disparity greater by c sixteenths."""
+    side = e[8] if c < 0 else e[-8]
+    return [(STEPS - abs(c)) * middle + abs(c) * other for middle, other in zip(e[0], side)]
+
+
+def product_of(a, b):
+    """25 times the sum of products less the product of the sums of two windows."""
+    return len(a) * sum(one * other for one, other in zip(a, b)) - sum(a) * sum(b)
+
+
+def score(a, b):
+    return a * a // (b // 256) if a > 0 and b >= 256 else 0
+
+
+def judged(own, e, value, count):
+    """For each c whose disparity is among those that are tried, A and B."""
+    made = {}
+    for c in range(-STEPS, STEPS + 1):
+        if 0 <= value + c <= 16 * (count - 1):
+            r = moved_samples(e, c)
+            made[c] = product_of(own, r), product_of(r, r)
+    return made
+
+
+def finer_value(found, left, right, first, count, x, y):
+    """The finer value of a pixel that has one, and, where it stays as it is, why."""
+    value = found[y][x]
+    own, missing = left_samples(left, x, y)
+    if missing:
+        return value, "left ({}, {}) is void or outside".format(*missing[0])
+    others, missing = right_samples(found, right, first, x, y)
+    if missing:
+        return value, "right ({}, {}) is void or outside".format(*missing[0])
+    own, e = small_windows(own, others)
+    scores = judged(own, e, value, count)
+    c = max(scores, key=lambda c: (score(*scores[c]), -abs(c), -c))
+    a, b = scores[c]
+    if score(a, b) == 0:
+        return value, "no score"
+    if 3 * a * a < product_of(own, own) * b:
+        return value, "less than a third"
+    return value + c, None
+
+
+def mean(found, x, y):
+    """The rounded mean of the up to nine disparities around a pixel that are near its own."""
+    own = found[y][x]
+    around = [at(found, x + i, y + j) for j in (-1, 0, 1) for i in (-1, 0, 1)]
+    near = [value for value in around if value is not None and abs(value - own) <= MEAN_MOST]
+    return rounded(sum(near), len(near))
+
+
+def each_of(found, make):
+    """A new map in which every disparity is what `make` gives for its pixel."""
+
+    def value(x, y):
+        return None if found[y][x] is None else make(x, y)
+
+    return [[value(x, y) for x in range(len(found[0]))] for y in range(len(found))]
+
+
+def finer_values(found, left, right, first, count):
+    return each_of(found, lambda x, y: finer_value(found, left, right, first, count, x, y)[0])
+
+
+def means(found):
+    return each_of(found, lambda x, y: mean(found, x, y))
+
+
+def finer(found, left, right, calibration):
+    """The map with finer disparities, where the calibration asks for them."""
+    if not calibration.is_fine:
+        return found
+    return means(finer_values(found, left, right, calibration.first, calibration.count))
+
+
 # Peaks and filling
 
 
@@ -344,10 +512,6 @@ def filled(found, matched, left, first, count):
 
 
 # Heights and volumes
-
-
-def rounded(a, b):
-    return (2 * a + b) // (2 * b)
 
 
 def point(camera, x, y, sixteenths):
@@ -470,10 +634,12 @@ def differences(earlier, later):
 
 
 def match_planes(left, right, guide, calibration):
-    """The map of disparities of two planes, and for each pixel of the right one its own index or None."""
+    """The map of disparities of two planes before peaks and filling, and for each pixel of the
+    right one its own index or None."""
     sums = sums_of(costs_by(calibration, left, right), calibration.p1, calibration.p2, guide)
     matched = [[match_of(row, q, calibration.first) for q in range(len(row))] for row in sums]
-    return disparities(sums, left, right, calibration.first), matched
+    found = disparities(sums, left, right, calibration.first)
+    return finer(found, left, right, calibration), matched
 
 
 def survey(left_image, right_image, calibration, peak=0, fill=0, match=match_planes):

@@ -53,7 +53,7 @@ PROVED = """# What is proved
 | sgm_low | `low_call` is exact (`exact`; law `low_law`) | |
 | sgm_top | `run` as above | |
 | sgm_cases | | 2 stored cases: 1 calibrations, 0 command lines, 0 texts of grids, \
-0 of the six kernels, \
+0 of the six kernels, 0 of finer disparities, 0 of means alone, \
 1 whole runs (1 matches, 0 certificates, 0 changes, 0 demos) |
 """
 CONTRACTS = """# Contracts

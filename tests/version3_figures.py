@@ -1,14 +1,23 @@
 #!/usr/bin/env python3
-"""Matches the scenes of bench/accuracy.py with version 3 of the calibration and holds what comes out to fixed figures.
+"""Matches the scenes of bench/accuracy.py in version 3 and holds what comes out to fixed figures.
 
-    tests/version3_figures.py [--only SCENE..] [--separate]
+    tests/version3_figures.py [--only SCENE..] [--settings NAME..] [--separate]
 
-The scenes have 480 x 360 pixels and 64 disparities from 0 on. For each the valid pixels, the sum of the samples of
-OUT.pgm and the first 16 digits of its SHA-256 have to be those below. Three writings of the definitions, in plain
-Python, C and Rust, worked them out before the program had the version. Whatever differs is printed, and the status is 1.
+The scenes have 480 x 360 pixels and 64 disparities from 0 on. Each is matched with these settings:
 
-The program is the one that the variable SGM names (./sgm of this repository without it); with --separate it is the
-separate implementation, tests/quick_reference.py, which takes some seconds for each scene. Needs numpy.
+    whole         P1 25, P2 100, `fine` false;
+    fine          the same with `fine` true;
+    fine_adapt    P1 25, P2 1200, which follows the image, and `fine` true;
+    fine_filled   as fine, with peak=100 and fill=1 (poles alone).
+
+The valid pixels, the sum of the samples of OUT.pgm and the first 16 digits of its SHA-256 have to
+be those below. Three writings of the definitions, in plain Python, C and Rust, worked them out
+before the program had the version. Whatever differs is printed, and the status is 1.
+
+The program is the one that the variable SGM names (./sgm of this repository without it). With
+--separate it is the separate implementation, tests/quick_reference.py, which takes some seconds for
+each match. As long as the program refuses `fine` true (TAKES_FINE of reference_inputs.py) it is
+asked for `whole` alone. Needs numpy.
 """
 
 import argparse
@@ -23,66 +32,137 @@ HERE = os.path.dirname(os.path.abspath(__file__))
 sys.path[1:1] = [os.path.join(HERE, "..", name) for name in ("tools", "bench")]
 
 import accuracy
+import quick_reference
+import random_cases
+import reference_inputs
 import sgm_files
 from sgm_files import Wrong
 
-SEPARATE = os.path.join(HERE, "quick_reference.py")
 PIXELS = 480 * 360
-CALIBRATION = {
-    "version": 3,
-    "disparities": {"first": 0, "count": 64, "fine": False},
-    "census": {"width": 9, "height": 7},
-    "penalties": {"p1": 25, "p2": 100, "adapt": False},
+# Of each of the settings P1, P2, whether it follows the image, `fine`, and the options.
+SETTINGS = {
+    "whole": (25, 100, False, False, []),
+    "fine": (25, 100, False, True, []),
+    "fine_adapt": (25, 1200, True, True, []),
+    "fine_filled": (25, 100, False, True, ["peak=100", "fill=1"]),
 }
-# Of each scene the valid pixels, the sum of the samples and the beginning of the digest.
+# Of each match the valid pixels, the sum of the samples and the beginning of the digest.
 FIGURES = {
-    "slope": (166595, 69169444, "8212cb05632c2060"),
-    "heap": (164172, 70294344, "6e1e3c35abc14892"),
-    "wall": (164506, 46370706, "593bf7bf411bb2f0"),
-    "poles": (162090, 23475742, "ce961d2b2c8809a1"),
-    "noise": (164450, 46414824, "2a636357d4d25acf"),
-    "faint": (164471, 46414953, "49a007c6cafb1981"),
-    "blank": (142079, 42295431, "f1de0ed2bc4a61f2"),
-    "dark": (164494, 46394474, "14e857ce1b269b47"),
-    "row": (164160, 70265048, "a0020e9a5df4a53b"),
+    "whole": {
+        "slope": (166595, 69169444, "8212cb05632c2060"),
+        "heap": (164172, 70294344, "6e1e3c35abc14892"),
+        "wall": (164506, 46370706, "593bf7bf411bb2f0"),
+        "poles": (162090, 23475742, "ce961d2b2c8809a1"),
+        "noise": (164450, 46414824, "2a636357d4d25acf"),
+        "faint": (164471, 46414953, "49a007c6cafb1981"),
+        "blank": (142079, 42295431, "f1de0ed2bc4a61f2"),
+        "dark": (164494, 46394474, "14e857ce1b269b47"),
+        "row": (164160, 70265048, "a0020e9a5df4a53b"),
+    },
+    "fine": {
+        "slope": (166595, 69168208, "9d0ac0362f6c72e8"),
+        "heap": (164172, 70315409, "9e3dd34e12b0fbbb"),
+        "wall": (164506, 46505329, "b8dc9cd2dd922280"),
+        "poles": (162090, 23485625, "b0ecbc15abf4ecd1"),
+        "noise": (164450, 46552649, "33818e84750442ee"),
+        "faint": (164471, 46545676, "1d180fe1b471ac57"),
+        "blank": (142079, 42298263, "f6e743687fe4ea62"),
+        "dark": (164494, 46536072, "12fffa30d487e26d"),
+        "row": (164160, 70277309, "3ae978e602e89c1d"),
+    },
+    "fine_adapt": {
+        "slope": (166602, 69134618, "c70fcd7a6bb01750"),
+        "heap": (164164, 70277504, "db271a563f243ac9"),
+        "wall": (164472, 46478027, "acd3317622f1e9da"),
+        "poles": (161128, 24176267, "684eab456a4c3761"),
+        "noise": (164320, 46521036, "0996655b21c7ee33"),
+        "faint": (164471, 46470526, "2ba18148e66b8b8e"),
+        "blank": (147362, 42866813, "b8b6c9b5a756f72e"),
+        "dark": (164453, 46474433, "0014dddbe0b3ea41"),
+        "row": (163151, 69703763, "e74614b27b87c157"),
+    },
+    "fine_filled": {
+        "poles": (172800, 24864594, "6a07b5ea5d05de1f"),
+    },
 }
 
 
-def found_by(program, folder, scene):
-    """The valid pixels as the program prints them, the sum of the samples, and the beginning of the digest."""
-    calib, out = os.path.join(folder, "c.json"), os.path.join(folder, "o")
+def calibration_text(name):
+    p1, p2, is_adaptive, is_fine, _ = SETTINGS[name]
+    made = {
+        "version": 3,
+        "disparities": {"first": 0, "count": 64, "fine": is_fine},
+        "census": {"width": 9, "height": 7},
+        "penalties": {"p1": p1, "p2": p2, "adapt": is_adaptive},
+    }
+    return json.dumps(made)
+
+
+def run_program(words):
+    """The status, what is printed, and the line of a fault."""
+    command = [accuracy.SGM, *words]
+    done = subprocess.run(command, stdin=subprocess.DEVNULL, capture_output=True, text=True)
+    return done.returncode, done.stdout, done.stderr
+
+
+def run_separate(words):
+    """The same of the separate implementation, which takes `fine` whatever the program does."""
+    reference_inputs.TAKES_FINE = True
+    status, *streams = random_cases.run_reference(".", words, quick_reference.main)
+    return status, *(stream.decode() for stream in streams)
+
+
+def found_by(run, pair, folder, name):
+    """The valid pixels as they are printed, the sum of the samples, and the digest's beginning."""
+    calib, out = os.path.join(folder, f"{name}.json"), os.path.join(folder, name)
     with open(calib, "w", encoding="utf-8") as file:
-        json.dump(CALIBRATION, file)
-    pair = accuracy.write_pair(folder, accuracy.scene_of(scene))
-    done = subprocess.run([*program, "match", *pair, calib, out], stdin=subprocess.DEVNULL, capture_output=True, text=True)
-    if done.returncode:
-        raise Wrong(f"{scene}: {done.stderr.strip() or f'status {done.returncode}'}")
-    words = done.stdout.split()
-    if len(words) != 4 or done.stdout != f"valid {words[1]} of {PIXELS}\n":
-        raise Wrong(f"{scene}: the summary is {done.stdout!r}")
+        file.write(calibration_text(name))
+    status, printed, fault = run(["match", *pair, calib, out, *SETTINGS[name][-1]])
+    if status:
+        raise Wrong(f"{' '.join(pair)}: {fault.strip() or f'status {status}'}")
+    words = printed.split()
+    if len(words) != 4 or printed != f"valid {words[1]} of {PIXELS}\n":
+        raise Wrong(f"{' '.join(pair)}: the summary is {printed!r}")
     samples, _ = sgm_files.read_pgm(out + ".pgm")
     digest = hashlib.sha256(sgm_files.read_bytes(out + ".pgm")).hexdigest()
     return int(words[1]), int(samples.sum(dtype="int64")), digest[:16]
 
 
+def differing(run, scene, names):
+    """How many of a scene's matches there are, and lines on those that differ."""
+    names, lines = [name for name in names if scene in FIGURES[name]], []
+    with tempfile.TemporaryDirectory(prefix="sgm-version3_figures.") as folder:
+        pair = accuracy.write_pair(folder, accuracy.scene_of(scene))
+        for name in names:
+            sgm_files.progress(f"matching {scene}, {name}")
+            found, wanted = found_by(run, pair, folder, name), FIGURES[name][scene]
+            if found != wanted:
+                both = ["{} valid, sum {}, digest {}".format(*them) for them in (found, wanted)]
+                lines.append(f"{scene}, {name}: {both[0]}, where there have to be {both[1]}")
+    return len(names), lines
+
+
 def main():
-    parser = argparse.ArgumentParser(description=__doc__.split("\n\n")[0], epilog="Example: tests/version3_figures.py --only wall poles")
-    parser.add_argument("--only", nargs="+", choices=FIGURES, metavar="SCENE", help=f"some of them: {', '.join(FIGURES)}")
-    parser.add_argument("--separate", action="store_true", help="by the separate implementation in place of the program")
+    epilog = "Example: tests/version3_figures.py --only wall poles"
+    parser = argparse.ArgumentParser(description=__doc__.split("\n\n")[0], epilog=epilog)
+    scenes = FIGURES["whole"]
+    for word, values, metavar in (("--only", scenes, "SCENE"), ("--settings", SETTINGS, "NAME")):
+        text = f"some of them: {', '.join(values)}"
+        parser.add_argument(word, nargs="+", choices=values, metavar=metavar, help=text)
+    separate = "by the separate implementation in place of the program"
+    parser.add_argument("--separate", action="store_true", help=separate)
     words = parser.parse_args()
     sgm_files.need(numpy=sgm_files.numpy)
-    program, differ = ([sys.executable, SEPARATE] if words.separate else [accuracy.SGM]), 0
-    scenes = words.only or list(FIGURES)
-    for scene in scenes:
-        sgm_files.progress(f"matching {scene}")
-        with tempfile.TemporaryDirectory(prefix="sgm-version3_figures.") as folder:
-            found = found_by(program, folder, scene)
-        if found != FIGURES[scene]:
-            differ += 1
-            both = ["{} valid, sum {}, digest {}".format(*them) for them in (found, FIGURES[scene])]
-            sgm_files.progress("")
-            print(f"{scene}: {both[0]}, where there have to be {both[1]}", flush=True)
-    print(f"version3_figures: {len(scenes) - differ} scenes as they have to be, {differ} different")
+    takes_fine = words.separate or reference_inputs.TAKES_FINE
+    names = [name for name in words.settings or SETTINGS if takes_fine or not SETTINGS[name][3]]
+    run = run_separate if words.separate else run_program
+    number = differ = 0
+    for scene in words.only or scenes:
+        matched, lines = differing(run, scene, names)
+        number, differ = number + matched, differ + len(lines)
+        sgm_files.progress("")
+        print("".join(line + "\n" for line in lines), end="", flush=True)
+    print(f"version3_figures: {number - differ} matches as they have to be, {differ} different")
     return 1 if differ else 0
 
 

@@ -11,12 +11,18 @@ the pixel is made of, then by how much the index wins, what lies between it and 
 there (`sgm match`, without peaks or filling, in a folder that goes away again), and the point in metres where the
 calibration has a camera.
 
+Where the calibration has `fine` true, the program is asked for its picture without that too. From
+what this one has around the pixel, and from the two pictures, follows how the disparity is made
+finer: how a window is laid along the surface, what each of seventeen changes scores, which one wins
+or why the disparity stays as it is, and the mean with the pixels around it.
+
 It ends with 0 where all of it holds together, and names what doesn't and ends with 1 elsewhere. The program is what
 --sgm names, or the variable SGM, or the one of this repository, or the one on the PATH. Needs numpy. Takes seconds
 for small pictures, a minute for large ones.
 """
 
 import argparse
+import json
 import os
 import subprocess
 import tempfile
@@ -25,6 +31,7 @@ import check_trace
 import sgm_files
 from cell_pixels import Points, sixteenths
 from check_trace import DIRECTIONS
+from fine_step import Finer, Mean
 from sgm_files import Wrong, decimal
 
 PROGRAM = os.path.normpath(os.path.join(os.path.dirname(os.path.abspath(__file__)), "..", "sgm"))
@@ -44,14 +51,37 @@ def run_program(program, *words):
     return done.stdout
 
 
-def value_in_picture(program, words):
-    """What OUT.pgm of a match has at the pixel: sixteenths above the first disparity, or None."""
-    sgm_files.progress("matching")
-    with tempfile.TemporaryDirectory(prefix="sgm-explain_pixel.") as folder:
+class Map:
+    """The disparities of a match: sixteenths above the first one."""
+
+    def __init__(self, words, calib, folder):
+        sgm_files.progress("matching")
         out = os.path.join(folder, "o")
-        run_program(program, "match", words.left, words.right, words.calib, out)
-        values, filled = sgm_files.read_disparities(out + ".pgm")
-    return int(values[words.y, words.x]) if filled[words.y, words.x] else None
+        run_program(words.sgm, "match", words.left, words.right, calib, out)
+        self.values, self.filled = sgm_files.read_disparities(out + ".pgm")
+
+    def at(self, x, y):
+        """The disparity at a pixel; None where there is none, or no such pixel."""
+        height, width = self.values.shape
+        has_value = 0 <= x < width and 0 <= y < height and self.filled[y, x]
+        return int(self.values[y, x]) if has_value else None
+
+
+def is_fine(calibration):
+    return calibration["disparities"].get("fine") is True
+
+
+def maps_of(words, calibration):
+    """What matches come to: without finer disparities, and as the calibration has it."""
+    with tempfile.TemporaryDirectory(prefix="sgm-explain_pixel.") as folder:
+        made = Map(words, words.calib, folder)
+        if not is_fine(calibration):
+            return made, made
+        other = {**calibration, "disparities": {**calibration["disparities"], "fine": False}}
+        calib = os.path.join(folder, "c.json")
+        with open(calib, "w", encoding="utf-8") as file:
+            json.dump(other, file)
+        return Map(words, calib, folder), made
 
 
 # Sums
@@ -185,8 +215,82 @@ def explain(pair, words, value, directions, indices, chosen):
     if value != 16 * chosen + moved:
         found, wanted = (sixteenths(it, pair.first) for it in (value, 16 * chosen + moved))
         raise Wrong(f"the program's picture has disparity {found} here, the sums ask for {wanted}")
-    found = sixteenths(value, pair.first)
-    yield f"So the disparity is {found}, in pixels, and that is what the program's picture has here."
+    found, without = sixteenths(value, pair.first), " without `fine`" if words.is_fine else ""
+    has = f"that is what the program's picture has here{without}"
+    yield f"So the disparity is {found}, in pixels, and {has}."
+
+
+# Finer disparities
+
+
+def changed_by(c):
+    return "No change" if c == 0 else f"{abs(c)}/16 {'less' if c < 0 else 'more'}"
+
+
+def window_lines(rise):
+    """How the window is laid along the surface."""
+    sums = rise.across, rise.down
+    across, down = (f"{above}/{below}" if below else "0" for above, below in sums)
+    columns, rows = (" ".join(map(str, steps)) for steps in (rise.columns, rise.rows))
+    yield "Now the grey values in a window of 5 by 5 make it finer. The disparities in it that are"
+    yield f"within 2 pixels of its own rise by {across} sixteenths from column to column and by"
+    yield f"{down} from row to row: {columns} in the window's columns and {rows} in its rows."
+
+
+def score_lines(step):
+    """The scores of all changes, and what the greatest one says."""
+    changes = [[c, *step.scores[c]] for c in sorted(step.scores)]
+    yield from columns([["change", "A", "B", "score"], *changes])
+    yield ""
+    yield "A says how far the left and the right window rise and fall together, and B how far the"
+    yield "right one does. The score is A A by a 256th of B, both rounded down; it is 0 where A"
+    yield "isn't above 0 or B is below 256."
+    a, b, score = step.scores[step.best]
+    if score:
+        share = 100 * a * a // (step.v * b)
+        yield f"{changed_by(step.best)} has the greatest score. V, which is to the left window what"
+        yield f"B is to the right one, is {step.v}: A A is {share} hundredths of V B."
+
+
+def finer_lines(step, first):
+    """How the grey values make the disparity finer, or why they don't."""
+    yield from window_lines(step.rise)
+    yield ""
+    if step.scores:
+        yield from score_lines(step)
+    if step.stays:
+        yield f"It stays {sixteenths(step.value, first)}: {step.stays}."
+    else:
+        yield f"So it becomes {sixteenths(step.value, first)}."
+
+
+def mean_lines(mean, first):
+    near = ", ".join(sixteenths(value, first) for value in mean.near)
+    yield "Of the finer disparities of this pixel and the eight around it these are within a pixel"
+    yield f"of its own: {near}."
+    made = sixteenths(mean.value, first)
+    yield f"Their mean is {made}, in pixels, and that is what the program's picture has here."
+
+
+def explain_finer(pair, words, before, after):
+    """How the disparity of the first map becomes that of the second one."""
+    x, y, first = words.x, words.y, pair.first
+    own, found = before.at(x, y), after.at(x, y)
+    if own is None and found is None:
+        return
+    if own is None or found is None:
+        raise Wrong("the program's picture has a disparity here with `fine` or without it alone")
+    yield ""
+    yield from finer_lines(Finer(pair, before.at, x, y), first)
+
+    def finer_at(x, y):
+        return None if before.at(x, y) is None else Finer(pair, before.at, x, y).value
+
+    mean = Mean(finer_at, x, y)
+    if found != mean.value:
+        found, wanted = (sixteenths(value, first) for value in (found, mean.value))
+        raise Wrong(f"the program's picture has disparity {found} here, the mean is {wanted}")
+    yield from mean_lines(mean, first)
 
 
 def point_line(calibration, words, value):
@@ -214,14 +318,18 @@ def main():
     pair = check_trace.Pair(words.left, words.right, calibration)
     if words.x >= pair.left.width or words.y >= pair.left.height:
         raise Wrong(f"there is no pixel {words.x} {words.y}")
-    value = value_in_picture(words.sgm, words)
+    words.is_fine = is_fine(calibration)
+    before, after = maps_of(words, calibration)
+    value = before.at(words.x, words.y)
     directions = directions_of(pair, words)
     sums = [sum(it.paths[d] for it in directions) for d in range(pair.count)]
     chosen = sums.index(min(sums))
     indices = [d for d in (chosen - 1, chosen, chosen + 1) if 0 <= d < pair.count]
     check_certificates(words.sgm, words, directions, indices, chosen)
     lines = list(explain(pair, words, value, directions, indices, chosen))
-    lines += point_line(calibration, words, value)
+    if words.is_fine:
+        lines += explain_finer(pair, words, before, after)
+    lines += point_line(calibration, words, after.at(words.x, words.y))
     sgm_files.progress("")
     print("\n".join(lines))
 

@@ -1,6 +1,7 @@
 #!/usr/bin/env python3
-"""Tries cell_pixels.py and explain_pixel.py: with the worked example, whose sums were added up by hand, and the
-separate implementation (tests/reference.py) as the program; and with programs that say something wrong."""
+"""Tries cell_pixels.py, explain_pixel.py and fine_step.py: with the worked example, whose sums were
+added up by hand, and the separate implementation (tests/reference.py) as the program; with programs
+that say something wrong; and with the worked rows of finer disparities."""
 
 import os
 import subprocess
@@ -14,6 +15,7 @@ REFERENCE = os.path.join(TOP, "tests", "reference.py")
 
 import cell_pixels
 import explain_pixel as tool
+import fine_step
 import sgm_files
 
 CALIBRATION = """{"version":1,"disparities":{"first":0,"count":2},
@@ -31,9 +33,23 @@ THIRD = {
  "warp":{"left":{"kind":"projective","matrix":[1,0,-1,0,1,0,0,0,1]},"right":{"kind":"identity"}}}
 """,
 }
+FINE = """{"version":3,"disparities":{"first":0,"count":3,"fine":true},
+ "census":{"width":3,"height":3},"penalties":{"p1":1,"p2":3,"adapt":false}}
+"""
 # A program that hands on what the reference says, changed by a command of sed.
 FAKE = """#!/usr/bin/env bash
 if [ "$1" = {command} ]; then {reference} "$@" | sed '{change}'; else {reference} "$@"; fi
+"""
+
+
+# A program that is the reference with finer disparities, in which a part may be changed.
+WITH_FINE = """#!/usr/bin/env python3
+import sys
+sys.path.insert(0, {tests!r})
+import reference, reference_inputs, reference_matching
+reference_inputs.TAKES_FINE = True
+{change}
+sys.exit(reference.main(sys.argv[1:]))
 """
 
 
@@ -129,6 +145,179 @@ class Explained(Tool):
         self.assertEqual(self.explain(2, 1, "none")[2], "explain_pixel: none: No such file or directory\n")
         os.remove(self.path("r.pgm"))
         self.assertEqual(self.explain(2, 1)[2], "explain_pixel: r.pgm: No such file or directory\n")
+
+
+class Plane:
+    def __init__(self, rows):
+        self.rows = rows
+
+    def value(self, x, y):
+        return self.rows[y][x] if 0 <= y < len(self.rows) and 0 <= x < len(self.rows[0]) else None
+
+
+class Pair:
+    """Two planes and the disparities that are tried, from 0 on."""
+
+    first = 0
+
+    def __init__(self, left, right, count):
+        self.left, self.right, self.count = Plane(left), Plane(right), count
+
+    def finer(self, found, x, y):
+        return fine_step.Finer(self, Plane(found).value, x, y)
+
+
+SLOPE = Pair(
+    left=[
+        [37, 37, 98, 80, 40, 34, 93, 135, 97, 54, 58, 113],
+        [80, 73, 26, 78, 116, 103, 48, 18, 88, 94, 67, 62],
+        [14, 37, 102, 56, 79, 113, 113, 64, 24, 92, 98, 65],
+        [121, 97, 52, 26, 85, 65, 85, 124, 79, 20, 69, 111],
+        [66, 98, 117, 79, 24, 86, 77, 84, 124, 63, 35, 67],
+    ],
+    right=[
+        [37, 112, 60, 15, 90, 141, 77, 30, 120, 66, 101, 48],
+        [80, 22, 97, 131, 55, 18, 104, 88, 40, 129, 71, 25],
+        [14, 105, 49, 92, 133, 70, 21, 116, 84, 33, 109, 62],
+        [121, 58, 26, 99, 44, 137, 83, 11, 95, 127, 36, 74],
+        [66, 130, 87, 20, 108, 52, 138, 63, 28, 91, 117, 45],
+    ],
+    count=4,
+)
+SLOPE_FOUND = [
+    [10, 13, 16, 19, 22, 25, 28, 31, 34, 37, 40, 43],
+    [8, 11, 14, 17, 20, None, 26, 29, 32, 35, 38, 41],
+    [6, 9, 12, 15, 18, 21, 24, 27, 30, 33, 36, 39],
+    [4, 7, 10, 13, 16, 19, 22, 60, 28, 31, 34, 37],
+    [2, 5, 8, 11, 14, 17, 20, 23, 26, 29, 32, 35],
+]
+TIE = Pair(
+    left=[
+        [42, 42, 53, 65, 78, 63, 51, 66, 66],
+        [60, 65, 56, 56, 71, 87, 66, 45, 56],
+        [51, 42, 36, 62, 85, 62, 36, 38, 49],
+        [41, 36, 66, 87, 71, 56, 56, 67, 57],
+        [61, 66, 51, 63, 78, 65, 53, 41, 49],
+    ],
+    right=[
+        [20, 80, 35, 110, 60, 25, 95, 50, 70],
+        [90, 30, 75, 45, 120, 65, 15, 85, 40],
+        [55, 10, 70, 100, 70, 10, 55, 33, 77],
+        [15, 65, 120, 45, 75, 30, 90, 61, 19],
+        [95, 25, 60, 110, 35, 80, 20, 44, 88],
+    ],
+    count=3,
+)
+
+
+class Fine(Tool):
+    """The worked rows, which three separate writings of the definition worked out."""
+
+    def test_slope(self):
+        step = SLOPE.finer(SLOPE_FOUND, 6, 2)
+        self.assertEqual((step.rise.across, step.rise.down), ((148, 48), (-102, 48)))
+        self.assertEqual(step.rise.columns, [-6, -3, 0, 3, 6])
+        self.assertEqual(step.rise.rows, [4, 2, 0, -2, -4])
+        self.assertEqual((step.v, step.best, step.value, step.stays), (671796, 3, 27, None))
+        self.assertEqual(step.scores[-8], (28539736, 10289608576, 20264739))
+        self.assertEqual(step.scores[0], (78043472, 10406555904, 149832528))
+        self.assertEqual(step.scores[3], (75669647, 8605392954, 170338444))
+        self.assertEqual(step.scores[8], (71713272, 11012600704, 119549882))
+
+    def test_tie(self):
+        step = TIE.finer([9 * [16]] * 5, 4, 2)
+        self.assertEqual((step.v, step.best, step.value, step.stays), (109596, -5, 11, None))
+        for c in (-5, 5):
+            self.assertEqual(step.scores[c], (18729000, 4469600000, 20090950))
+
+    def test_values_that_stay(self):
+        flat, other = [9 * [50]] * 5, [row[1:10] for row in SLOPE.right.rows]
+        no_score, little = "no score is above 0", "that is less than a third"
+        no_left = "the left picture has nothing at column"
+        no_right = no_left.replace("left", "right")
+        left, right = TIE.left.rows, TIE.right.rows
+        at_six = [*left[:4], [*left[4][:6], None, *left[4][7:]]]
+        at_zero = [[None, *right[0][1:]], *right[1:]]
+        for own, theirs, value, x, why in [
+            (left, right, 16, 1, f"{no_left} -1 of row 0"),
+            (at_six, right, 16, 4, f"{no_left} 6 of row 4"),
+            (left, at_zero, 16, 4, f"{no_right} 0 of row 0"),
+            (left, right, 20, 3, f"{no_right} -1 of row 0"),
+            (flat, right, 16, 4, no_score),
+            (left, flat, 16, 4, no_score),
+            (left, other, 16, 4, little),
+        ]:
+            step = Pair(own, theirs, 3).finer([9 * [value]] * 5, x, 2)
+            self.assertEqual((step.value, step.stays), (value, why))
+
+    def test_mean(self):
+        for found, near, mean in [
+            ([[10, 20, 26], [None, 10, 27], [9, 0, 11]], [10, 20, 26, 10, 9, 0, 11], 12),
+            ([[0, 1, None], [None, 0, None], [None, None, 400]], [0, 1, 0], 0),
+            ([[5, None, None], [None, 4, None], [None, None, None]], [5, 4], 5),
+        ]:
+            it = fine_step.Mean(Plane(found).value, 1, 1)
+            self.assertEqual((it.near, it.value), (near, mean))
+
+    def write_pair(self):
+        """A right picture, and a left one that shows it moved by half a pixel."""
+        row = [70, 20, 180, 90, 30, 210, 120, 60, 240, 10, 150]
+        rows = [row[3 * y % 11 :] + row[: 3 * y % 11] for y in range(7)]
+        shown = [[(one + other) // 2 for one, other in zip([77, *row], row)] for row in rows]
+        for name, samples in (("l.pgm", shown), ("r.pgm", rows)):
+            with open(self.path(name), "wb") as file:
+                file.write(b"P5\n11 7\n255\n" + bytes(sum(samples, [])))
+        with open(self.path("c.json"), "w") as file:
+            file.write(FINE)
+
+    def program(self, change=""):
+        with open(self.path("program"), "w") as file:
+            file.write(WITH_FINE.format(tests=os.path.join(TOP, "tests"), change=change))
+        os.chmod(self.path("program"), 0o755)
+        return self.path("program")
+
+    def test_program(self):
+        self.write_pair()
+        status, out, err = self.explain(5, 3, self.program())
+        self.assertEqual((status, err), (0, ""))
+        lines = out.split("\n")
+        has = "in pixels, and that is what the program's picture has here"
+        self.assertEqual(sum(line.endswith(f"{has} without `fine`.") for line in lines), 1)
+        at = lines.index("change         A            B      score")
+        changes = [int(line.split()[0]) for line in lines[at + 1 : at + 18]]
+        self.assertEqual(changes, list(range(-8, 9)))
+        self.assertIn("So it becomes 0.5.", lines)
+        self.assertIn(f"Their mean is 0.5, {has}.", lines)
+        # A pixel whose window sticks out of the picture.
+        status, out, err = self.explain(1, 3, self.program())
+        self.assertEqual((status, err), (0, ""))
+        self.assertIn(": the left picture has nothing at column -1 of row 1.", out)
+        self.assertNotIn("change ", out)
+
+    def test_programs_that_make_it_otherwise(self):
+        self.write_pair()
+        one_more = "lambda found: [[value and value + 1 for value in row] for row in found]"
+        nothing = "lambda found: [[None] * len(row) for row in found]"
+        either = "has a disparity here with `fine` or without it alone"
+        for part, other, line in (
+            ("finer_values", "lambda found, *_: found", "here, the mean is 0.5"),
+            ("means", one_more, "has disparity 0.5625 here, the mean is 0.5"),
+            ("means", nothing, either),
+        ):
+            program = self.program(f"reference_matching.{part} = {other}")
+            status, out, err = self.explain(5, 3, program)
+            self.assertEqual((status, out, err.count("\n")), (1, "", 1))
+            self.assertTrue(err.endswith(line + "\n"), err)
+
+    def test_without_fine(self):
+        """Nothing of that where the calibration doesn't ask for it."""
+        self.write_pair()
+        with open(self.path("c.json"), "w") as file:
+            file.write(FINE.replace("true", "false", 1))
+        status, out, err = self.explain(5, 3)
+        self.assertEqual((status, err), (0, ""))
+        self.assertNotIn("finer", out)
+        self.assertNotIn("`fine`", out)
 
 
 class Cells(Tool):

@@ -1,5 +1,5 @@
 -- What contracts see of a calibration, and what every calibration keeps.
-use Rattle.std.specs.Prelude.{◌≤◌, pos, false, List, All, Option, None, IfSome, is_some, IsTrue, length}
+use Rattle.std.specs.Prelude.{◌≤◌, pos, Bool, false, List, All, Option, None, IfSome, is_some, IsTrue, length}
 use Rattle.sgm_base.specs.Disparities.{Disparities}
 use Rattle.sgm_base.specs.declared.limits.TheConstants.{MAX_REGIONS}
 use Rattle.sgm_census.specs.Windows.{WindowSides}
@@ -17,6 +17,7 @@ use Rattle.sgm_report.specs.Areas.{Area, IsArea}
 
 pub record Calibration : Type 0 where
   pub span : Disparities
+  pub fine : Bool
   pub window : WindowSides
   pub rule : CostRule
   pub penalties : Penalties
@@ -26,9 +27,10 @@ pub record Calibration : Type 0 where
   pub grid : Option GridSpec
   pub regions : Option (List Area)
 
-abbrev pub settings : Disparities → WindowSides → CostRule → Penalties → Warp → Warp → Option Camera → Option GridSpec → Option (List Area) → Calibration
-settings span window rule penalties left right camera grid regions = record {
+abbrev pub settings : Disparities → Bool → WindowSides → CostRule → Penalties → Warp → Warp → Option Camera → Option GridSpec → Option (List Area) → Calibration
+settings span fine window rule penalties left right camera grid regions = record {
   span = span;
+  fine = fine;
   window = window;
   rule = rule;
   penalties = penalties;
@@ -42,7 +44,7 @@ settings span window rule penalties left right camera grid regions = record {
 -- the settings for the word `-`
 abbrev pub plain : Calibration
 plain =
-    settings (record { first = pos 0; count = 64 }) (record { width = 9; height = 7 }) Plain (record { p1 = 10; p2 = 120; adaptive = false }) Identity Identity None None None
+    settings (record { first = pos 0; count = 64 }) false (record { width = 9; height = 7 }) Plain (record { p1 = 10; p2 = 120; adaptive = false }) Identity Identity None None None
 
 -- the ranges of warps, camera and grid; a camera where there is a grid; a grid where there are regions, and each of them in it
 pub record IsCalibration (calib : Calibration) : Type 0 where

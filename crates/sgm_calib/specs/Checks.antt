@@ -14,7 +14,7 @@ use Rattle.sgm_calib.specs.declared.keys.CalibError.TheVariants.{Fault, NoMemory
 use Rattle.sgm_calib.specs.declared.place.Place.{Place}
 use Rattle.sgm_calib.specs.declared.sort.Sort.{Sort}
 use Rattle.sgm_calib.specs.Kinds.{is_kind}
-use Rattle.sgm_calib.specs.Rows.{Row, Form, object as object_form, warps, kind, name as name_form, truth, false_alone, regions, matrix, nodes, key_at, whole, count_of, is_in_range}
+use Rattle.sgm_calib.specs.Rows.{Row, Form, object as object_form, warps, kind, name as name_form, truth, regions, matrix, nodes, key_at, whole, count_of, is_in_range}
 use Rattle.sgm_report.specs.Areas.{is_region_name}
 use Rattle.sgm_calib.specs.Table.{is_known, mesh_cols, mesh_rows}
 
@@ -119,10 +119,6 @@ numbers_fault place holder row count = numbers_fault_of (key_at place row) count
 unfoldable pub text_in : (List ℕ → Bool) → Place → Data → Row → Result (List ℕ) CalibFault
 text_in range place holder row = or_out_of_range (Range (key_at place row)) range (typed_in as_str place holder row)
 
--- the truth value of a key in its object, or what is wrong: it is missing, its type, its range
-unfoldable pub truth_in : (Bool → Bool) → Place → Data → Row → Result Bool CalibFault
-truth_in range place holder row = or_out_of_range (Range (key_at place row)) range (typed_in as_bool place holder row)
-
 -- how many numbers the nodes of a mesh are: two for each
 abbrev pub node_numbers : Data → ℕ
 node_numbers side = 2 * count_of mesh_cols side * count_of mesh_rows side
@@ -134,7 +130,6 @@ key_fault_of regions place holder row = None
 key_fault_of kind place holder row = result_err (text_in is_kind place holder row)
 key_fault_of name_form place holder row = result_err (text_in is_region_name place holder row)
 key_fault_of truth place holder row = result_err (typed_in as_bool place holder row)
-key_fault_of false_alone place holder row = result_err (truth_in not place holder row)
 key_fault_of (matrix low high) place holder row = numbers_fault place holder row 9
 key_fault_of (nodes low high) place holder row = numbers_fault place holder row (node_numbers holder)
 key_fault_of _ place holder row = result_err (number_in place holder row)

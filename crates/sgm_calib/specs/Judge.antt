@@ -17,7 +17,7 @@ use Rattle.sgm_calib.specs.declared.sort.Sort.TheVariants as sort
 use Rattle.sgm_calib.specs.Calibration.{Calibration}
 use Rattle.sgm_calib.specs.Table as table
 use Rattle.sgm_calib.specs.Table.{rows_in, span_of, window_of, penalties_of, camera_of, grid_of}
-use Rattle.sgm_calib.specs.Rows.{Row, Form, object, warps, regions, key_at, whole, count_of, is_in_range, is_required, is_since}
+use Rattle.sgm_calib.specs.Rows.{Row, Form, object, warps, regions, key_at, whole, count_of, truth_of, is_in_range, is_required, is_since}
 use Rattle.sgm_calib.specs.Checks.{first_of, typed_in, or_out_of_range, object_fault, type_fault, keys_fault, value_of}
 use Rattle.sgm_calib.specs.WarpKeys.{warps_fault, warp_in}
 use Rattle.sgm_calib.specs.RegionKeys.{regions_fault, regions_in}
@@ -86,6 +86,7 @@ grid_in top = option_map grid_of (get table.grid.name top)
 abbrev pub calibration_in : Data → Calibration
 calibration_in top = record {
   span = span_of (value_of table.disparities top);
+  fine = truth_of table.fine (value_of table.disparities top);
   window = window_of (value_of table.census top);
   rule = rule_in top;
   penalties = penalties_of (value_of table.penalties top);

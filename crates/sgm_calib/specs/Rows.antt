@@ -25,7 +25,6 @@ pub data Form : Type 0 where
   kind : Form
   name : Form
   truth : Form
-  false_alone : Form
   regions : Form
   between : ℤ → ℤ → Form
   odd : ℤ → ℤ → Form
@@ -62,7 +61,6 @@ form_meant code.Warps = warps
 form_meant code.Kind = kind
 form_meant code.Name = name
 form_meant code.Truth = truth
-form_meant code.FalseAlone = false_alone
 form_meant code.Regions = regions
 form_meant (code.Between low high) = between low high
 form_meant (code.Odd low high) = odd low high

@@ -14,7 +14,7 @@ use Rattle.sgm_grid.specs.declared.limits.TheConstants.{MAX_CELL, MAX_HEIGHT, MA
 use Rattle.sgm_height.specs.declared.camera.Camera.{Camera}
 use Rattle.sgm_height.specs.declared.limits.TheConstants.{MAX_BASELINE, MAX_DEPTH, MAX_FOCAL, MAX_MOUNT, MAX_OFFSET}
 use Rattle.sgm_rectify.specs.declared.limits.TheConstants.{MAX_ENTRY, MAX_NODE, MAX_NODE_COUNT, MAX_STEP, MIN_ENTRY, MIN_NODE, MIN_NODE_COUNT, MIN_STEP}
-use Rattle.sgm_calib.specs.Rows.{Form, object, warps, kind, name, truth, false_alone, regions, between, odd, from, column, line, columns_from, lines_from, matrix, nodes, Presence, required, optional, with, of_kind, since, Row, is_given, number_of, count_of, truth_of}
+use Rattle.sgm_calib.specs.Rows.{Form, object, warps, kind, name, truth, regions, between, odd, from, column, line, columns_from, lines_from, matrix, nodes, Presence, required, optional, with, of_kind, since, Row, is_given, number_of, count_of, truth_of}
 
 -- the row of a key of the value itself, and of a key of an object
 abbrev pub entry : ℕ → List ℕ → Form → Presence → Row
@@ -52,9 +52,8 @@ first = key_of disparities 4 (codes "first") (between MIN_FIRST MAX_FIRST)
 abbrev pub count : Row
 count = key_of disparities 5 (codes "count") (between (pos 1) (pos MAX_COUNT))
 
--- true is out of range until finer disparities can be made
 abbrev pub fine : Row
-fine = given disparities 51 (codes "fine") false_alone (since 3)
+fine = given disparities 51 (codes "fine") truth (since 3)
 
 abbrev pub census : Row
 census = entry 6 (codes "census") object required

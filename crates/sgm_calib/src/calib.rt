@@ -17,6 +17,7 @@ use std::marker::Model;
 #[derive(Drop)]
 pub struct Calib {
     pub(crate) span: Span,
+    pub(crate) fine: bool,
     pub(crate) window: Window,
     pub(crate) rule: CostRule,
     pub(crate) pen: Pen,
@@ -34,11 +35,11 @@ impl Model for Calib {
 
     ghost Value = { Calibration };
 
-    ghost view = { λ c. settings c.span c.window c.rule (penalties_of c.pen) c.left c.right c.camera c.grid
+    ghost view = { λ c. settings c.span c.fine c.window c.rule (penalties_of c.pen) c.left c.right c.camera c.grid
         (option_map (λ v. v.items) c.regions) };
 
     ghost invariant = { λ c. IsCalibration
-        (settings c.span c.window c.rule (penalties_of c.pen) c.left c.right c.camera c.grid
+        (settings c.span c.fine c.window c.rule (penalties_of c.pen) c.left c.right c.camera c.grid
         (option_map (λ v. v.items) c.regions)) };
 }
 
@@ -57,6 +58,7 @@ impl Calib {
                 first: 0,
                 count: 64,
             },
+            fine: false,
             window: Window {
                 width: 9,
                 height: 7,
@@ -76,6 +78,13 @@ impl Calib {
         ensures { result ≡ self.now.span }
     {
         self.span
+    }
+
+    /// Whether the disparities are made finer.
+    pub fn fine(&self) -> bool
+        ensures { result ≡ self.now.fine }
+    {
+        self.fine
     }
 
     /// The window of the census transform.

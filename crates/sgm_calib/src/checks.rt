@@ -10,7 +10,7 @@ ghost use Rattle.serde_json.specs.Find.{as_bool, as_str, get};
 ghost use Rattle.sgm_calib.specs.Table as table;
 ghost use Rattle.sgm_calib.specs.Table.{is_known};
 ghost use Rattle.sgm_calib.specs.Rows.{key_at, whole, whole_at, number_of, IsCount, least, greatest, has_parity, is_in_range, is_required, is_since, is_given, truth_at, meant, form_meant, presence_meant};
-ghost use Rattle.sgm_calib.specs.Checks.{number_in, truth_in, typed_in, wholes_fault, object_fault, text_of};
+ghost use Rattle.sgm_calib.specs.Checks.{number_in, typed_in, wholes_fault, object_fault, text_of};
 ghost use Rattle.sgm_calib.specs.Judge.{sort_of, rule_in, version_fault, top_fault, itself_fault};
 
 use crate::keys::{CalibFault, Key};
@@ -180,20 +180,6 @@ pub fn truth(object: &Value, row: &Row, place: Place) -> Result<bool, CalibFault
             None => Err(CalibFault::Type_(key_at(row, place))),
             Some(truth) => Ok(truth),
         },
-    }
-}
-
-/// Checks a key of which false alone is in range: that it is there, its type, its range.
-#[tactic(auto, unfolding(crate::specs::Checks::truth_in))]
-pub fn check_false(object: &Value, row: &Row, place: Place) -> Result<(), CalibFault>
-    requires { row.now.number + place.shift < 256 }
-    ensures ok { OnOk result (result_err (truth_in not place (view object.now) (meant row.now)) ≡ None) }
-    ensures fault { IfErr result (λ f. result_err (truth_in not place (view object.now) (meant row.now)) ≡ Some f) }
-{
-    if truth(object, row, place)? {
-        Err(CalibFault::Range(key_at(row, place)))
-    } else {
-        Ok(())
     }
 }
 

@@ -12,7 +12,7 @@ use crate::calib::Calib;
 use crate::checks::{check_top, rule};
 use crate::keys::{CalibError, CalibFault};
 use crate::regions::regions;
-use crate::sections::{camera, census, disparities, grid, penalties};
+use crate::sections::{camera, census, disparities, fine, grid, penalties};
 use crate::warps::warps;
 use serde_json::Value;
 use std::alloc::Global;
@@ -32,6 +32,7 @@ fn entries(alloc: Global, top: &Value) -> Result<Calib, CalibError>
     let regions = regions(alloc, top, grid)?;
     Ok(Calib {
         span,
+        fine: fine(top),
         window,
         rule: rule(top),
         pen,

@@ -11,14 +11,14 @@ ghost use Rattle.sgm_height.specs.Camera.{IsCamera};
 ghost use Rattle.sgm_grid.specs.Cells.{IsGridSpec};
 ghost use Rattle.sgm_energy.specs.Pens.{penalties_of as seen};
 ghost use Rattle.sgm_calib.specs.Table as table;
-ghost use Rattle.sgm_calib.specs.Rows.{number_of, count_of, IsCount, meant, form_meant, presence_meant};
+ghost use Rattle.sgm_calib.specs.Rows.{number_of, count_of, truth_of, IsCount, meant, form_meant, presence_meant};
 ghost use Rattle.sgm_calib.specs.Checks.{keys_fault, value_of};
 ghost use Rattle.sgm_calib.specs.Table.{given_rows, rows_in, span_of, window_of, penalties_of, camera_of, grid_of};
 ghost use Rattle.sgm_calib.specs.Judge.{section_fault, camera_in, grid_in};
 
 use crate::checks::{
-    check_false, check_numbers, count_at, is_given, number_at, object_in, odd_or_whole, sort_of,
-    truth, truth_at, whole,
+    check_numbers, count_at, is_given, number_at, object_in, odd_or_whole, sort_of, truth,
+    truth_at, whole,
 };
 use crate::keys::CalibFault;
 use crate::place::PLAIN;
@@ -55,7 +55,7 @@ fn check_fine(object: &Value, sort: Sort) -> Result<(), CalibFault>
 {
     let row = &FINE;
     if is_given(row, sort) {
-        check_false(object, row, PLAIN)?;
+        truth(object, row, PLAIN)?;
     }
     Ok(())
 }
@@ -83,6 +83,16 @@ pub fn disparities(top: &Value) -> Result<Span, CalibFault>
     let found = object_in(top, &DISPARITIES)?;
     let Some(object) = found else { unreachable!() };
     span_of(object, sort_of(top))
+}
+
+/// Whether the disparities of a value are made finer.
+pub fn fine(top: &Value) -> bool
+    ensures { result ≡ truth_of table.fine (value_of table.disparities (view top.now)) }
+{
+    match top.get(DISPARITIES.name) {
+        None => false,
+        Some(object) => truth_at(object, FINE.name),
+    }
 }
 
 #[tactic(auto, using(std::proofs::lemmas::Int::ints))]

@@ -29,8 +29,6 @@ pub enum Form {
     Name,
     /// A truth value.
     Truth,
-    /// A truth value of which false alone is in range.
-    FalseAlone,
     /// A list of regions.
     Regions,
     /// A whole number from the first to the second.
@@ -133,7 +131,7 @@ const FIRST: Row = key_row!(4 in 3 "disparities." "first": FIRSTS);
 
 const COUNT: Row = key_row!(5 in 3 "disparities." "count": Form::Between(1, MAX_COUNT as i64));
 
-pub const FINE: Row = key_row!(51 in 3 "disparities." "fine": Form::FalseAlone, Presence::Since(3));
+pub const FINE: Row = key_row!(51 in 3 "disparities." "fine": Form::Truth, Presence::Since(3));
 
 /// The keys of the disparities, in the order of the checks.
 pub static DISPARITIES_KEYS: [Row; 3] = [FIRST, COUNT, FINE];

@@ -102,6 +102,10 @@ fn push_sides(text: &mut String, span: Span, window: Window) -> Result<(), Alloc
     write!(text, "ok {first} {count} {width} {height}")
 }
 
+fn push_fine(text: &mut String, fine: bool) -> Result<(), AllocError> {
+    if fine { text.push_str(" fine") } else { Ok(()) }
+}
+
 fn push_rule(text: &mut String, rule: CostRule) -> Result<(), AllocError> {
     match rule {
         CostRule::Plain => Ok(()),
@@ -139,6 +143,7 @@ fn push_ground(text: &mut String, calib: &Calib) -> Result<(), AllocError> {
 
 fn push_calib(text: &mut String, calib: &Calib) -> Result<(), AllocError> {
     push_sides(text, calib.span(), calib.window())?;
+    push_fine(text, calib.fine())?;
     push_rule(text, calib.rule())?;
     push_pen(text, calib.pen())?;
     push_warp(text, calib.left())?;

@@ -9,9 +9,12 @@ mod asc;
 mod calib;
 mod escapes;
 mod example;
+mod fine;
 mod kernel;
 mod line;
+mod mean;
 mod parts;
+mod rows;
 mod run;
 mod words;
 
@@ -30,7 +33,9 @@ fn answer<R: Threads + Sync>(
     match kind {
         "asc" => asc::answer(alloc, rest),
         "calib" => calib::answer(alloc, rest),
+        "fine" => fine::answer(alloc, rest),
         "kernel" => kernel::answer(alloc, rest),
+        "mean" => mean::answer(alloc, rest),
         "run" => run::answer(rt, alloc, rest),
         "words" => words::answer(alloc, rest),
         _ => String::from_str(alloc, "no such kind"),

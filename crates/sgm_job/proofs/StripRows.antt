@@ -1,16 +1,36 @@
 -- The disparities of all strips, each found by itself.
-use Rattle.std.proofs.Common.{◌≡◌, ℕ, ◌<◌, List, length, map, get_or, Option, Some, ◌∙◌}
+use Rattle.std.proofs.Common.{◌≡◌, ℕ, ◌*◌, ◌<◌, Bool, true, false, List, length, map, get_or, Option, Some, ap, ◌∙◌}
 use Rattle.std.specs.Prelude.{IfSome}
 use Rattle.std.proofs.lemmas.List.{length-map}
+use Rattle.sgm_base.specs.Disparities.{Disparities}
 use Rattle.sgm_base.specs.Values.{Values}
-use Rattle.sgm_strip.specs.Cuts.{CutParts}
+use Rattle.sgm_census.proofs.CodeLists.{length-row_by_row}
+use Rattle.sgm_strip.specs.Cuts.{CutParts, IsCut}
 use Rattle.sgm_strip.specs.Parcels.{ParcelParts}
 use Rattle.sgm_strip.specs.Scenes.{SceneParts, problem_of}
 use Rattle.sgm_strip.specs.Strips.{AreStrips}
 use Rattle.sgm_select.specs.Selection.{disparities_of}
 use Rattle.sgm_select.specs.Strips.{AreRowsOf, rows_of_strip}
 use Rattle.sgm_select.proofs.Strips.{full_map}
+use Rattle.sgm_fine.specs.Making.{made_finer}
+use Rattle.sgm_job.specs.Fining.{made, made_at}
+use Rattle.sgm_job.specs.declared.fining.Step.{Step}
+use Rattle.sgm_job.specs.declared.fining.Step.TheVariants.{Finer, Mean}
 use Rattle.sgm_job.proofs.Making.{count_of, each_mapped, each_of}
+
+-- what was in the places are the rows of a map's strips
+pub rows_found : {V : Type 0} (items : V → List (Option ℕ)) (whole : Values) (cut : CutParts) (places : List (Option V)) (all : List V)
+    → IsCut cut → cut.height ≡ whole.height → length whole.entries ≡ whole.width * whole.height → map Some all ≡ places → length places ≡ cut.strips
+    → ((k : ℕ) (d : Option V) → k < cut.strips → IfSome (get_or places k d) (λ v. items v ≡ rows_of_strip whole cut k))
+    → AreRowsOf whole cut (map items all)
+rows_found items whole cut places all kept high full e count found = record {
+  cut_kept = kept;
+  same_height = high;
+  full = full;
+  all = length-map all items ∙ count_of places all cut.strips e count;
+  each = each_mapped items (λ k rows. rows ≡ rows_of_strip whole cut k) all
+      (each_of (λ k v. items v ≡ rows_of_strip whole cut k) places all cut.strips e count found);
+}
 
 -- the map of a scene
 abbrev pub map_of : SceneParts → Values → Values → Values
@@ -29,3 +49,14 @@ are_rows items scene cut left right parcels places all strips e count found = re
   each = each_mapped items (λ k rows. rows ≡ rows_of_strip (map_of scene left right) cut k) all
       (each_of (λ k v. items v ≡ rows_of_strip (map_of scene left right) cut k) places all (length parcels) e count found);
 }
+
+-- ---- the map of a step
+
+pub full_made : (step : Step) (left right whole : Values) (span : Disparities) → length (made step left right whole span).entries ≡ whole.width * whole.height
+full_made step left right whole span = length-row_by_row whole.width whole.height (λ x y. made_at step left right whole span x y)
+
+-- one step after the other
+pub made_both : (fine : Bool) (left right whole finer m : Values) (span : Disparities) → fine ≡ true → finer ≡ made Finer left right whole span
+    → m ≡ made Mean left right finer span → m ≡ made_finer fine left right whole span
+made_both true left right whole finer m span h e f = f ∙ ap (λ v. made Mean left right v span) e
+made_both false left right whole finer m span h e f = absurd (cc)

@@ -14,16 +14,16 @@ use Rattle.sgm_job.specs.Survey.{Prepared, final, prepared_of, left_plane, refin
 -- the refined disparities of two planes, as they are matched
 abbrev pub matched_planes : Values → Values → Calibration → ℕ → Refining → Values
 matched_planes left right calib maxval refine =
-    refined_disparities (plane_problem left right calib.window calib.rule calib.span calib.penalties maxval) left right calib.span refine
+    refined_disparities (plane_problem left right calib.window calib.rule calib.span calib.penalties maxval) left right calib.span calib.fine refine
 
 -- the map by the codes of the planes is theirs
 pub map_of_codes : (a b : Values) (ca cb : Codes) (calib : Calibration) (maxval : ℕ) (refine : Refining)
     → ca ≡ codes_of a calib.window calib.rule → cb ≡ codes_of b calib.window calib.rule
-    → refined_disparities (matching_problem ca cb calib.span calib.penalties (guide_of a maxval)) a b calib.span refine ≡ matched_planes a b calib maxval refine
+    → refined_disparities (matching_problem ca cb calib.span calib.penalties (guide_of a maxval)) a b calib.span calib.fine refine ≡ matched_planes a b calib maxval refine
 map_of_codes a b ca cb calib maxval refine ea eb =
     let guide = guide_of a maxval in
-    ap (λ x. refined_disparities (matching_problem x cb calib.span calib.penalties guide) a b calib.span refine) ea
-    ∙ ap (λ x. refined_disparities (matching_problem (codes_of a calib.window calib.rule) x calib.span calib.penalties guide) a b calib.span refine) eb
+    ap (λ x. refined_disparities (matching_problem x cb calib.span calib.penalties guide) a b calib.span calib.fine refine) ea
+    ∙ ap (λ x. refined_disparities (matching_problem (codes_of a calib.window calib.rule) x calib.span calib.penalties guide) a b calib.span calib.fine refine) eb
 
 -- the map of the planes is that of the images
 pub map_is : (left right : Picture) (calib : Calibration) (a b : Values) (maxval : ℕ) (refine : Refining)

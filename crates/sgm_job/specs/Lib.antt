@@ -1,4 +1,5 @@
 pub mod Answers
+pub mod Fining
 pub mod Heights
 pub mod Matching
 pub mod Survey

@@ -14,6 +14,7 @@ use Rattle.sgm_census.specs.declared.rule.CostRule.{CostRule}
 use Rattle.sgm_census.specs.declared.rule.CostRule.TheVariants.{Plain, Smoothed}
 use Rattle.sgm_census.specs.Matching.{plane_problem}
 use Rattle.sgm_select.specs.Selection.{disparities_of, matches_of}
+use Rattle.sgm_fine.specs.Making.{made_finer}
 use Rattle.sgm_refine.specs.Refining.{Refining}
 use Rattle.sgm_refine.specs.Refined.{refined}
 use Rattle.sgm_rectify.specs.declared.warp.Warp.{Warp}
@@ -42,20 +43,24 @@ abbrev pub problem : Picture → Picture → Calibration → Problem
 problem left right calib =
     plane_problem (left_plane left calib) (right_plane right calib) calib.window calib.rule calib.span calib.penalties left.maxval
 
--- the disparities of the left image
+-- the disparities of two planes, made finer where that is asked for
+abbrev pub made_disparities : Problem → Values → Values → Disparities → Bool → Values
+made_disparities g left right span fine = made_finer fine left right (disparities_of g left right span.first) span
+
+-- those of the left image
 abbrev pub disparities : Picture → Picture → Calibration → Values
 disparities left right calib =
-    disparities_of (problem left right calib) (left_plane left calib) (right_plane right calib) calib.span.first
+    made_disparities (problem left right calib) (left_plane left calib) (right_plane right calib) calib.span calib.fine
 
 -- the disparities of two planes, refined
-abbrev pub refined_disparities : Problem → Values → Values → Disparities → Refining → Values
-refined_disparities g left right span refine =
-    refined (disparities_of g left right span.first) (matches_of g span.first) left span.first span.count refine
+abbrev pub refined_disparities : Problem → Values → Values → Disparities → Bool → Refining → Values
+refined_disparities g left right span fine refine =
+    refined (made_disparities g left right span fine) (matches_of g span.first) left span.first span.count refine
 
 -- those of the left image
 abbrev pub final : Picture → Picture → Calibration → Refining → Values
 final left right calib refine =
-    refined_disparities (problem left right calib) (left_plane left calib) (right_plane right calib) calib.span refine
+    refined_disparities (problem left right calib) (left_plane left calib) (right_plane right calib) calib.span calib.fine refine
 
 -- ---- what is matched
 

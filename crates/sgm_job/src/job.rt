@@ -9,6 +9,7 @@ ghost use Rattle.sgm_refine.specs.Refining.{plain};
 ghost use Rattle.sgm_job.specs.Survey.{is_too_large, pair_fault, prepared, refined_disparities, side_fault, surveyed};
 ghost use Rattle.sgm_job.specs.Answers.{Answers, Prepares};
 
+use crate::fining::finer_map;
 use crate::heights::heights;
 use crate::matching::complete_parcels;
 use crate::planes::{Coded, guided_scene, prepare_both, prepare_each};
@@ -115,7 +116,7 @@ fn pair_fault(left: Size, right: Size, calib: &Calib) -> Option<SurveyFault>
     }
 }
 
-/// The refined disparity of each pixel of the left plane of a scene.
+/// The refined disparity of each pixel of the left plane of a scene, made finer before that where `fine` is true.
 fn scene_map<R: Threads + Sync, G: Gate + Sync>(
     rt: &R,
     alloc: Global,
@@ -124,6 +125,7 @@ fn scene_map<R: Threads + Sync, G: Gate + Sync>(
     right: &Plane,
     strips: u32,
     workers: u32,
+    fine: bool,
     refine: Refine,
     gate: &G,
 ) -> Result<DispMap, AllocError>
@@ -133,11 +135,22 @@ fn scene_map<R: Threads + Sync, G: Gate + Sync>(
     requires right_height { right.now.height ≡ scene.now.left.height }
     requires strips { (1 ≤ strips) × (strips ≤ MAX_STRIPS) }
     requires workers { (1 ≤ workers) × (workers ≤ MAX_WORKERS) }
-    ensures { IfOk result (λ m. m ≡ refined_disparities (problem_of scene.now) left.now right.now scene.now.span refine) }
+    ensures { IfOk result (λ m. m ≡ refined_disparities (problem_of scene.now) left.now right.now scene.now.span fine refine) }
 {
     let parcels = complete_parcels(rt, alloc, scene, strips, workers, gate)?;
     let map = select_all(rt, alloc, left, right, &parcels, workers as usize)?;
-    refined_map(alloc, scene, &parcels, left, map, refine)
+    let finer = finer_map(
+        rt,
+        alloc,
+        fine,
+        left,
+        right,
+        map,
+        scene.span(),
+        strips,
+        workers as usize,
+    )?;
+    refined_map(alloc, scene, &parcels, left, finer, refine)
 }
 
 /// The refined disparity of each pixel of the left plane, whose values go up to `maxval`.
@@ -166,7 +179,7 @@ fn disparity_map<R: Threads + Sync, G: Gate + Sync>(
     requires strips { (1 ≤ strips) × (strips ≤ MAX_STRIPS) }
     requires workers { (1 ≤ workers) × (workers ≤ MAX_WORKERS) }
     ensures exact { IfOk result (λ m. m ≡ refined_disparities
-        (matching_problem left.codes right.codes calib.now.span calib.now.penalties (guide_of left.plane maxval)) left.plane right.plane calib.now.span refine) }
+        (matching_problem left.codes right.codes calib.now.span calib.now.penalties (guide_of left.plane maxval)) left.plane right.plane calib.now.span calib.now.fine refine) }
     ensures bound { IfOk result (λ m. AtMost MAX_DISPARITY m.entries) }
 {
     let span = calib.span();
@@ -181,6 +194,7 @@ fn disparity_map<R: Threads + Sync, G: Gate + Sync>(
         &right.plane,
         strips,
         workers,
+        calib.fine(),
         refine,
         gate,
     )
@@ -192,7 +206,8 @@ fn disparity_map<R: Threads + Sync, G: Gate + Sync>(
 /// regions. Faults are seen to before memory is taken, in the order of [`SurveyFault`]. The image is cut into
 /// `strips`, or as many as it has rows, and the work is shared among so many `workers`, each in a thread of its
 /// own where one can be made; neither they nor the strips change the answer. The workers come to the gate as
-/// [`sgm_work::scan`] says.
+/// [`sgm_work::scan`] says. Where the calibration asks for it, the disparities are made finer before anything is
+/// made of them, in at most so many threads too.
 pub fn survey<R: Threads + Sync, G: Gate + Sync>(
     rt: &R,
     alloc: Global,

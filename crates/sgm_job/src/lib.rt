@@ -2,6 +2,7 @@
 //! the grid of heights and the tallies of its regions.
 #![tactic(auto)]
 
+mod fining;
 mod heights;
 mod job;
 pub mod laws;

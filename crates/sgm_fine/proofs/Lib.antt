@@ -1,0 +1,16 @@
+pub mod Blends
+pub mod Covariances
+pub mod FinerBounds
+pub mod Halvings
+pub mod Nearby
+pub mod Numbers
+pub mod PixelSums
+pub mod PlaceSamples
+pub mod PlaceTests
+pub mod Products
+pub mod SideSums
+pub mod Squares
+pub mod StepLaws
+pub mod Totals
+pub mod Unhalved
+pub mod WindowSamples

@@ -1,0 +1,55 @@
+-- How well the right window explains the left one.
+use Rattle.std.specs.Prelude.{◌≡◌, ℕ, ◌-◌, ◌*◌, ◌/◌, ◌&&◌, if◌then◌else◌, unsigned_abs, ℤ, pos, ◌+ℤ◌, ◌-ℤ◌, ◌*ℤ◌, int_lt, int_le}
+use Rattle.sgm_base.specs.Ranges.{IsFromTo}
+use Rattle.sgm_fine.specs.Windows.{number, over, products}
+use Rattle.sgm_fine.specs.declared.scores.Fit.{Fit}
+use Rattle.sgm_fine.specs.declared.scores.Sums.{Sums}
+use Rattle.sgm_fine.specs.declared.scores.WindowSums.{WindowSums}
+use Rattle.sgm_fine.specs.declared.small.SmallWindow.{SmallWindow}
+use Rattle.sgm_fine.specs.declared.sums.TheConstants.{PLACES}
+
+-- how the numbers of two windows vary together: so many times the sum of their products as there are places, less the
+-- product of their sums
+abbrev pub covariance : (ℕ → ℤ) → (ℕ → ℤ) → ℤ
+covariance f g = (pos PLACES *ℤ products f g) -ℤ (over f *ℤ over g)
+
+-- numbers between two of each place: n eighths from the one to the other, eight times as great
+abbrev pub blended : (ℕ → ℤ) → (ℕ → ℤ) → ℕ → ℕ → ℤ
+blended here side n k = (pos (8 - n) *ℤ here k) +ℤ (pos n *ℤ side k)
+
+-- the score of right numbers that vary so with the left ones, and so by themselves: how much of the left ones they
+-- explain, but for a factor
+abbrev pub score : ℤ → ℤ → ℕ
+score a b = if int_lt (pos 0) a && int_le (pos 256) b then (unsigned_abs a * unsigned_abs a) / (unsigned_abs b / 256) else 0
+
+-- what the code holds of one offset's numbers r beside the left ones l
+pub record HoldsSide (sums : Sums) (l r : ℕ → ℤ) : Type 0 where
+  pub sum : sums.sum ≡ over r
+  pub left : sums.left ≡ products l r
+  pub square : sums.square ≡ products r r
+
+-- what the code holds of a window
+pub record HoldsSums (sums : WindowSums) (w : SmallWindow) : Type 0 where
+  pub left : sums.left ≡ over (number w.left)
+  pub square : sums.square ≡ products (number w.left) (number w.left)
+  pub after : HoldsSide sums.after (number w.left) (number w.after)
+  pub here : HoldsSide sums.here (number w.left) (number w.here)
+  pub before : HoldsSide sums.before (number w.left) (number w.before)
+  pub with_after : sums.with_after ≡ products (number w.here) (number w.after)
+  pub with_before : sums.with_before ≡ products (number w.here) (number w.before)
+
+-- the ranges of its sums
+pub record IsSums (sums : WindowSums) : Type 0 where
+  pub left : IsFromTo (pos 0) (pos 6375) sums.left
+  pub after : IsFromTo (pos 0) (pos 102375) sums.after.sum
+  pub here : IsFromTo (pos 0) (pos 102375) sums.here.sum
+  pub before : IsFromTo (pos 0) (pos 102375) sums.before.sum
+
+-- the right numbers of a window at the place c
+abbrev pub numbers_at : SmallWindow → ℤ → ℕ → ℤ
+numbers_at w c = blended (number w.here) (if int_lt c (pos 0) then number w.after else number w.before) (unsigned_abs c)
+
+-- the fit of a window at the place c
+pub record IsFitOf (fit : Fit) (w : SmallWindow) (c : ℤ) : Type 0 where
+  pub together : fit.together ≡ covariance (number w.left) (numbers_at w c)
+  pub right : fit.right ≡ covariance (numbers_at w c) (numbers_at w c)

@@ -1,0 +1,190 @@
+//! The finer value of a pixel.
+
+ghost use Rattle.std.specs.Prelude.{◌≡◌, ℕ, ◌+◌, ◌-◌, ◌*◌, ◌/◌, ◌^◌, ◌<◌, ◌≤◌, pos, ◌≤ℤ◌, ◌+ℤ◌, unsigned_abs, if◌then◌else◌, length, option_map, slice_index_or, None, IfSome, EachIndex};
+ghost use Rattle.sgm_base.specs.Disparities.{IsFirst};
+ghost use Rattle.sgm_base.specs.Ranges.{IsFromTo, Within};
+ghost use Rattle.sgm_base.specs.Values.{AtMost, value_at};
+ghost use Rattle.sgm_fine.specs.Finer.{ArePixelSums, AreSmallSums, best, finer_value, fits, place_score, tells};
+ghost use Rattle.sgm_fine.specs.Samples.{Centre, centre};
+ghost use Rattle.sgm_fine.specs.Scores.{IsSums};
+
+use crate::around::Field;
+use crate::samples::{Pixel, samples_at};
+use crate::scores::{WindowSums, fit_at, left_part, score_of, window_sums};
+use crate::slopes::slopes_at;
+use crate::small::small_window;
+use sgm_base::{DispMap, Plane, Span};
+
+/// The places that are tried, in the order in which the first of equal ones is taken.
+pub(crate) const ORDER: [i32; 17] = [0, -1, 1, -2, 2, -3, 3, -4, 4, -5, 5, -6, 6, -7, 7, -8, 8];
+
+/// The score of the place `c`; 0 where its value isn't one from 0 to `most`.
+#[inline]
+fn score_at(sums: &WindowSums, m: u16, most: u16, c: i32) -> u64
+    requires sums { IsSums sums.now }
+    requires small { AreSmallSums sums.now }
+    requires place { Within 8 c }
+    ensures value { (p : Centre) → ArePixelSums sums.now p → result ≡ (if fits most m c then place_score p c else 0) }
+    ensures within { 0 < result → IsFromTo (pos 0) (pos most) (pos m +ℤ c) }
+{
+    let value = i32::from(m) + c;
+    if value < 0 || i32::from(most) < value {
+        return 0;
+    }
+    score_of(fit_at(sums, c))
+}
+
+/// One of the places that are tried.
+#[inline]
+fn tried(k: usize) -> i32
+    requires { k < 17 }
+    ensures value { result ≡ slice_index_or ORDER k (pos 0) }
+    ensures near { Within 8 result }
+{
+    ORDER[k]
+}
+
+/// The place of the greatest score. `most` is the greatest value that there can be.
+fn best(sums: &WindowSums, m: u16, most: u16) -> i32
+    requires sums { IsSums sums.now }
+    requires small { AreSmallSums sums.now }
+    ensures value { (p : Centre) (count : ℕ) → ArePixelSums sums.now p → p.value ≡ m → most ≡ 16 * (count - 1) → result ≡ best count p }
+    ensures place { Within 8 result }
+    ensures small { IsFromTo (pos 0) (pos 65535) (pos m +ℤ result) }
+    ensures bound { m ≤ most → (pos m +ℤ result) ≤ℤ pos most }
+{
+    let mut best = 0;
+    let mut score = score_of(fit_at(sums, 0));
+    for k in 1..17 {
+        let c = tried(k);
+        let other = score_at(sums, m, most, c);
+        if score < other {
+            best = c;
+            score = other;
+        }
+    }
+    best
+}
+
+/// A square.
+#[inline]
+fn square(together: i64) -> i64
+    requires { Within 2506140000 together }
+    ensures { result ≡ pos (unsigned_abs together * unsigned_abs together) }
+{
+    together * together
+}
+
+/// A third of a product, rounded up.
+#[inline]
+fn third(left: i64, right: i64) -> i64
+    requires left { IsFromTo (pos 0) (pos 19507500) left }
+    requires right { IsFromTo (pos 0) (pos 321965280000) right }
+    ensures { result ≡ pos ((unsigned_abs left * unsigned_abs right + 2) / 3) }
+{
+    (left * right + 2) / 3
+}
+
+/// Whether the place `c` tells something: it has a score, and explains a third of the left window or more.
+fn tells(sums: &WindowSums, c: i32) -> bool
+    requires sums { IsSums sums.now }
+    requires small { AreSmallSums sums.now }
+    requires place { Within 8 c }
+    ensures { (p : Centre) → ArePixelSums sums.now p → result ≡ tells p c }
+{
+    let fit = fit_at(sums, c);
+    if score_of(fit) == 0 {
+        return false;
+    }
+    // Three times the square may be too great.
+    third(left_part(sums), fit.right) <= square(fit.together)
+}
+
+/// The value `m` made finer by a window's sums.
+fn refined(sums: &WindowSums, m: u16, most: u16) -> u16
+    requires sums { IsSums sums.now }
+    requires small { AreSmallSums sums.now }
+    ensures value { (p : Centre) (count : ℕ) → ArePixelSums sums.now p → p.value ≡ m → most ≡ 16 * (count - 1)
+        → result ≡ (if tells p (best count p) then unsigned_abs (pos m +ℤ best count p) else m) }
+    ensures bound { m ≤ most → result ≤ most }
+{
+    let c = best(sums, m, most);
+    if tells(sums, c) {
+        (i32::from(m) + c) as u16
+    } else {
+        m
+    }
+}
+
+/// The finer value of the pixel (x, y), whose value is `m`.
+pub(crate) fn finer_at(
+    left: &Field,
+    right: &Field,
+    map: &Field,
+    first: i32,
+    most: u16,
+    x: usize,
+    y: usize,
+    m: u16,
+) -> u16
+    requires pixel { (x < 2 ^ 15) × (y < 2 ^ 15) × IsFirst first }
+    ensures value { (count : ℕ) → most ≡ 16 * (count - 1) → result ≡ finer_value count (centre left.now right.now map.now first x y m) }
+    ensures bound { m ≤ most → result ≤ most }
+{
+    let slopes = slopes_at(map, x, y, m);
+    let at = Pixel {
+        x,
+        y,
+        value: m,
+        first,
+    };
+    match samples_at(left, right, at, slopes) {
+        None => m,
+        Some(window) => refined(&window_sums(&small_window(&window)), m, most),
+    }
+}
+
+/// The finer value of the pixel (x, y), none where it is void.
+fn finer_pixel(
+    left: &Field,
+    right: &Field,
+    map: &Field,
+    first: i32,
+    most: u16,
+    x: usize,
+    y: usize,
+) -> Option<u16>
+    requires pixel { (x < 2 ^ 15) × (y < 2 ^ 15) × IsFirst first }
+    ensures value { (count : ℕ) → most ≡ 16 * (count - 1)
+        → result ≡ option_map (λ value. finer_value count (centre left.now right.now map.now first x y value)) (value_at map.now x y) }
+    ensures bound { IfSome (value_at map.now x y) (λ m. m ≤ most) → IfSome result (λ m. m ≤ most) }
+{
+    match map.at(x, y) {
+        None => None,
+        Some(m) => Some(finer_at(left, right, map, first, most, x, y, m)),
+    }
+}
+
+/// Writes the finer values of the row `y` of a map.
+pub fn finer_row(
+    left: &Plane,
+    right: &Plane,
+    map: &DispMap,
+    span: Span,
+    y: u32,
+    into: &mut [Option<u16>],
+)
+    requires row { y < map.now.height }
+    requires into_length { length into.old ≡ map.now.width }
+    ensures value { EachIndex into.new (λ x. slice_index_or into.new x None
+        ≡ option_map (λ value. finer_value span.count (centre left.now right.now map.now span.first x y value)) (value_at map.now x y)) }
+    ensures bound { AtMost (16 * (span.count - 1)) map.now.entries → AtMost (16 * (span.count - 1)) into.new }
+{
+    let first = Field::of_plane(left);
+    let second = Field::of_plane(right);
+    let values = Field::of_map(map);
+    let most = (16 * (span.count - 1)) as u16;
+    for x in 0..into.len() {
+        into[x] = finer_pixel(&first, &second, &values, span.first, most, x, y as usize);
+    }
+}

@@ -1,0 +1,49 @@
+//! Sums over the pixels of a window.
+
+ghost use Rattle.std.specs.Prelude.{◌≡◌, ℕ, ◌<◌, ◌*ℤ◌};
+ghost use Rattle.sgm_base.specs.Ranges.{Within};
+ghost use Rattle.sgm_fine.specs.Windows.{number, over, products};
+
+/// The pixels of a window: five columns and five rows, row by row.
+pub(crate) const PLACES: usize = 25;
+
+/// A number of each pixel of a window.
+pub(crate) type Numbers = [i16; PLACES];
+
+/// The product of two numbers.
+#[inline]
+fn product(a: i16, b: i16) -> i32
+    requires a_small { Within 4096 a }
+    requires b_small { Within 4096 b }
+    ensures value { result ≡ a *ℤ b }
+    ensures small { Within 16777216 result }
+{
+    i32::from(a) * i32::from(b)
+}
+
+/// The sum of the products of two numbers of each pixel.
+#[inline]
+pub(crate) fn products_of(a: &Numbers, b: &Numbers) -> i32
+    requires a_small { (k : ℕ) → k < PLACES → Within 4096 (number a.now k) }
+    requires b_small { (k : ℕ) → k < PLACES → Within 4096 (number b.now k) }
+    ensures { result ≡ products (number a.now) (number b.now) }
+{
+    let mut sum = 0;
+    for k in 0..PLACES {
+        sum += product(a[k], b[k]);
+    }
+    sum
+}
+
+/// The sum of a number of each pixel.
+#[inline]
+pub(crate) fn total_of(a: &Numbers) -> i32
+    requires { (k : ℕ) → k < PLACES → Within 4096 (number a.now k) }
+    ensures { result ≡ over (number a.now) }
+{
+    let mut sum = 0;
+    for k in 0..PLACES {
+        sum += i32::from(a[k]);
+    }
+    sum
+}

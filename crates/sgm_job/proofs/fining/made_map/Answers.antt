@@ -1,0 +1,42 @@
+use Rattle.std.proofs.Common.{◌≡◌, ◌∙◌, map, subst, sym, ap, arith, length}
+use Rattle.std.proofs.lemmas.List.{with_items_is}
+use Rattle.sgm_base.specs.Values.{Values}
+use Rattle.sgm_select.specs.Strips.{AreRowsOf}
+use Rattle.sgm_strip.specs.Cuts.{CutParts, IsCut}
+use Rattle.sgm_job.specs.Fining.{made}
+use Rattle.sgm_job.proofs.StripRows.{full_made, rows_found}
+use Rattle.sgm_job.proofs.fining.made_map.Goals as goal
+
+pub join_strips-requires : goal.join_strips-requires
+join_strips-requires g c =
+    let cut = c.args.cut in
+    let kept : IsCut cut = subst IsCut c.cut.view_is c.cut.invariant in
+    let strips : c.cut.inside.strips ≡ cut.strips = ap (λ (k : CutParts). k.strips) c.cut.view_is in
+    let new = c.make_places.new.places in
+    let same = with_items_is c.in_ok-places.places new (omega (arith, c.in_ok-places.ensures, c.make_places.ensures.count, strips)) in
+    let whole = made c.args.step c.args.left.now c.args.right.now c.args.map.now c.args.span in
+    let are =
+    rows_found (λ v. v.items) whole cut new c.in_ok-strips.strips.items kept c.requires.height (full_made c.args.step c.args.left.now c.args.right.now c.args.map.now c.args.span)
+    (c.in_ok-strips.ensures ∙ same) c.make_places.ensures.count c.make_places.ensures.made in
+    record {
+      rows = (
+        whole,
+        cut,
+        subst (λ vs. AreRowsOf whole cut (map (λ v. v.items) vs)) (sym c.deref.ensures.value) are,
+        c.size.ensures.width,
+        c.size.ensures.height,
+      );
+    }
+
+pub returns : goal.returns
+returns g c =
+    let cut = c.args.cut in
+    let kept : IsCut cut = subst IsCut c.cut.view_is c.cut.invariant in
+    let strips : c.cut.inside.strips ≡ cut.strips = ap (λ (k : CutParts). k.strips) c.cut.view_is in
+    let new = c.make_places.new.places in
+    let same = with_items_is c.in_ok-places.places new (omega (arith, c.in_ok-places.ensures, c.make_places.ensures.count, strips)) in
+    let whole = made c.args.step c.args.left.now c.args.right.now c.args.map.now c.args.span in
+    let are =
+    rows_found (λ v. v.items) whole cut new c.in_ok-strips.strips.items kept c.requires.height (full_made c.args.step c.args.left.now c.args.right.now c.args.map.now c.args.span)
+    (c.in_ok-strips.ensures ∙ same) c.make_places.ensures.count c.make_places.ensures.made in
+    c.join_strips.ensures.exact whole cut (subst (λ vs. AreRowsOf whole cut (map (λ v. v.items) vs)) (sym c.deref.ensures.value) are) c.size.ensures.width c.size.ensures.height
