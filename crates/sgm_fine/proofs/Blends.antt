@@ -1,11 +1,10 @@
 -- Sums over numbers between those of two windows follow from the sums over both.
-use Rattle.std.proofs.Common.{◌≡◌, ℕ, ◌-◌, ◌<◌, ℤ, pos, ◌+ℤ◌, ◌*ℤ◌, arith, ap, ap₂, sym, ◌∙◌}
+use Rattle.std.proofs.Common.{◌≡◌, ℕ, ◌-◌, ℤ, pos, ◌+ℤ◌, ◌*ℤ◌, ap, ap₂, ◌∙◌}
 use Rattle.std.proofs.Math.IntN.{*ℤ_comm}
-use Rattle.std.proofs.lemmas.Int.{ints}
-use Rattle.sgm_fine.specs.Scores.{blended, covariance}
+use Rattle.sgm_fine.specs.Scores.{blended}
 use Rattle.sgm_fine.specs.Windows.{over, products}
 use Rattle.sgm_fine.proofs.Products.{times_sum, times_swap}
-use Rattle.sgm_fine.proofs.Totals.{products_same, sum_linear, sum_same}
+use Rattle.sgm_fine.proofs.Totals.{sum_linear, sum_same}
 
 pub over_blended : (h s : ℕ → ℤ) (n : ℕ) → over (blended h s n) ≡ (pos (8 - n) *ℤ over h) +ℤ (pos n *ℤ over s)
 over_blended h s n = sum_linear 25 (pos (8 - n)) (pos n) h s

@@ -16,7 +16,7 @@ use Rattle.sgm_fine.specs.Samples.{Centre, centre, has_all}
 use Rattle.sgm_fine.specs.Slopes.{step_to}
 use Rattle.sgm_fine.specs.Windows.{value_around}
 use Rattle.sgm_fine.specs.declared.finer.TheConstants.{ORDER}
-use Rattle.sgm_fine.proofs.Nearby.{count_near, count_none, count_some, count_zero, mean_is, sum_near, sum_none, sum_some, sum_zero}
+use Rattle.sgm_fine.proofs.Nearby.{count_near, count_none, count_some, mean_is, sum_near, sum_none, sum_some, sum_zero}
 
 -- no value above most
 abbrev Low : ℕ → Option ℕ → Type 0

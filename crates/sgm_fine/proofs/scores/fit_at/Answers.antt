@@ -1,4 +1,4 @@
-use Rattle.std.proofs.Common.{rules, ◌≡◌, ℕ, Bool, true, false, if◌then◌else◌, int_lt, unsigned_abs, ℤ, pos, FitsSigned, w32, to_z, of_z, arith, ap, subst, sym, ◌∙◌}
+use Rattle.std.proofs.Common.{rules, ◌≡◌, Bool, true, false, if◌then◌else◌, int_lt, unsigned_abs, ℤ, pos, FitsSigned, w32, to_z, of_z, arith, ap, subst, sym, ◌∙◌}
 use Rattle.std.proofs.lemmas.Int.{ints}
 use Rattle.sgm_fine.specs.Scores.{HoldsSide, HoldsSums, blended, covariance}
 use Rattle.sgm_fine.specs.Windows.{number, products}

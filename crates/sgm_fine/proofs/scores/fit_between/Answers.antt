@@ -1,7 +1,7 @@
-use Rattle.std.proofs.Common.{rules, ◌≡◌, ℕ, ◌+◌, ◌-◌, ◌*◌, ◌<◌, ◌≤◌, ℤ, pos, ◌+ℤ◌, ◌-ℤ◌, ◌*ℤ◌, FitsSigned, w32, w64, to_z, of_z, arith, ap, ap₂, subst, sym, ◌∙◌}
+use Rattle.std.proofs.Common.{rules, ◌≡◌, ℕ, ◌-◌, ◌<◌, ℤ, pos, ◌+ℤ◌, ◌-ℤ◌, ◌*ℤ◌, FitsSigned, w32, w64, to_z, of_z, arith, ap, ap₂, sym, ◌∙◌}
 use Rattle.std.proofs.lemmas.Int.{ints}
-use Rattle.sgm_base.specs.Ranges.{IsFromTo, Within}
-use Rattle.sgm_fine.specs.Scores.{blended, covariance}
+use Rattle.sgm_base.specs.Ranges.{Within}
+use Rattle.sgm_fine.specs.Scores.{blended}
 use Rattle.sgm_fine.specs.Windows.{over, products}
 use Rattle.sgm_fine.proofs.Blends.{over_blended, products_blended, squares_blended}
 use Rattle.sgm_fine.proofs.SideSums.{cast, eighths_same}

@@ -1,6 +1,6 @@
-use Rattle.std.proofs.Common.{rules, ◌≡◌, ℕ, ◌+◌, ◌-◌, ◌*◌, ◌≤◌, ℤ, pos, ◌+ℤ◌, ◌*ℤ◌, FitsSigned, w32, w64, to_z, of_z, arith, ap, ap₂, subst, sym, ◌∙◌}
+use Rattle.std.proofs.Common.{rules, ◌≡◌, ◌-◌, FitsSigned, w32, w64, to_z, of_z, arith, subst, sym, ◌∙◌}
 use Rattle.std.proofs.lemmas.Int.{ints}
-use Rattle.sgm_base.specs.Ranges.{IsFromTo, Within}
+use Rattle.sgm_base.specs.Ranges.{Within}
 use Rattle.sgm_fine.proofs.SideSums.{cast, eighths_same, eighths_within, narrow, of_eight}
 use Rattle.sgm_fine.proofs.scores.products_between.Goals as goal
 

@@ -1,6 +1,6 @@
-use Rattle.std.proofs.Common.{rules, ◌≡◌, ℕ, ◌+◌, ◌-◌, ◌*◌, ◌≤◌, ℤ, pos, ◌+ℤ◌, ◌*ℤ◌, FitsSigned, w32, w64, to_z, of_z, arith, ap, ap₂, subst, sym, ◌∙◌}
+use Rattle.std.proofs.Common.{rules, ◌≡◌, ◌-◌, pos, FitsSigned, w32, w64, to_z, of_z, arith, subst, sym, ◌∙◌}
 use Rattle.std.proofs.lemmas.Int.{ints}
-use Rattle.sgm_base.specs.Ranges.{IsFromTo, Within}
+use Rattle.sgm_base.specs.Ranges.{IsFromTo}
 use Rattle.sgm_fine.proofs.SideSums.{cast, eighths_from_to, eighths_same, of_eight}
 use Rattle.sgm_fine.proofs.scores.sum_between.Goals as goal
 

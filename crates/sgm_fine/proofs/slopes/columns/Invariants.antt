@@ -1,4 +1,4 @@
-use Rattle.std.proofs.Common.{◌≡◌, ℕ, ◌<◌, ◌*ℤ◌, length}
+use Rattle.std.proofs.Common.{◌≡◌, ℕ, ◌<◌, length}
 use Rattle.sgm_fine.specs.Windows.{column_of, number}
 use Rattle.sgm_fine.proofs.slopes.columns.Given as goal
 

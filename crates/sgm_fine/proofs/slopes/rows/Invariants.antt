@@ -1,4 +1,4 @@
-use Rattle.std.proofs.Common.{◌≡◌, ℕ, ◌<◌, ◌*ℤ◌, length}
+use Rattle.std.proofs.Common.{◌≡◌, ℕ, ◌<◌, length}
 use Rattle.sgm_fine.specs.Windows.{row_of_place, number}
 use Rattle.sgm_fine.proofs.slopes.rows.Given as goal
 

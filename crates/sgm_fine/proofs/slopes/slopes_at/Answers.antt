@@ -1,5 +1,4 @@
-use Rattle.std.proofs.Common.{◌≡◌, ◌%◌, ◌/◌, ℤ, ◌*ℤ◌, pos, unwrap_or, is_some, if◌then◌else◌, to_z, of_z, w32, arith, subst, sym, ap, ap₂, ◌∙◌}
-use Rattle.std.proofs.lemmas.Int.{ints}
+use Rattle.std.proofs.Common.{◌%◌, ◌/◌, ℤ, ◌*ℤ◌, pos, unwrap_or, is_some, if◌then◌else◌, subst, sym, ap₂, ◌∙◌}
 use Rattle.sgm_base.specs.Ranges.{IsFromTo, Within}
 use Rattle.sgm_fine.specs.Slopes.{step_at}
 use Rattle.sgm_fine.specs.Windows.{column_of, number, row_of_place, value_around}

@@ -1,4 +1,4 @@
-use Rattle.std.proofs.Common.{◌≡◌, Bool, true, false, refl, ℤ, pos, unwrap_or, is_some, if◌then◌else◌, length-set, to_z, of_z, w16, arith, ap, ◌∙◌}
+use Rattle.std.proofs.Common.{◌≡◌, Bool, true, false, refl, pos, unwrap_or, is_some, if◌then◌else◌, length-set, to_z, of_z, w16, arith, ap, ◌∙◌}
 use Rattle.std.proofs.lemmas.Int.{ints}
 use Rattle.std.specs.Int.{from_bool}
 use Rattle.sgm_fine.specs.Slopes.{step_at, step_to}

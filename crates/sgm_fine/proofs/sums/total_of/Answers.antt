@@ -1,4 +1,4 @@
-use Rattle.std.proofs.Common.{arith, sym, ◌∙◌}
+use Rattle.std.proofs.Common.{arith, sym}
 use Rattle.std.proofs.lemmas.Int.{ints}
 use Rattle.sgm_fine.specs.Windows.{number}
 use Rattle.sgm_fine.proofs.Totals.{sum_more, sum_none}

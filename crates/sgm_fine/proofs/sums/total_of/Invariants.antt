@@ -1,4 +1,4 @@
-use Rattle.std.proofs.Common.{◌≡◌, ℕ, ◌*◌, ◌≤◌}
+use Rattle.std.proofs.Common.{◌≡◌, ◌*◌, ◌≤◌}
 use Rattle.sgm_base.specs.Ranges.{Within}
 use Rattle.sgm_fine.specs.Windows.{number, sum_below}
 use Rattle.sgm_fine.proofs.sums.total_of.Given as goal
