@@ -11,7 +11,7 @@ pictures counts as hidden. The second matches made-up scenes whose truth is exac
 
 For each pair it prints a table in Markdown, a line for each way of matching: the calibration with a fixed P2
 (version 1), then with one that follows the image (version 2), for each P2 given, then version 3 with the penalties
-that are recommended for it, fixed and following the image, then those of the first two with peaks taken out and holes
+that are recommended for it, fixed and following the image, each without and with finer disparities, then those of the first two with peaks taken out and holes
 filled. What a program doesn't know (an older one has no version 2) is left out, and said. The columns are, of the
 pixels whose truth is known: the share that has a value; the share of these values that is wrong by more than
 1 and more than 2 pixels; the median error of the values that aren't wrong by more than 1, in pixels; and the
@@ -49,6 +49,12 @@ PLAIN = {
 # The penalties that are recommended for version 3: P1, P2 and whether P2 follows the image. They are those of a window
 # of 9 x 7, which has 62 neighbours; for other windows they are in proportion.
 THIRD, NEIGHBOURS = ((25, 100, False), (25, 1200, True)), 62
+# What an older program says of what it doesn't know.
+UNKNOWN = (
+    "sgm: calibration: unknown version",
+    "sgm: calibration: disparities.fine is out of range",
+    "sgm: word 5 is not an option",
+)
 # What OpenCV's documentation gives as usual: penalties from the block's size, and what takes wrong values out.
 BARE = {"blockSize": 3, "P1": 72, "P2": 288, "disp12MaxDiff": 1}
 FILTERED = {"blockSize": 5, "P1": 200, "P2": 800, "disp12MaxDiff": 1, "preFilterCap": 63, "uniquenessRatio": 10}
@@ -238,6 +244,7 @@ def variants(words, calibration):
         p1, p2 = (for_window(calibration, penalty) for penalty in (p1, p2))
         name = f"version 3, {'adapted' if is_adaptive else 'fixed'}, P2 {p2}"
         made.append((name, in_version(3, calibration, p1, p2, is_adaptive), []))
+        made.append((f"{name}, fine", in_version(3, calibration, p1, p2, is_adaptive, True), []))
     peak = f"peak={words.peak}"
     for name, changed in (first, second[0]):
         made.append((f"{name}, {peak}", changed, [peak]))
@@ -251,15 +258,15 @@ def for_window(calibration, penalty):
     return max(1, (2 * penalty * neighbours + NEIGHBOURS) // (2 * NEIGHBOURS))
 
 
-def in_version(version, calibration, p1, p2, is_adaptive=False):
-    """The calibration in that version, with these penalties, and without its grid."""
+def in_version(version, calibration, p1, p2, is_adaptive=False, is_fine=False):
+    """The calibration in that version, with these penalties, finer where asked for, and without its grid."""
     made = {key: value for key, value in calibration.items() if key not in ("grid", "regions")}
     span = {name: made["disparities"][name] for name in ("first", "count")}
     penalties = {"p1": p1, "p2": p2}
     if version > 1:
         penalties["adapt"] = is_adaptive
     if version > 2:
-        span["fine"] = False
+        span["fine"] = is_fine
     return {**made, "version": version, "disparities": span, "penalties": penalties}
 
 
@@ -275,7 +282,7 @@ def matched(folder, left, right, calibration, options):
     command = [SGM, "match", left, right, calib, out, *options]
     done = subprocess.run(command, stdin=subprocess.DEVNULL, stdout=subprocess.DEVNULL, stderr=subprocess.PIPE, text=True)
     line = done.stderr.strip().splitlines()[-1] if done.stderr.strip() else f"status {done.returncode}"
-    if line in ("sgm: calibration: unknown version", "sgm: word 5 is not an option"):
+    if line in UNKNOWN:
         raise Unknown(line)
     if done.returncode:
         raise Wrong(line)

@@ -114,18 +114,21 @@ class Ways(unittest.TestCase):
         words = accuracy.argparse.Namespace(p2=[400, 5], peak=7)
         given = {"version": 2, "disparities": {"first": 3, "count": 9, "fine": False}, "census": {"width": 9, "height": 7}}
         given |= {"penalties": {"p1": 10, "p2": 120, "adapt": True}, "camera": {}, "grid": {}, "regions": []}
-        span, fine = {"first": 3, "count": 9}, {"first": 3, "count": 9, "fine": False}
+        span = {"first": 3, "count": 9}
+        whole, fine = {**span, "fine": False}, {**span, "fine": True}
         wanted = [
             ("fixed, P2 120", 1, span, {"p1": 10, "p2": 120}),
             ("adapted, P2 400", 2, span, {"p1": 10, "p2": 400, "adapt": True}),
             ("adapted, P2 5", 2, span, {"p1": 10, "p2": 10, "adapt": True}),
-            ("version 3, fixed, P2 100", 3, fine, {"p1": 25, "p2": 100, "adapt": False}),
-            ("version 3, adapted, P2 1200", 3, fine, {"p1": 25, "p2": 1200, "adapt": True}),
+            ("version 3, fixed, P2 100", 3, whole, {"p1": 25, "p2": 100, "adapt": False}),
+            ("version 3, fixed, P2 100, fine", 3, fine, {"p1": 25, "p2": 100, "adapt": False}),
+            ("version 3, adapted, P2 1200", 3, whole, {"p1": 25, "p2": 1200, "adapt": True}),
+            ("version 3, adapted, P2 1200, fine", 3, fine, {"p1": 25, "p2": 1200, "adapt": True}),
         ]
         for (name, version, disparities, penalties), found in zip(wanted, accuracy.variants(words, given)):
             made = {"version": version, "disparities": disparities, "census": given["census"], "penalties": penalties, "camera": {}}
             self.assertEqual(found, (name, made, []))
-        names = [found[::2] for found in accuracy.variants(words, given)[5:]]
+        names = [found[::2] for found in accuracy.variants(words, given)[7:]]
         peak, both = ["peak=7"], ["peak=7", "fill=1"]
         said = [("fixed, P2 120, peak=7", peak), ("fixed, P2 120, peak=7 fill=1", both)]
         said += [("adapted, P2 400, peak=7", peak), ("adapted, P2 400, peak=7 fill=1", both)]
@@ -150,10 +153,11 @@ class Tables(unittest.TestCase):
         words = "--scenes --only wall poles --size 48x32 --count 40 --peak 9 --p2 200 400".split()
         lines, said = self.run_with(REFERENCE, *words)
         rivals = 2 if accuracy.cv2 is not None else 0
-        self.assertEqual(len(lines), 2 * (2 + 9 + rivals))
-        names = [line.split(" | ")[0][2:] for line in lines[2:11]]
+        self.assertEqual(len(lines), 2 * (2 + 11 + rivals))
+        names = [line.split(" | ")[0][2:] for line in lines[2:13]]
         wanted = ["fixed, P2 120", "adapted, P2 200", "adapted, P2 400"]
-        wanted += ["version 3, fixed, P2 100", "version 3, adapted, P2 1200", "fixed, P2 120, peak=9"]
+        wanted += [f"version 3, {way}" for way in ("fixed, P2 100", "fixed, P2 100, fine", "adapted, P2 1200")]
+        wanted += ["version 3, adapted, P2 1200, fine", "fixed, P2 120, peak=9"]
         wanted += ["fixed, P2 120, peak=9 fill=1", "adapted, P2 200, peak=9", "adapted, P2 200, peak=9 fill=1"]
         self.assertEqual(names, wanted)
         self.assertNotIn("left out", said)

@@ -6,7 +6,7 @@
 calib.txt is that of the stereo datasets of 2014 and 2021: lines NAME=VALUE with cam0, cam1, doffs, baseline (in
 millimetres), width, height and ndisp. The pair is rectified already, so there is no warp. The disparities are 0 to
 ndisp - 1; with --tight they are vmin to vmax. Near and far are the distances of the last and the first of them,
-mount is far. The calibration is of version 1, with --adapt of version 2, with --version 3 of that one. Convert the pictures with tools/photo_to_pgm.py, then bench/accuracy.py compares what is found with
+mount is far. The calibration is of version 1, with --adapt of version 2, with --version 3 of that one (then with finer disparities, unless --no-fine is there). Convert the pictures with tools/photo_to_pgm.py, then bench/accuracy.py compares what is found with
 the true disparities.
 """
 
@@ -70,7 +70,7 @@ def settings_of(words, span):
     if words.version == 3:
         p1, p2 = words.penalties or ((25, 1200) if words.adapt else (25, 100))
         penalties = {"p1": p1, "p2": p2, "adapt": words.adapt}
-        return {"version": 3, "disparities": {**span, "fine": False}, "census": census, "penalties": penalties}
+        return {"version": 3, "disparities": {**span, "fine": not words.no_fine}, "census": census, "penalties": penalties}
     p1, p2 = words.penalties or ((10, 400) if words.adapt else (10, 120))
     penalties = {"p1": p1, "p2": p2} | ({"adapt": True} if words.adapt else {})
     return {"version": 2 if words.adapt else 1, "disparities": span, "census": census, "penalties": penalties}
@@ -121,11 +121,14 @@ def words_of():
     parser.add_argument("--adapt", action="store_true", help="let P2 follow the image")
     parser.add_argument("--tight", action="store_true", help="disparities vmin to vmax in place of 0 to ndisp - 1")
     parser.add_argument("--version", type=int, choices=(3,), help="the calibration's version, in place of 1, or 2 with --adapt")
+    parser.add_argument("--no-fine", action="store_true", help="with --version 3: disparities that aren't made finer")
     help_penalties = "1 to 4000 each (10 120; with --adapt 10 400; in version 3 25 100, with --adapt 25 1200)"
     parser.add_argument("--penalties", type=penalty, nargs=2, metavar=("P1", "P2"), help=help_penalties)
     words = parser.parse_args()
     if words.penalties and words.penalties[0] > words.penalties[1]:
         parser.error("--penalties: P1 is above P2")
+    if words.no_fine and words.version != 3:
+        parser.error("--no-fine: needs --version 3")
     return words
 
 

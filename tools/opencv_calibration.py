@@ -17,7 +17,8 @@ distances that are measured. All three are micrometres, along the axis of the re
 disparities are those of the distances from near to far, where --first and --count don't say otherwise.
 With --adapt the penalty P2 follows the image: that is a calibration of version 2. With --version 3 it is one of version 3,
 whose costs hold where texture is faint or the picture noisy, with the penalties that are recommended for it: 25 and 100, or
-with --adapt 25 and 1200, for other windows than 9 x 7 in proportion. Don't measure volumes with version 3 yet.
+with --adapt 25 and 1200, for other windows than 9 x 7 in proportion. Its disparities are made finer by the grey values; with
+--no-fine they aren't, and then it is no calibration for volumes.
 
 Needs numpy, and OpenCV's package (cv2) for YAML, for XML, and where a rectification has to be computed.
 """
@@ -321,7 +322,7 @@ def settings_of(words, span):
         neighbours = census["width"] * census["height"] - 1
         p1, p2 = words.penalties or (in_proportion(it, neighbours) for it in (THIRD_ADAPTED if words.adapt else THIRD_PENALTIES))
         penalties = {"p1": p1, "p2": p2, "adapt": words.adapt}
-        return {"version": 3, "disparities": {**span, "fine": False}, "census": census, "penalties": penalties}
+        return {"version": 3, "disparities": {**span, "fine": not words.no_fine}, "census": census, "penalties": penalties}
     p1, p2 = words.penalties or (ADAPTED_PENALTIES if words.adapt else PENALTIES)
     penalties = {"p1": p1, "p2": p2} | ({"adapt": True} if words.adapt else {})
     return {"version": 2 if words.adapt else 1, "disparities": span, "census": census, "penalties": penalties}
@@ -458,6 +459,7 @@ def words_of():
     penalty = whole_word(1, 4000)
     later = "the calibration's version, in place of 1, or 2 with --adapt"
     option("--version", type=int, choices=(3,), help=later)
+    option("--no-fine", action="store_true", help="with --version 3: disparities that aren't made finer")
     help_penalties = "1 to 4000 each (10 120; with --adapt 10 400; in version 3 25 100, with --adapt 25 1200)"
     costs = {"metavar": ("P1", "P2"), "help": help_penalties}
     option("--penalties", type=penalty, nargs=2, **costs)
@@ -476,6 +478,8 @@ def words_of():
         parser.error("--near is above --far")
     if words.penalties and words.penalties[0] > words.penalties[1]:
         parser.error("--penalties: P1 is above P2")
+    if words.no_fine and words.version != 3:
+        parser.error("--no-fine: needs --version 3")
     for (name, (low, high)), value in zip(GRID.items(), words.grid or ()):
         if not low <= value <= high:
             parser.error(f"--grid: {name} {value} isn't from {low} to {high}")

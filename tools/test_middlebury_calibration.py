@@ -71,7 +71,9 @@ class Middlebury(unittest.TestCase):
             whole, made = json.loads(data), inputs.read_calibration(data)
             self.assertEqual((whole["version"], whole["penalties"]), (3, penalties))
             self.assertEqual((made.version, made.first, made.count, made.p1), (3, 0, 70, penalties["p1"]))
-            self.assertEqual(whole["disparities"], {"first": 0, "count": 70, "fine": False})
+            self.assertEqual(whole["disparities"], {"first": 0, "count": 70, "fine": True})
+            without = json.loads(run(GIVEN, "--version", "3", "--no-fine", *options)[2])
+            self.assertEqual(without, {**whole, "disparities": {"first": 0, "count": 70, "fine": False}})
 
     def test_refused(self):
         for old, new, line in [
@@ -87,6 +89,7 @@ class Middlebury(unittest.TestCase):
             self.assertEqual((status, errors, made), (1, f"middlebury_calibration: {line}\n", None))
         self.assertEqual(run(GIVEN.replace("vmin=7.5", ""), "--tight")[1], "middlebury_calibration: vmin isn't a number\n")
         self.assertEqual(run(GIVEN, "--penalties", "9", "8")[0], 2)
+        self.assertEqual(run(GIVEN, "--no-fine")[0], 2)
 
 
 if __name__ == "__main__":

@@ -140,7 +140,9 @@ class WithoutDistortion(unittest.TestCase):
             (" --penalties 7 90 --adapt", True, 7, 90),
         ]:
             whole = json.loads(run(PLAIN, LIMITS + " --version 3" + options)[2])
-            self.assertEqual((whole["version"], whole["disparities"]["fine"]), (3, False))
+            self.assertEqual((whole["version"], whole["disparities"]["fine"]), (3, True))
+            without = json.loads(run(PLAIN, LIMITS + " --version 3 --no-fine" + options)[2])
+            self.assertEqual(without, {**whole, "disparities": {**whole["disparities"], "fine": False}})
             self.assertEqual(whole["penalties"], {"p1": p1, "p2": p2, "adapt": is_adaptive}, options)
             made = made_from(PLAIN, LIMITS + " --version 3" + options)
             self.assertEqual((made.version, made.p1, made.p2, made.is_adaptive), (3, p1, p2, is_adaptive), options)
@@ -261,6 +263,7 @@ class WithoutDistortion(unittest.TestCase):
             ("--size 4097x1", "argument --size: 4097x1 isn't a width x height in range"),
             ("--census 4x4", "argument --census: 4x4 isn't a width x height in range"),
             ("--penalties 5 4", "--penalties: P1 is above P2"),
+            ("--no-fine", "--no-fine: needs --version 3"),
             ("--adapt --penalties 401 400", "--penalties: P1 is above P2"),
             ("--penalties 5 4001", "argument --penalties: 4001 isn't a whole number from 1 to 4000"),
             ("--first 1025", "argument --first: 1025 isn't a whole number from -1024 to 1024"),
