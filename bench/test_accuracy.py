@@ -184,7 +184,7 @@ class Tables(unittest.TestCase):
             lines, said = self.run_with(program, *files, truth)
         wanted = "| fixed, P2 120 | 100.00 % | 0.00 % | 0.00 % | 0.000 | 100.00 % | - | - | 0.00 % | 0.00 % | 0.000 |"
         self.assertEqual(lines[2], wanted)
-        self.assertEqual(said.count("left out"), 7)
+        self.assertEqual(said.count("left out"), 9)
 
 
 if __name__ == "__main__":
