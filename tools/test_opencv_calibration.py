@@ -150,7 +150,7 @@ class WithoutDistortion(unittest.TestCase):
             first = json.loads(run(PLAIN, LIMITS + options)[2])
             for key in ("warp", "camera", "census"):
                 self.assertEqual(whole[key], first[key])
-            self.assertEqual({**first["disparities"], "fine": False}, whole["disparities"])
+            self.assertEqual({**first["disparities"], "fine": True}, whole["disparities"])
 
     def test_given_rectification(self):
         one = [[1, 0, 0], [0, 1, 0], [0, 0, 1]]
