@@ -1,3 +1,4 @@
+pub mod Between
 pub mod Blends
 pub mod Covariances
 pub mod FinerBounds

@@ -1,12 +1,11 @@
 -- The samples of one place of a window, and where they lie.
-use Rattle.std.proofs.Common.{◌≡◌, ℕ, ◌^◌, true, false, ◌&&◌, Option, Some, None, is_some, ℤ, pos, negsuc, ◌+ℤ◌, ◌-ℤ◌, ◌*ℤ◌, to_z, of_z, w64, arith, refl, ap, ap₂, sym, ◌∙◌}
+use Rattle.std.proofs.Common.{◌≡◌, ℕ, ◌^◌, true, false, ◌&&◌, Option, Some, None, is_some, ℤ, pos, ◌+ℤ◌, ◌-ℤ◌, ◌*ℤ◌, to_z, of_z, w32, arith, refl, ap, ap₂, sym, ◌∙◌}
 use Rattle.std.proofs.lemmas.Int.{ints}
 use Rattle.sgm_base.specs.Ranges.{Within}
 
--- what the code computes as l - a - d
-pub lowered_twice : (l a d : ℤ) → Within (2 ^ 39) l → Within (2 ^ 31) a → Within (2 ^ 31) d
-    → to_z w64 (of_z w64 (to_z w64 (of_z w64 (to_z w64 (of_z w64 l) -ℤ to_z w64 (of_z w64 a))) -ℤ to_z w64 (of_z w64 d))) ≡ (l -ℤ a) -ℤ d
-lowered_twice l a d hl ha hd = omega (arith, ints, hl.0, hl.1, ha.0, ha.1, hd.0, hd.1)
+-- what the code computes as the place of a column less how far a row lies to the left
+pub lowered : (l d : ℤ) → Within (2 ^ 22) l → Within 6600 d → to_z w32 (of_z w32 (to_z w32 (of_z w32 l) -ℤ to_z w32 (of_z w32 d))) ≡ l -ℤ d
+lowered l d hl hd = omega (arith, ints, hl.0, hl.1, hd.0, hd.1)
 
 -- the place of a column of a level surface
 pub level_same : (x x' v v' : ℕ) (f f' i : ℤ) → x' ≡ x → v' ≡ v → f' ≡ f
@@ -18,25 +17,16 @@ level_same x x' v v' f f' i ex ev ef =
 pub place_same : (l l' a a' d d' : ℤ) → l ≡ l' → a ≡ a' → d ≡ d' → (l -ℤ a) -ℤ d ≡ (l' -ℤ a') -ℤ d'
 place_same l l' a a' d d' el ea ed = ap₂ (λ (y z : ℤ). y -ℤ z) (ap₂ (λ (y z : ℤ). y -ℤ z) el ea) ed
 
--- what the code computes as u + 8, u and u - 8
-pub place_after : (u p : ℤ) → u ≡ p → Within (2 ^ 40) u → to_z w64 (of_z w64 (to_z w64 (of_z w64 u) +ℤ pos 8)) ≡ p +ℤ pos 8
-place_after u p e w = omega (arith, ints, e, w.0, w.1)
-
-pub place_here : (u p : ℤ) → u ≡ p → Within (2 ^ 40) u → to_z w64 (of_z w64 u) ≡ p +ℤ pos 0
-place_here u p e w = omega (arith, ints, e, w.0, w.1)
-
-pub place_before : (u p : ℤ) → u ≡ p → Within (2 ^ 40) u → to_z w64 (of_z w64 (to_z w64 (of_z w64 u) -ℤ pos 8)) ≡ p +ℤ negsuc 7
-place_before u p e w = omega (arith, ints, e, w.0, w.1)
-
 -- whether four samples are there
-pub no_after : (a b c d : Option ℕ) (s : ℕ) → a ≡ Some s → b ≡ None → false ≡ (is_some a && is_some b && is_some c && is_some d)
-no_after a b c d s ea eb = rw (ea, eb) refl
-
-pub no_here : (a b c d : Option ℕ) (s t : ℕ) → a ≡ Some s → b ≡ Some t → c ≡ None → false ≡ (is_some a && is_some b && is_some c && is_some d)
-no_here a b c d s t ea eb ec = rw (ea, eb, ec) refl
-
-pub no_before : (a b c d : Option ℕ) (s t u : ℕ) → a ≡ Some s → b ≡ Some t → c ≡ Some u → d ≡ None → false ≡ (is_some a && is_some b && is_some c && is_some d)
-no_before a b c d s t u ea eb ec ed = rw (ea, eb, ec, ed) refl
+pub no_rights : (a b c d : Option ℕ) (s : ℕ) → a ≡ Some s → (is_some b && is_some c && is_some d) ≡ false → false ≡ (is_some a && is_some b && is_some c && is_some d)
+no_rights a b c d s ea none = rw ea (sym none)
 
 pub all_four : (a b c d : Option ℕ) (s t u v : ℕ) → a ≡ Some s → b ≡ Some t → c ≡ Some u → d ≡ Some v → true ≡ (is_some a && is_some b && is_some c && is_some d)
 all_four a b c d s t u v ea eb ec ed = rw (ea, eb, ec, ed) refl
+
+-- whether three are there
+pub all_three : (b c d : Option ℕ) (t u v : ℕ) → b ≡ Some t → c ≡ Some u → d ≡ Some v → true ≡ (is_some b && is_some c && is_some d)
+all_three b c d t u v eb ec ed = rw (eb, ec, ed) refl
+
+pub lacks_first : (b c d : Option ℕ) → b ≡ None → false ≡ (is_some b && is_some c && is_some d)
+lacks_first b c d eb = rw eb refl

@@ -1,4 +1,5 @@
--- The finer values of a map: of seventeen places the one at which the right window explains the left one best.
+-- The finer values of a map: of seventeen places the one at which the right window explains the
+-- left one best.
 use Rattle.std.specs.Prelude.{◌≡◌, ℕ, ◌<◌, ◌+◌, ◌-◌, ◌*◌, ◌&&◌, ◌==◌, nat_lt, Bool, not, if◌then◌else◌, List, [], ◌∷◌, filter, option_map, unsigned_abs, ℤ, pos, negsuc, neg_ℤ, ◌+ℤ◌, ◌*ℤ◌, int_lt, int_le}
 use Rattle.std.specs.List.{best_of, flat_map, range_with_len}
 use Rattle.sgm_base.specs.Disparities.{Disparities}
@@ -11,9 +12,11 @@ use Rattle.sgm_fine.specs.declared.scores.WindowSums.{WindowSums}
 use Rattle.sgm_fine.specs.declared.small.SmallWindow.{SmallWindow}
 use Rattle.sgm_fine.specs.declared.sums.TheConstants.{PLACES}
 
--- the right numbers of the place c: between those at the pixel's own place and those half a pixel after or before it
+-- the right numbers of the place c: between those at the pixel's own place and those half a pixel
+-- after or before it
 abbrev pub right_numbers : Centre → ℤ → ℕ → ℤ
-right_numbers p c = blended (small_right p (pos 0)) (small_right p (if int_lt c (pos 0) then half else neg_ℤ half)) (unsigned_abs c)
+right_numbers p c = blended (small_right p (pos 0))
+    (small_right p (if int_lt c (pos 0) then half else neg_ℤ half)) (unsigned_abs c)
 
 -- how they vary with the left ones, and by themselves
 abbrev pub with_left : Centre → ℤ → ℤ
@@ -40,7 +43,8 @@ places count value = filter (fits (16 * (count - 1)) value) order
 
 -- the place of the greatest score
 abbrev pub best : ℕ → Centre → ℤ
-best count p = best_of (λ a b. nat_lt (place_score p b) (place_score p a)) (pos 0) (places count p.value)
+best count p = best_of (λ a b. nat_lt (place_score p b) (place_score p a)) (pos 0)
+    (places count p.value)
 
 -- how the left numbers vary by themselves
 abbrev pub left_alone : Centre → ℤ
@@ -50,21 +54,32 @@ left_alone p = covariance (small_left p) (small_left p)
 abbrev pub explains : ℤ → ℤ → ℤ → Bool
 explains together left right = int_le (left *ℤ right) (pos 3 *ℤ (together *ℤ together))
 
--- whether the place c tells something: it has a score, and explains a third of the left window or more
+-- whether the place c tells something: it has a score, and explains a third of the left window or
+-- more
 abbrev pub tells : Centre → ℤ → Bool
 tells p c = not (place_score p c == 0) && explains (with_left p c) (left_alone p) (by_itself p c)
 
 -- the finer value of a pixel
 unfoldable pub finer_value : ℕ → Centre → ℕ
 finer_value count p =
-    if has_all p && tells p (best count p) then unsigned_abs (pos p.value +ℤ best count p) else p.value
+    if has_all p && tells p (best count p) then unsigned_abs (pos p.value +ℤ best count p)
+    else p.value
 
 -- the finer value of each pixel that has one
 abbrev pub finer : Values → Values → Values → Disparities → Values
 finer left right map span =
     values_of map.width map.height
     (row_by_row map.width map.height (λ x y. option_map
-    (λ value. finer_value span.count (record { left = left; right = right; map = map; first = span.first; x = x; y = y; value = value }))
+    (λ value. finer_value span.count
+    (record {
+      left = left;
+      right = right;
+      map = map;
+      first = span.first;
+      x = x;
+      y = y;
+      value = value;
+    }))
     (value_at map x y)))
 
 -- what the code holds: the sums of some small window

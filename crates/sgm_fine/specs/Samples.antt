@@ -1,27 +1,32 @@
--- The samples of a window that lies along the surface: on the left, and at three offsets on the right.
+-- The samples of a window that lies along the surface: on the left, and at three offsets on the
+-- right.
 use Rattle.std.specs.Prelude.{◌≡◌, ℕ, ◌<◌, ◌^◌, All, ◌+◌, ◌-◌, ◌*◌, ◌/◌, ◌%◌, ◌==◌, ◌&&◌, Bool, if◌then◌else◌, List, map, Option, Some, is_some, option_and_then, option_map, unwrap_or, unsigned_abs, ℤ, pos, neg_ℤ, ◌+ℤ◌, ◌-ℤ◌, ◌*ℤ◌}
 use Rattle.std.specs.Int.{int_div_euclid, int_rem_euclid}
 use Rattle.std.specs.List.{list_all, range_with_len}
 use Rattle.sgm_base.specs.Columns.{column_within}
+use Rattle.sgm_base.specs.Ranges.{Within}
 use Rattle.sgm_base.specs.Values.{Values, value_at}
 use Rattle.sgm_fine.specs.Slopes.{rise, step_at}
-use Rattle.sgm_fine.specs.Windows.{column_of, row_of_place, value_around}
+use Rattle.sgm_fine.specs.Windows.{column_of, number, row_of_place, value_around}
+use Rattle.sgm_fine.specs.declared.samples.Lie.{Lie}
 use Rattle.sgm_fine.specs.declared.samples.Place.{Place}
+use Rattle.sgm_fine.specs.declared.samples.Rights.{Rights}
 use Rattle.sgm_fine.specs.declared.samples.Window.{Window}
-use Rattle.sgm_fine.specs.declared.sums.TheConstants.{PLACES}
+use Rattle.sgm_fine.specs.declared.sums.TheConstants.{PLACES, SIDE}
 
 -- the sample of the column q of a row, none where it is void or outside
 abbrev pub sample : Values → ℕ → ℤ → Option ℕ
 sample plane y q = option_and_then (λ x. value_at plane x y) (column_within plane.width q)
 
--- The sample of a row at so many sixteenths of a pixel, sixteen times as great; none where a pixel that is needed is
--- void or outside. The next pixel isn't needed at a whole one.
+-- The sample of a row at so many sixteenths of a pixel, sixteen times as great; none where a pixel
+-- that is needed is void or outside. The next pixel isn't needed at a whole one.
 abbrev pub between : (ℤ → Option ℕ) → ℤ → Option ℕ
 between row u =
     let q = int_div_euclid u (pos 16) in
     let f = unsigned_abs (int_rem_euclid u (pos 16)) in
     if f == 0 then option_map (λ here. 16 * here) (row q)
-    else option_and_then (λ here. option_map (λ next. (16 - f) * here + f * next) (row (q +ℤ pos 1))) (row q)
+    else option_and_then
+    (λ here. option_map (λ next. (16 - f) * here + f * next) (row (q +ℤ pos 1))) (row q)
 
 -- a pixel that is made finer: the planes and the map, the first disparity, its place and its value
 pub record Centre : Type 0 where
@@ -41,7 +46,8 @@ centre left right map first x y value =
 abbrev pub place_of : Centre → ℕ → ℤ
 place_of c k =
     let steps = step_at c.map c.x c.y c.value in
-    (((pos 16 *ℤ ((pos c.x +ℤ column_of k) -ℤ c.first)) -ℤ pos c.value) -ℤ rise column_of steps (column_of k)) -ℤ rise row_of_place steps (row_of_place k)
+    (((pos 16 *ℤ ((pos c.x +ℤ column_of k) -ℤ c.first)) -ℤ pos c.value)
+    -ℤ rise column_of steps (column_of k)) -ℤ rise row_of_place steps (row_of_place k)
 
 -- the left sample of the place k, and the right one at an offset in sixteenths
 abbrev pub left_at : Centre → ℕ → Option ℕ
@@ -56,7 +62,8 @@ half = pos 8
 
 -- whether the samples of the place k are there, and whether all are
 abbrev pub has : Centre → ℕ → Bool
-has c k = is_some (left_at c k) && is_some (right_at c half k) && is_some (right_at c (pos 0) k) && is_some (right_at c (neg_ℤ half) k)
+has c k = is_some (left_at c k) && is_some (right_at c half k) && is_some (right_at c (pos 0) k)
+    && is_some (right_at c (neg_ℤ half) k)
 
 abbrev pub has_all : Centre → Bool
 has_all c = list_all (λ k. has c k) (range_with_len 0 PLACES)
@@ -68,7 +75,34 @@ lefts c = map (λ k. unwrap_or (left_at c k) 0) (range_with_len 0 PLACES)
 abbrev pub rights : Centre → ℤ → List ℕ
 rights c offset = map (λ k. unwrap_or (right_at c offset k) 0) (range_with_len 0 PLACES)
 
--- what the code holds of those of the place k
+-- whether the three samples around a place of a row are there
+abbrev pub has_rights : (ℤ → Option ℕ) → ℤ → Bool
+has_rights row u =
+    is_some (between row (u +ℤ half)) && is_some (between row (u +ℤ pos 0))
+    && is_some (between row (u +ℤ neg_ℤ half))
+
+-- what the code holds of them, and what they keep
+pub record HoldsRights (rights : Rights) (row : ℤ → Option ℕ) (u : ℤ) : Type 0 where
+  pub after : between row (u +ℤ half) ≡ Some rights.after
+  pub here : between row (u +ℤ pos 0) ≡ Some rights.here
+  pub before : between row (u +ℤ neg_ℤ half) ≡ Some rights.before
+
+pub record AreRights (rights : Rights) : Type 0 where
+  pub after : rights.after < 2 ^ 20
+  pub here : rights.here < 2 ^ 20
+  pub before : rights.before < 2 ^ 20
+
+-- what the code holds of where a window lies, and what that keeps
+abbrev pub HoldsLie : Lie → Centre → Type 0
+HoldsLie lie p =
+    (k : ℕ) → k < PLACES → number lie.columns (k % SIDE) -ℤ number lie.rows (k / SIDE)
+    ≡ place_of p k
+
+pub record IsLie (lie : Lie) : Type 0 where
+  pub columns : (i : ℕ) → i < SIDE → Within (2 ^ 22) (number lie.columns i)
+  pub rows : (j : ℕ) → j < SIDE → Within 6600 (number lie.rows j)
+
+-- what the code holds of the samples of the place k
 pub record HoldsPlace (place : Place) (p : Centre) (k : ℕ) : Type 0 where
   pub left : left_at p k ≡ Some place.left
   pub after : right_at p half k ≡ Some place.after

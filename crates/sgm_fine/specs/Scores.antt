@@ -1,5 +1,5 @@
 -- How well the right window explains the left one.
-use Rattle.std.specs.Prelude.{◌≡◌, ℕ, ◌-◌, ◌*◌, ◌/◌, ◌&&◌, if◌then◌else◌, unsigned_abs, ℤ, pos, ◌+ℤ◌, ◌-ℤ◌, ◌*ℤ◌, int_lt, int_le}
+use Rattle.std.specs.Prelude.{◌≡◌, ℕ, ◌≤◌, ◌⊎◌, ◌-◌, ◌*◌, ◌/◌, ◌&&◌, if◌then◌else◌, unsigned_abs, ℤ, pos, ◌+ℤ◌, ◌-ℤ◌, ◌*ℤ◌, int_lt, int_le}
 use Rattle.sgm_base.specs.Ranges.{IsFromTo}
 use Rattle.sgm_fine.specs.Windows.{number, over, products}
 use Rattle.sgm_fine.specs.declared.scores.Fit.{Fit}
@@ -8,8 +8,8 @@ use Rattle.sgm_fine.specs.declared.scores.WindowSums.{WindowSums}
 use Rattle.sgm_fine.specs.declared.small.SmallWindow.{SmallWindow}
 use Rattle.sgm_fine.specs.declared.sums.TheConstants.{PLACES}
 
--- how the numbers of two windows vary together: so many times the sum of their products as there are places, less the
--- product of their sums
+-- how the numbers of two windows vary together: so many times the sum of their products as there
+-- are places, less the product of their sums
 abbrev pub covariance : (ℕ → ℤ) → (ℕ → ℤ) → ℤ
 covariance f g = (pos PLACES *ℤ products f g) -ℤ (over f *ℤ over g)
 
@@ -17,10 +17,16 @@ covariance f g = (pos PLACES *ℤ products f g) -ℤ (over f *ℤ over g)
 abbrev pub blended : (ℕ → ℤ) → (ℕ → ℤ) → ℕ → ℕ → ℤ
 blended here side n k = (pos (8 - n) *ℤ here k) +ℤ (pos n *ℤ side k)
 
--- the score of right numbers that vary so with the left ones, and so by themselves: how much of the left ones they
--- explain, but for a factor
+-- the score of right numbers that vary so with the left ones, and so by themselves: how much of the
+-- left ones they explain, but for a factor
 abbrev pub score : ℤ → ℤ → ℕ
-score a b = if int_lt (pos 0) a && int_le (pos 256) b then (unsigned_abs a * unsigned_abs a) / (unsigned_abs b / 256) else 0
+score a b =
+    if int_lt (pos 0) a && int_le (pos 256) b
+    then (unsigned_abs a * unsigned_abs a) / (unsigned_abs b / 256) else 0
+
+-- a score, or 0 where it isn't greater than that
+abbrev pub IsAbove : ℕ → ℕ → ℕ → Type 0
+IsAbove found least n = (found ≡ n) ⊎ ((found ≡ 0) × (n ≤ least))
 
 -- what the code holds of one offset's numbers r beside the left ones l
 pub record HoldsSide (sums : Sums) (l r : ℕ → ℤ) : Type 0 where
@@ -47,7 +53,8 @@ pub record IsSums (sums : WindowSums) : Type 0 where
 
 -- the right numbers of a window at the place c
 abbrev pub numbers_at : SmallWindow → ℤ → ℕ → ℤ
-numbers_at w c = blended (number w.here) (if int_lt c (pos 0) then number w.after else number w.before) (unsigned_abs c)
+numbers_at w c = blended (number w.here)
+    (if int_lt c (pos 0) then number w.after else number w.before) (unsigned_abs c)
 
 -- the fit of a window at the place c
 pub record IsFitOf (fit : Fit) (w : SmallWindow) (c : ℤ) : Type 0 where

@@ -11,7 +11,8 @@ use Rattle.sgm_fine.specs.declared.slopes.TheConstants.{REACH}
 
 -- the step from m to a value, where there is one that isn't further away than that
 abbrev pub step_to : ℕ → ℕ → Option ℕ → Option ℤ
-step_to most m (Some v) = if nat_le v (m + most) && nat_le m (v + most) then Some (pos v -ℤ pos m) else None
+step_to most m (Some v) = if nat_le v (m + most) && nat_le m (v + most) then Some (pos v -ℤ pos m)
+    else None
 step_to most m None = None
 
 -- the step to the place k of the window around the pixel (x, y), whose value is m
@@ -24,12 +25,14 @@ moment axis steps = products axis (λ k. unwrap_or (steps k) (pos 0))
 
 -- the sum of the squares of the distances of those places that have a step
 abbrev pub spread : (ℕ → ℤ) → (ℕ → Option ℤ) → ℤ
-spread axis steps = products (λ k. axis k *ℤ axis k) (λ k. if is_some (steps k) then pos 1 else pos 0)
+spread axis steps = products (λ k. axis k *ℤ axis k)
+    (λ k. if is_some (steps k) then pos 1 else pos 0)
 
 -- how far the values rise over a distance along the axis: 0 where nothing tells
 abbrev pub rise : (ℕ → ℤ) → (ℕ → Option ℤ) → ℤ → ℤ
 rise axis steps distance =
-    if int_eq (spread axis steps) (pos 0) then pos 0 else rounded (distance *ℤ moment axis steps) (spread axis steps)
+    if int_eq (spread axis steps) (pos 0) then pos 0
+    else rounded (distance *ℤ moment axis steps) (spread axis steps)
 
 -- what the code holds of the steps around a pixel
 pub record HoldsSlopes (found : Slopes) (steps : ℕ → Option ℤ) : Type 0 where

@@ -26,28 +26,35 @@ pub record IsGreatest (number : ℕ) (numbers : List ℕ) : Type 0 where
 abbrev pub halved : ℕ → ℕ → ℕ → ℕ
 halved low a v = (v - low) / 2 ^ a
 
--- the least number of halvings after which all samples less the least are below a limit; twenty are enough
+-- the least number of halvings after which all samples less the least are below a limit; twenty are
+-- enough
 abbrev pub halvings : ℕ → List ℕ → ℕ
 halvings limit samples =
-    unwrap_or (find (λ a. list_all (λ v. nat_lt (halved (least samples) a v) limit) samples) (range_with_len 0 21)) 0
+    unwrap_or (find (λ a. list_all (λ v. nat_lt (halved (least samples) a v) limit) samples)
+    (range_with_len 0 21)) 0
 
 -- the sample of the place k, one of some, made small as all of these are
 abbrev pub small : ℕ → List ℕ → List ℕ → ℕ → ℤ
 small limit all samples k = pos (halved (least all) (halvings limit all) (slice_index samples k))
 
--- the samples of a pixel's window made small: on the left below 256, and on the right, all together, below 4096
+-- the samples of a pixel's window made small: on the left below 256, and on the right, all
+-- together, below 4096
 abbrev pub small_left : Centre → ℕ → ℤ
 small_left c = small 256 (lefts c) (lefts c)
 
 abbrev pub small_right : Centre → ℤ → ℕ → ℤ
-small_right c offset = small 4096 (rights c half ++ rights c (pos 0) ++ rights c (neg_ℤ half)) (rights c offset)
+small_right c offset = small 4096 (rights c half ++ rights c (pos 0) ++ rights c (neg_ℤ half))
+    (rights c offset)
 
 -- what the code holds of a window made small
 pub record HoldsSmall (found : SmallWindow) (window : Window) : Type 0 where
   pub left : (k : ℕ) → k < PLACES → number found.left k ≡ small 256 window.left window.left k
-  pub after : (k : ℕ) → k < PLACES → number found.after k ≡ small 4096 (window.after ++ window.here ++ window.before) window.after k
-  pub here : (k : ℕ) → k < PLACES → number found.here k ≡ small 4096 (window.after ++ window.here ++ window.before) window.here k
-  pub before : (k : ℕ) → k < PLACES → number found.before k ≡ small 4096 (window.after ++ window.here ++ window.before) window.before k
+  pub after : (k : ℕ) → k < PLACES → number found.after k
+      ≡ small 4096 (window.after ++ window.here ++ window.before) window.after k
+  pub here : (k : ℕ) → k < PLACES → number found.here k
+      ≡ small 4096 (window.after ++ window.here ++ window.before) window.here k
+  pub before : (k : ℕ) → k < PLACES → number found.before k
+      ≡ small 4096 (window.after ++ window.here ++ window.before) window.before k
 
 -- what a window made small keeps
 pub record IsSmall (found : SmallWindow) : Type 0 where

@@ -1,13 +1,20 @@
 -- The pixels around another one, and sums over them.
-use Rattle.std.specs.Prelude.{ℕ, ◌+◌, ◌-◌, ◌/◌, ◌%◌, ◌&&◌, nat_le, if◌then◌else◌, zero, suc, List, slice_index_or, Option, None, ℤ, pos, ◌+ℤ◌, ◌-ℤ◌, ◌*ℤ◌}
+use Rattle.std.specs.Prelude.{◌≡◌, ◌<◌, ℕ, ◌+◌, ◌-◌, ◌/◌, ◌%◌, ◌&&◌, nat_le, if◌then◌else◌, zero, suc, List, slice_index_or, Option, None, ℤ, pos, ◌+ℤ◌, ◌-ℤ◌, ◌*ℤ◌}
 use Rattle.sgm_base.specs.Values.{Values, value_at}
-use Rattle.sgm_fine.specs.declared.sums.TheConstants.{PLACES}
+use Rattle.sgm_fine.specs.declared.sums.TheConstants.{PLACES, SIDE}
 
--- the value in the column i and the row j of the square that reaches so far around the pixel (x, y), none where it is
--- void or outside
+-- the value in the column i and the row j of the square that reaches so far around the pixel
+-- (x, y), none where it is void or outside
 abbrev pub value_around : Values → ℕ → ℕ → ℕ → ℕ → ℕ → Option ℕ
 value_around values reach x y i j =
-    if nat_le reach (x + i) && nat_le reach (y + j) then value_at values (x + i - reach) (y + j - reach) else None
+    if nat_le reach (x + i) && nat_le reach (y + j)
+    then value_at values (x + i - reach) (y + j - reach) else None
+
+-- what the code holds of the values of the window around the pixel (x, y)
+abbrev pub HoldsWindow : List (Option ℕ) → Values → ℕ → ℕ → Type 0
+HoldsWindow window values x y =
+    (k : ℕ) → k < PLACES → slice_index_or window k None
+    ≡ value_around values 2 x y (k % SIDE) (k / SIDE)
 
 -- the columns and the rows of the places of a window, from the middle's: -2 to 2
 abbrev pub column_of : ℕ → ℤ

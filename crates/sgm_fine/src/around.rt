@@ -1,11 +1,15 @@
 //! The pixels around another one.
 
-ghost use Rattle.std.specs.Prelude.{◌≡◌, ℕ, ◌+◌, ◌*◌, ◌^◌, ◌<◌};
+ghost use Rattle.std.specs.Prelude.{◌≡◌, ℕ, ◌+◌, ◌*◌, ◌^◌, ◌<◌, ◌≤◌};
 ghost use Rattle.sgm_base.specs.Values.{value_at};
-ghost use Rattle.sgm_fine.specs.Windows.{value_around};
+ghost use Rattle.sgm_fine.specs.Windows.{HoldsWindow, value_around};
 
+use crate::sums::{PLACES, SIDE};
 use sgm_base::{DispMap, Plane};
 use std::marker::Model;
+
+/// A value or none for each pixel of a window, row by row.
+pub(crate) type Window = [Option<u16>; PLACES];
 
 /// A value or none for each pixel, row by row.
 #[derive(Drop)]
@@ -50,20 +54,30 @@ impl<'a> Field<'a> {
         }
     }
 
+    /// The value of a pixel inside, none where it is void.
+    #[inline]
+    fn inner(&self, x: usize, y: usize) -> Option<u16>
+        requires column { x < self.now.width }
+        requires row { y < self.now.height }
+        ensures { result ≡ value_at self.now x y }
+    {
+        self.entries[y * self.width + x]
+    }
+
     /// The value of the pixel (x, y), none where it is void or outside.
     #[inline]
     pub(crate) fn at(&self, x: usize, y: usize) -> Option<u16>
         ensures { result ≡ value_at self.now x y }
     {
         if x < self.width && y < self.height {
-            self.entries[y * self.width + x]
+            self.inner(x, y)
         } else {
             None
         }
     }
 
-    /// The value in the column `i` and the row `j` of the square that reaches so far around the pixel (x, y), none
-    /// where it is void or outside.
+    /// The value in the column `i` and the row `j` of the square that reaches so far around the
+    /// pixel (x, y), none where it is void or outside.
     #[inline]
     pub(crate) fn around(&self, reach: usize, x: usize, y: usize, i: usize, j: usize) -> Option<u16>
         requires column { x + i < 2 ^ 16 }
@@ -74,6 +88,47 @@ impl<'a> Field<'a> {
             self.at(x + i - reach, y + j - reach)
         } else {
             None
+        }
+    }
+
+    /// The values of the window around a pixel, where all of it lies inside.
+    #[inline]
+    fn window_inside(&self, x: usize, y: usize) -> Window
+        requires pixel { (x < 2 ^ 15) × (y < 2 ^ 15) }
+        requires columns { (2 ≤ x) × (x + 2 < self.now.width) }
+        requires rows { (2 ≤ y) × (y + 2 < self.now.height) }
+        ensures { HoldsWindow result self.now x y }
+    {
+        let mut window = [None; PLACES];
+        for k in 0..PLACES {
+            window[k] = self.inner(x + k % SIDE - 2, y + k / SIDE - 2);
+        }
+        window
+    }
+
+    /// The same where some of it may lie outside.
+    fn window_across(&self, x: usize, y: usize) -> Window
+        requires pixel { (x < 2 ^ 15) × (y < 2 ^ 15) }
+        ensures { HoldsWindow result self.now x y }
+    {
+        let mut window = [None; PLACES];
+        for k in 0..PLACES {
+            window[k] = self.around(2, x, y, k % SIDE, k / SIDE);
+        }
+        window
+    }
+
+    /// The values of the window around the pixel (x, y), row by row, none for each that is void or
+    /// outside.
+    #[inline]
+    pub(crate) fn window(&self, x: usize, y: usize) -> Window
+        requires pixel { (x < 2 ^ 15) × (y < 2 ^ 15) }
+        ensures { HoldsWindow result self.now x y }
+    {
+        if 2 <= x && 2 <= y && x + 2 < self.width && y + 2 < self.height {
+            self.window_inside(x, y)
+        } else {
+            self.window_across(x, y)
         }
     }
 }

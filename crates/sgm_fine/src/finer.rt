@@ -6,11 +6,11 @@ ghost use Rattle.sgm_base.specs.Ranges.{IsFromTo, Within};
 ghost use Rattle.sgm_base.specs.Values.{AtMost, value_at};
 ghost use Rattle.sgm_fine.specs.Finer.{ArePixelSums, AreSmallSums, best, finer_value, fits, place_score, tells};
 ghost use Rattle.sgm_fine.specs.Samples.{Centre, centre};
-ghost use Rattle.sgm_fine.specs.Scores.{IsSums};
+ghost use Rattle.sgm_fine.specs.Scores.{IsAbove, IsSums};
 
 use crate::around::Field;
 use crate::samples::{Pixel, samples_at};
-use crate::scores::{WindowSums, fit_at, left_part, score_of, window_sums};
+use crate::scores::{WindowSums, fit_at, left_part, score_above, score_of, window_sums};
 use crate::slopes::slopes_at;
 use crate::small::small_window;
 use sgm_base::{DispMap, Plane, Span};
@@ -18,20 +18,22 @@ use sgm_base::{DispMap, Plane, Span};
 /// The places that are tried, in the order in which the first of equal ones is taken.
 pub(crate) const ORDER: [i32; 17] = [0, -1, 1, -2, 2, -3, 3, -4, 4, -5, 5, -6, 6, -7, 7, -8, 8];
 
-/// The score of the place `c`; 0 where its value isn't one from 0 to `most`.
+/// The score of the place `c`, or 0 where its value isn't one from 0 to `most` or the score isn't
+/// greater than `least`.
 #[inline]
-fn score_at(sums: &WindowSums, m: u16, most: u16, c: i32) -> u64
+fn score_at(sums: &WindowSums, m: u16, most: u16, c: i32, least: u64) -> u64
     requires sums { IsSums sums.now }
     requires small { AreSmallSums sums.now }
     requires place { Within 8 c }
-    ensures value { (p : Centre) → ArePixelSums sums.now p → result ≡ (if fits most m c then place_score p c else 0) }
+    ensures value { (p : Centre) → ArePixelSums sums.now p
+        → IsAbove result least (if fits most m c then place_score p c else 0) }
     ensures within { 0 < result → IsFromTo (pos 0) (pos most) (pos m +ℤ c) }
 {
     let value = i32::from(m) + c;
     if value < 0 || i32::from(most) < value {
         return 0;
     }
-    score_of(fit_at(sums, c))
+    score_above(fit_at(sums, c), least)
 }
 
 /// One of the places that are tried.
@@ -48,7 +50,8 @@ fn tried(k: usize) -> i32
 fn best(sums: &WindowSums, m: u16, most: u16) -> i32
     requires sums { IsSums sums.now }
     requires small { AreSmallSums sums.now }
-    ensures value { (p : Centre) (count : ℕ) → ArePixelSums sums.now p → p.value ≡ m → most ≡ 16 * (count - 1) → result ≡ best count p }
+    ensures value { (p : Centre) (count : ℕ) → ArePixelSums sums.now p → p.value ≡ m
+        → most ≡ 16 * (count - 1) → result ≡ best count p }
     ensures place { Within 8 result }
     ensures small { IsFromTo (pos 0) (pos 65535) (pos m +ℤ result) }
     ensures bound { m ≤ most → (pos m +ℤ result) ≤ℤ pos most }
@@ -57,7 +60,7 @@ fn best(sums: &WindowSums, m: u16, most: u16) -> i32
     let mut score = score_of(fit_at(sums, 0));
     for k in 1..17 {
         let c = tried(k);
-        let other = score_at(sums, m, most, c);
+        let other = score_at(sums, m, most, c, score);
         if score < other {
             best = c;
             score = other;
@@ -85,7 +88,8 @@ fn third(left: i64, right: i64) -> i64
     (left * right + 2) / 3
 }
 
-/// Whether the place `c` tells something: it has a score, and explains a third of the left window or more.
+/// Whether the place `c` tells something: it has a score, and explains a third of the left window
+/// or more.
 fn tells(sums: &WindowSums, c: i32) -> bool
     requires sums { IsSums sums.now }
     requires small { AreSmallSums sums.now }
@@ -104,7 +108,8 @@ fn tells(sums: &WindowSums, c: i32) -> bool
 fn refined(sums: &WindowSums, m: u16, most: u16) -> u16
     requires sums { IsSums sums.now }
     requires small { AreSmallSums sums.now }
-    ensures value { (p : Centre) (count : ℕ) → ArePixelSums sums.now p → p.value ≡ m → most ≡ 16 * (count - 1)
+    ensures value { (p : Centre) (count : ℕ) → ArePixelSums sums.now p → p.value ≡ m
+        → most ≡ 16 * (count - 1)
         → result ≡ (if tells p (best count p) then unsigned_abs (pos m +ℤ best count p) else m) }
     ensures bound { m ≤ most → result ≤ most }
 {
@@ -116,56 +121,63 @@ fn refined(sums: &WindowSums, m: u16, most: u16) -> u16
     }
 }
 
-/// The finer value of the pixel (x, y), whose value is `m`.
-pub(crate) fn finer_at(
-    left: &Field,
-    right: &Field,
-    map: &Field,
+/// What the values of a map are made finer by: the planes, the map as it was before, the first
+/// disparity, and the greatest value that there can be.
+#[derive(Drop)]
+pub(crate) struct Ground<'a> {
+    left: Field<'a>,
+    right: Field<'a>,
+    map: Field<'a>,
     first: i32,
     most: u16,
-    x: usize,
-    y: usize,
-    m: u16,
-) -> u16
-    requires pixel { (x < 2 ^ 15) × (y < 2 ^ 15) × IsFirst first }
-    ensures value { (count : ℕ) → most ≡ 16 * (count - 1) → result ≡ finer_value count (centre left.now right.now map.now first x y m) }
-    ensures bound { m ≤ most → result ≤ most }
+}
+
+/// The finer value of the pixel (x, y), whose value is `m`.
+fn finer_at(ground: &Ground, x: usize, y: usize, m: u16) -> u16
+    requires pixel { (x < 2 ^ 15) × (y < 2 ^ 15) × IsFirst ground.now.first }
+    ensures value { (count : ℕ) → ground.now.most ≡ 16 * (count - 1) → result
+        ≡ finer_value count
+        (centre ground.now.left ground.now.right ground.now.map ground.now.first x y m) }
+    ensures bound { m ≤ ground.now.most → result ≤ ground.now.most }
 {
-    let slopes = slopes_at(map, x, y, m);
+    let slopes = slopes_at(&ground.map, x, y, m);
     let at = Pixel {
         x,
         y,
         value: m,
-        first,
+        first: ground.first,
     };
-    match samples_at(left, right, at, slopes) {
+    match samples_at(&ground.left, &ground.right, at, slopes) {
         None => m,
-        Some(window) => refined(&window_sums(&small_window(&window)), m, most),
+        Some(window) => refined(&window_sums(&small_window(&window)), m, ground.most),
     }
 }
 
 /// The finer value of the pixel (x, y), none where it is void.
-fn finer_pixel(
-    left: &Field,
-    right: &Field,
-    map: &Field,
-    first: i32,
-    most: u16,
-    x: usize,
-    y: usize,
-) -> Option<u16>
-    requires pixel { (x < 2 ^ 15) × (y < 2 ^ 15) × IsFirst first }
-    ensures value { (count : ℕ) → most ≡ 16 * (count - 1)
-        → result ≡ option_map (λ value. finer_value count (centre left.now right.now map.now first x y value)) (value_at map.now x y) }
-    ensures bound { IfSome (value_at map.now x y) (λ m. m ≤ most) → IfSome result (λ m. m ≤ most) }
+fn finer_pixel(ground: &Ground, x: usize, y: usize) -> Option<u16>
+    requires pixel { (x < 2 ^ 15) × (y < 2 ^ 15) × IsFirst ground.now.first }
+    ensures value { (count : ℕ) → ground.now.most ≡ 16 * (count - 1) → result ≡ option_map
+        (λ value. finer_value count
+        (centre ground.now.left ground.now.right ground.now.map ground.now.first x y value))
+        (value_at ground.now.map x y) }
+    ensures bound { IfSome (value_at ground.now.map x y) (λ m. m ≤ ground.now.most)
+        → IfSome result (λ m. m ≤ ground.now.most) }
 {
-    match map.at(x, y) {
+    match ground.map.at(x, y) {
         None => None,
-        Some(m) => Some(finer_at(left, right, map, first, most, x, y, m)),
+        Some(m) => Some(finer_at(ground, x, y, m)),
     }
 }
 
-/// Writes the finer values of the row `y` of a map.
+/// Writes the finer values of the row `y` of a map: for each pixel the value, within eight
+/// sixteenths of the map's, at which the grey values of the right plane, in a window of five by
+/// five that is laid along the surface of the map, explain those of the left plane best; the map's
+/// own where a sample of the windows is void or outside, or where less than a third is explained at
+/// best. A pixel without a value stays without one.
+///
+/// Values are in sixteenths of a pixel, less the first disparity of the span. Samples are taken as
+/// they are in the planes. `map` is the whole map as it was before this step, row by row, and
+/// `into` has one entry for each column.
 pub fn finer_row(
     left: &Plane,
     right: &Plane,
@@ -176,15 +188,20 @@ pub fn finer_row(
 )
     requires row { y < map.now.height }
     requires into_length { length into.old ≡ map.now.width }
-    ensures value { EachIndex into.new (λ x. slice_index_or into.new x None
-        ≡ option_map (λ value. finer_value span.count (centre left.now right.now map.now span.first x y value)) (value_at map.now x y)) }
-    ensures bound { AtMost (16 * (span.count - 1)) map.now.entries → AtMost (16 * (span.count - 1)) into.new }
+    ensures value { EachIndex into.new (λ x. slice_index_or into.new x None ≡ option_map
+        (λ value. finer_value span.count (centre left.now right.now map.now span.first x y value))
+        (value_at map.now x y)) }
+    ensures bound { AtMost (16 * (span.count - 1)) map.now.entries
+        → AtMost (16 * (span.count - 1)) into.new }
 {
-    let first = Field::of_plane(left);
-    let second = Field::of_plane(right);
-    let values = Field::of_map(map);
-    let most = (16 * (span.count - 1)) as u16;
+    let ground = Ground {
+        left: Field::of_plane(left),
+        right: Field::of_plane(right),
+        map: Field::of_map(map),
+        first: span.first,
+        most: (16 * (span.count - 1)) as u16,
+    };
     for x in 0..into.len() {
-        into[x] = finer_pixel(&first, &second, &values, span.first, most, x, y as usize);
+        into[x] = finer_pixel(&ground, x, y as usize);
     }
 }

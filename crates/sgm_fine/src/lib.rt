@@ -1,6 +1,6 @@
-//! Finer disparities: the surface between sixteenths as the grey values have it. The grey values of a small window
-//! that lies along the surface are compared at seventeen places, and the best one is taken; then each value is
-//! replaced by the mean of those around it that lie near.
+//! Finer disparities: the surface between sixteenths as the grey values have it. The grey values of
+//! a small window that lies along the surface are compared at seventeen places, and the best one is
+//! taken; then each value is replaced by the mean of those around it that lie near.
 #![tactic(auto)]
 
 mod around;

@@ -11,7 +11,8 @@ use sgm_base::DispMap;
 /// The greatest step to a value that still counts, in sixteenths.
 pub(crate) const REACH: u16 = 16;
 
-/// The value of the place `k` of the square of three by three around (x, y), where it lies near `m`.
+/// The value of the place `k` of the square of three by three around (x, y), where it lies near
+/// `m`.
 #[inline]
 fn near_value(map: &Field, x: usize, y: usize, m: u16, k: usize) -> Option<u16>
     requires pixel { (x < 2 ^ 15) × (y < 2 ^ 15) }
@@ -45,7 +46,9 @@ pub(crate) fn mean_at(map: &Field, x: usize, y: usize, m: u16) -> u16
 pub fn mean_row(map: &DispMap, y: u32, into: &mut [Option<u16>])
     requires row { y < map.now.height }
     requires into_length { length into.old ≡ map.now.width }
-    ensures { EachIndex into.new (λ x. slice_index_or into.new x None ≡ option_map (mean_value map.now x y) (value_at map.now x y)) }
+    ensures { EachIndex into.new
+        (λ x. slice_index_or into.new x None
+        ≡ option_map (mean_value map.now x y) (value_at map.now x y)) }
 {
     let values = map.row(y);
     let field = Field::of_map(map);

@@ -6,18 +6,20 @@ ghost use Rattle.sgm_base.specs.Disparities.{IsFirst};
 ghost use Rattle.sgm_base.specs.Ranges.{IsFromTo, Within};
 ghost use Rattle.sgm_base.specs.Rounding.{rounded};
 ghost use Rattle.sgm_base.specs.Values.{Values, value_at};
-ghost use Rattle.sgm_fine.specs.Samples.{Centre, HoldsPlace, HoldsSamples, IsPlace, IsWindow, between, centre, has, has_all, place_of, sample};
+ghost use Rattle.sgm_fine.specs.Samples.{AreRights, Centre, HoldsLie, HoldsPlace, HoldsRights, HoldsSamples};
+ghost use Rattle.sgm_fine.specs.Samples.{IsLie, IsPlace, IsWindow, centre, has, has_all, has_rights, sample};
 ghost use Rattle.sgm_fine.specs.Slopes.{HoldsSlopes, IsSlope, step_at};
+ghost use Rattle.sgm_fine.specs.Windows.{number};
 
 use crate::around::Field;
 use crate::slopes::{Slope, Slopes, rise_over};
-use crate::sums::PLACES;
+use crate::sums::{PLACES, SIDE};
 
 /// A sample for each pixel of a window.
 pub(crate) type Samples = [u32; PLACES];
 
-/// The samples of a window: on the left, and between those on the right, sixteen times as great, at its place and
-/// half a pixel after and before it.
+/// The samples of a window: on the left, and between those on the right, sixteen times as great, at
+/// its place and half a pixel after and before it.
 #[derive(Clone, Copy)]
 pub(crate) struct Window {
     pub(crate) left: Samples,
@@ -44,9 +46,25 @@ pub(crate) struct Pixel {
     pub(crate) first: i32,
 }
 
+/// Where a window lies in the right rows, in sixteenths of a pixel: the place of each column where
+/// the rows are level, and how far each row lies to the left of that.
+#[derive(Clone, Copy)]
+pub(crate) struct Lie {
+    pub(crate) columns: [i32; SIDE],
+    pub(crate) rows: [i32; SIDE],
+}
+
+/// The samples on the right of one pixel of a window.
+#[derive(Clone, Copy)]
+pub(crate) struct Rights {
+    pub(crate) after: u32,
+    pub(crate) here: u32,
+    pub(crate) before: u32,
+}
+
 /// The sample of the column `q` of the row `y`, none where it is void or outside.
 #[inline]
-fn sample_in(plane: &Field, y: usize, q: i64) -> Option<u32>
+fn sample_in(plane: &Field, y: usize, q: i32) -> Option<u32>
     ensures value { result ≡ sample plane.now y q }
     ensures small { IfSome result (λ v. v < 2 ^ 16) }
 {
@@ -56,78 +74,143 @@ fn sample_in(plane: &Field, y: usize, q: i64) -> Option<u32>
     Some(u32::from(plane.at(q as usize, y)?))
 }
 
-/// The sample of the row `y` at so many sixteenths, sixteen times as great; none where a pixel that is needed is void
-/// or outside.
+/// The sample `f` sixteenths of the way from one to the next, sixteen times as great.
 #[inline]
-fn between_in(plane: &Field, y: usize, u: i64) -> Option<u32>
-    requires near { Within (2 ^ 41) u }
-    ensures value { result ≡ between (sample plane.now y) u }
-    ensures small { IfSome result (λ v. v < 2 ^ 20) }
+fn mixed(here: u32, next: u32, f: u32) -> u32
+    requires here { here < 2 ^ 16 }
+    requires next { next < 2 ^ 16 }
+    requires part { f < 16 }
+    ensures value { result ≡ (16 - f) * here + f * next }
+    ensures small { result < 2 ^ 20 }
 {
-    let (q, f) = (u.div_euclid(16), u.rem_euclid(16) as u32);
-    let here = sample_in(plane, y, q)?;
-    if f == 0 {
-        return Some(16 * here);
+    (16 - f) * here + f * next
+}
+
+/// The sample that lies half a pixel after `f` sixteenths of the way from the first of three to the
+/// second.
+#[inline]
+fn half_later(first: u32, second: u32, third: u32, f: u32) -> u32
+    requires first { first < 2 ^ 16 }
+    requires second { second < 2 ^ 16 }
+    requires third { third < 2 ^ 16 }
+    requires part { f < 16 }
+    ensures sooner { f < 8 → result ≡ (8 - f) * first + (8 + f) * second }
+    ensures later { 8 ≤ f → result ≡ (24 - f) * second + (f - 8) * third }
+    ensures small { result < 2 ^ 20 }
+{
+    if f < 8 {
+        mixed(first, second, f + 8)
+    } else {
+        mixed(second, third, f - 8)
     }
-    Some((16 - f) * here + f * sample_in(plane, y, q + 1)?)
 }
 
-/// How far the values rise from the middle of a window to its column or row `n`, rounded.
+/// The samples around `u` sixteenths in the row `y`; none where a pixel that is needed is void or
+/// outside.
 #[inline]
-fn risen(slope: Slope, n: usize) -> i64
+fn rights_at(plane: &Field, y: usize, u: i32) -> Option<Rights>
+    requires near { Within (2 ^ 24) u }
+    ensures none { is_some result ≡ has_rights (sample plane.now y) u }
+    ensures some { IfSome result (λ s. HoldsRights s (sample plane.now y) u) }
+    ensures small { IfSome result AreRights }
+{
+    let start = u - 8;
+    let (q, f) = (start.div_euclid(16), start.rem_euclid(16) as u32);
+    let first = sample_in(plane, y, q)?;
+    let second = sample_in(plane, y, q + 1)?;
+    // The third one isn't needed where the places are those of pixels.
+    let third = sample_in(plane, y, q + 1 + f.min(1) as i32)?;
+    Some(Rights {
+        after: mixed(second, third, f),
+        here: half_later(first, second, third, f),
+        before: mixed(first, second, f),
+    })
+}
+
+/// How far the values rise from the middle of a window to each of its columns or rows, rounded.
+#[inline]
+fn rises(slope: Slope) -> [i32; SIDE]
     requires slope { IsSlope slope }
-    requires inside { n < 5 }
-    ensures value { result ≡ (if int_eq slope.spread (pos 0) then pos 0
+    ensures each { (n : ℕ) → n < SIDE → number result n ≡ (if int_eq slope.spread (pos 0) then pos 0
         else rounded ((pos n -ℤ pos 2) *ℤ slope.moment) slope.spread) }
-    ensures small { Within (2 ^ 31) result }
+    ensures small { (n : ℕ) → n < SIDE → Within 6600 (number result n) }
 {
-    i64::from(rise_over(slope, n as i32 - 2))
+    let mut rises = [0; SIDE];
+    for n in 0..SIDE {
+        rises[n] = rise_over(slope, n as i32 - 2);
+    }
+    rises
 }
 
-/// The place in the right row of the column `i` of a window, in sixteenths, where the surface is level.
+/// The place in the right row of the column `i` of a window, in sixteenths, where the surface is
+/// level.
 #[inline]
-fn level_place(at: Pixel, i: usize) -> i64
+fn level_place(at: Pixel, i: usize) -> i32
     requires pixel { (at.x < 2 ^ 15) × IsFirst at.first }
-    requires inside { i < 5 }
-    ensures value { result ≡ (pos 16 *ℤ ((pos at.x +ℤ (pos i -ℤ pos 2)) -ℤ at.first)) -ℤ pos at.value }
-    ensures small { Within (2 ^ 39) result }
+    requires inside { i < SIDE }
+    ensures value { result ≡ (pos 16 *ℤ ((pos at.x +ℤ (pos i -ℤ pos 2)) -ℤ at.first))
+        -ℤ pos at.value }
+    ensures small { Within (2 ^ 21) result }
 {
-    16 * (at.x as i64 + (i as i64 - 2) - i64::from(at.first)) - i64::from(at.value)
+    16 * (at.x as i32 + (i as i32 - 2) - at.first) - i32::from(at.value)
 }
 
-/// The place in the right row of the pixel `k` of a window, in sixteenths.
+/// The places of a window's columns where the rows are level.
 #[inline]
-fn place_in(at: Pixel, slopes: Slopes, k: usize) -> i64
-    requires place { k < PLACES }
+fn columns_of(at: Pixel, across: &[i32; SIDE]) -> [i32; SIDE]
+    requires pixel { (at.x < 2 ^ 15) × IsFirst at.first }
+    requires across { (n : ℕ) → n < SIDE → Within 6600 (number across.now n) }
+    ensures each { (i : ℕ) → i < SIDE → number result i
+        ≡ ((pos 16 *ℤ ((pos at.x +ℤ (pos i -ℤ pos 2)) -ℤ at.first)) -ℤ pos at.value)
+        -ℤ number across.now i }
+    ensures small { (i : ℕ) → i < SIDE → Within (2 ^ 22) (number result i) }
+{
+    let mut columns = [0; SIDE];
+    for i in 0..SIDE {
+        columns[i] = level_place(at, i) - across[i];
+    }
+    columns
+}
+
+/// Where the window of a pixel lies.
+#[inline]
+fn lie_of(at: Pixel, slopes: Slopes) -> Lie
     requires pixel { (at.x < 2 ^ 15) × IsFirst at.first }
     requires slopes { IsSlope slopes.across × IsSlope slopes.down }
-    ensures value { (p : Centre) → p.x ≡ at.x → p.value ≡ at.value → p.first ≡ at.first
-        → HoldsSlopes slopes (step_at p.map p.x p.y p.value) → result ≡ place_of p k }
-    ensures small { Within (2 ^ 40) result }
+    ensures holds { (p : Centre) → p.x ≡ at.x → p.value ≡ at.value → p.first ≡ at.first
+        → HoldsSlopes slopes (step_at p.map p.x p.y p.value) → HoldsLie result p }
+    ensures small { IsLie result }
 {
-    level_place(at, k % 5) - risen(slopes.across, k % 5) - risen(slopes.down, k / 5)
+    let across = rises(slopes.across);
+    Lie {
+        columns: columns_of(at, &across),
+        rows: rises(slopes.down),
+    }
 }
 
 /// The samples of the pixel `k` of a window; none where one that is needed is void or outside.
 #[inline]
-fn place_at(left: &Field, right: &Field, at: Pixel, slopes: Slopes, k: usize) -> Option<Place>
+fn place_at(left: &Field, right: &Field, at: Pixel, lie: &Lie, k: usize) -> Option<Place>
     requires place { k < PLACES }
-    requires pixel { (at.x < 2 ^ 15) × (at.y < 2 ^ 15) × IsFirst at.first }
-    requires slopes { IsSlope slopes.across × IsSlope slopes.down }
-    ensures none { (map : Values) → HoldsSlopes slopes (step_at map at.x at.y at.value)
+    requires pixel { (at.x < 2 ^ 15) × (at.y < 2 ^ 15) }
+    requires lie { IsLie lie.now }
+    ensures none { (map : Values)
+        → HoldsLie lie.now (centre left.now right.now map at.first at.x at.y at.value)
         → is_some result ≡ has (centre left.now right.now map at.first at.x at.y at.value) k }
-    ensures some { (map : Values) → HoldsSlopes slopes (step_at map at.x at.y at.value)
-        → IfSome result (λ s. HoldsPlace s (centre left.now right.now map at.first at.x at.y at.value) k) }
+    ensures some { (map : Values)
+        → HoldsLie lie.now (centre left.now right.now map at.first at.x at.y at.value)
+        → IfSome result
+        (λ s. HoldsPlace s (centre left.now right.now map at.first at.x at.y at.value) k) }
     ensures small { IfSome result IsPlace }
 {
-    let sample = left.around(2, at.x, at.y, k % 5, k / 5)?;
-    let y = at.y + k / 5 - 2;
-    let u = place_in(at, slopes, k);
+    let sample = left.around(2, at.x, at.y, k % SIDE, k / SIDE)?;
+    let u = lie.columns[k % SIDE] - lie.rows[k / SIDE];
+    let rights = rights_at(right, at.y + k / SIDE - 2, u)?;
     Some(Place {
         left: u32::from(sample),
-        after: between_in(right, y, u + 8)?,
-        here: between_in(right, y, u)?,
-        before: between_in(right, y, u - 8)?,
+        after: rights.after,
+        here: rights.here,
+        before: rights.before,
     })
 }
 
@@ -138,9 +221,11 @@ pub(crate) fn samples_at(left: &Field, right: &Field, at: Pixel, slopes: Slopes)
     ensures none { (map : Values) → HoldsSlopes slopes (step_at map at.x at.y at.value)
         → is_some result ≡ has_all (centre left.now right.now map at.first at.x at.y at.value) }
     ensures some { (map : Values) → HoldsSlopes slopes (step_at map at.x at.y at.value)
-        → IfSome result (λ w. HoldsSamples w (centre left.now right.now map at.first at.x at.y at.value)) }
+        → IfSome result
+        (λ w. HoldsSamples w (centre left.now right.now map at.first at.x at.y at.value)) }
     ensures small { IfSome result IsWindow }
 {
+    let lie = lie_of(at, slopes);
     let mut window = Window {
         left: [0; PLACES],
         after: [0; PLACES],
@@ -148,7 +233,7 @@ pub(crate) fn samples_at(left: &Field, right: &Field, at: Pixel, slopes: Slopes)
         before: [0; PLACES],
     };
     for k in 0..PLACES {
-        let place = place_at(left, right, at, slopes, k)?;
+        let place = place_at(left, right, at, &lie, k)?;
         window.left[k] = place.left;
         window.after[k] = place.after;
         window.here[k] = place.here;

@@ -1,15 +1,16 @@
 //! How well the right window explains the left one at each of seventeen places.
 
-ghost use Rattle.std.specs.Prelude.{◌≡◌, ℕ, ◌<◌, ◌≤◌, ◌-◌, ◌^◌, ℤ, pos, ◌+ℤ◌, ◌-ℤ◌, ◌*ℤ◌, unsigned_abs, if◌then◌else◌, int_lt};
+ghost use Rattle.std.specs.Prelude.{◌≡◌, ℕ, ◌<◌, ◌≤◌, ◌-◌, ◌^◌, ℤ, pos, ◌+ℤ◌, ◌-ℤ◌, ◌*ℤ◌, ◌≤ℤ◌, false, unsigned_abs, if◌then◌else◌, int_lt};
 ghost use Rattle.sgm_base.specs.Ranges.{IsFromTo, Within};
-ghost use Rattle.sgm_fine.specs.Scores.{HoldsSide, HoldsSums, IsFitOf, IsSums, blended, covariance, score};
+ghost use Rattle.sgm_fine.specs.Scores.{HoldsSide, HoldsSums, IsAbove, IsFitOf, IsSums, blended, covariance, score};
 ghost use Rattle.sgm_fine.specs.Small.{IsSmall};
 ghost use Rattle.sgm_fine.specs.Windows.{number, over, products};
 
 use crate::small::SmallWindow;
 use crate::sums::{Numbers, PLACES, products_of, total_of};
 
-/// Sums over one side's numbers: of themselves, of their products with those on the left, of their squares.
+/// Sums over one side's numbers: of themselves, of their products with those on the left, of their
+/// squares.
 #[derive(Clone, Copy)]
 pub(crate) struct Sums {
     pub(crate) sum: i32,
@@ -80,7 +81,8 @@ fn blend(n: u32, here: i64, side: i64) -> i64
     i64::from(8 - n) * here + i64::from(n) * side
 }
 
-/// A covariance: so many times the sum of products as there are places, less the product of the sums.
+/// A covariance: so many times the sum of products as there are places, less the product of the
+/// sums.
 #[inline]
 fn covariance_of(products: i64, a: i64, b: i64) -> i64
     requires products { Within (2 ^ 41) products }
@@ -94,16 +96,20 @@ fn covariance_of(products: i64, a: i64, b: i64) -> i64
 /// How the left numbers vary by themselves.
 pub(crate) fn left_part(sums: &WindowSums) -> i64
     requires { IsSums sums.now }
-    ensures { (w : SmallWindow) → HoldsSums sums.now w → result ≡ covariance (number w.left) (number w.left) }
+    ensures { (w : SmallWindow) → HoldsSums sums.now w
+        → result ≡ covariance (number w.left) (number w.left) }
 {
     let left = i64::from(sums.left);
     covariance_of(i64::from(sums.square), left, left)
 }
 
-/// The sums of the offset on whose side the place `c` lies, and those of its products with the numbers of no offset.
+/// The sums of the offset on whose side the place `c` lies, and those of its products with the
+/// numbers of no offset.
 #[inline]
 fn side_of(sums: &WindowSums, c: i32) -> (Sums, i32)
-    ensures { result ≡ (if int_lt c (pos 0) then (sums.now.after, sums.now.with_after) else (sums.now.before, sums.now.with_before)) }
+    ensures { result
+        ≡ (if int_lt c (pos 0) then (sums.now.after, sums.now.with_after)
+        else (sums.now.before, sums.now.with_before)) }
 {
     if c < 0 {
         (sums.after, sums.with_after)
@@ -112,7 +118,8 @@ fn side_of(sums: &WindowSums, c: i32) -> (Sums, i32)
     }
 }
 
-/// The sum of the numbers that lie `n` eighths of the way from those of no offset to those of another one.
+/// The sum of the numbers that lie `n` eighths of the way from those of no offset to those of
+/// another one.
 #[inline]
 fn sum_between(here: i32, side: i32, n: u32) -> i64
     requires eighths { n ≤ 8 }
@@ -138,7 +145,8 @@ fn products_between(here: i32, side: i32, n: u32) -> i64
 #[inline]
 fn squares_between(here: i32, cross: i32, side: i32, n: u32) -> i64
     requires eighths { n ≤ 8 }
-    ensures value { result ≡ (pos (8 - n) *ℤ ((pos (8 - n) *ℤ here) +ℤ (pos n *ℤ cross))) +ℤ (pos n *ℤ ((pos (8 - n) *ℤ cross) +ℤ (pos n *ℤ side))) }
+    ensures value { result ≡ (pos (8 - n) *ℤ ((pos (8 - n) *ℤ here) +ℤ (pos n *ℤ cross)))
+        +ℤ (pos n *ℤ ((pos (8 - n) *ℤ cross) +ℤ (pos n *ℤ side))) }
     ensures small { Within (2 ^ 38) result }
 {
     let nearer = products_between(here, cross, n);
@@ -153,8 +161,9 @@ fn fit_between(left: i32, here: Sums, side: Sums, cross: i32, n: u32) -> Fit
     requires left { IsFromTo (pos 0) (pos 6375) left }
     requires here { IsFromTo (pos 0) (pos 102375) here.sum }
     requires side { IsFromTo (pos 0) (pos 102375) side.sum }
-    ensures { (l h s : ℕ → ℤ) → left ≡ over l → HoldsSide here l h → HoldsSide side l s → cross ≡ products h s
-        → (result.together ≡ covariance l (blended h s n)) × (result.right ≡ covariance (blended h s n) (blended h s n)) }
+    ensures { (l h s : ℕ → ℤ) → left ≡ over l → HoldsSide here l h → HoldsSide side l s
+        → cross ≡ products h s → (result.together ≡ covariance l (blended h s n))
+        × (result.right ≡ covariance (blended h s n) (blended h s n)) }
 {
     let sum = sum_between(here.sum, side.sum, n);
     let products = products_between(here.left, side.left, n);
@@ -187,4 +196,28 @@ pub(crate) fn score_of(fit: Fit) -> u64
     }
     let together = fit.together as u64;
     together * together / (fit.right as u64 / 256)
+}
+
+/// Whether the score of a place can be greater than that: else it needn't be divided out.
+#[inline]
+fn pays(fit: Fit, least: u64) -> bool
+    requires together { Within 2506140000 fit.together }
+    requires right { pos 0 ≤ℤ fit.right }
+    ensures { result ≡ false → score fit.together fit.right ≤ least }
+{
+    if fit.together <= 0 {
+        return false;
+    }
+    let size = fit.together as u64;
+    u128::from(least) * u128::from(fit.right as u64 / 256) <= u128::from(size * size)
+}
+
+/// The score of a place, or 0 where it isn't greater than that.
+#[inline]
+pub(crate) fn score_above(fit: Fit, least: u64) -> u64
+    requires together { Within 2506140000 fit.together }
+    requires right { pos 0 ≤ℤ fit.right }
+    ensures { IsAbove result least (score fit.together fit.right) }
+{
+    if pays(fit, least) { score_of(fit) } else { 0 }
 }

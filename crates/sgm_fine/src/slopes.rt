@@ -13,15 +13,16 @@ use crate::sums::{Numbers, PLACES, products_of};
 /// The greatest step from a pixel's value to one that still belongs to its surface, in sixteenths.
 pub(crate) const REACH: u16 = 32;
 
-/// The steps from a pixel's value to those around it, and a 1 where there is one; 0 where there is none.
+/// The steps from a pixel's value to those around it, and a 1 where there is one; 0 where there is
+/// none.
 #[derive(Clone, Copy)]
 struct Steps {
     steps: Numbers,
     marks: Numbers,
 }
 
-/// How the values rise along an axis: the sum of the steps, each by its distance, and that of the squares of the
-/// distances.
+/// How the values rise along an axis: the sum of the steps, each by its distance, and that of the
+/// squares of the distances.
 #[derive(Clone, Copy)]
 pub(crate) struct Slope {
     pub(crate) moment: i32,
@@ -64,8 +65,9 @@ fn steps_around(map: &Field, x: usize, y: usize, m: u16) -> Steps
         steps: [0; PLACES],
         marks: [0; PLACES],
     };
+    let window = map.window(x, y);
     for k in 0..PLACES {
-        let step = step_to(REACH, m, map.around(2, x, y, k % 5, k / 5));
+        let step = step_to(REACH, m, window[k]);
         found.steps[k] = step.unwrap_or(0);
         found.marks[k] = i16::from(step.is_some());
     }
@@ -116,7 +118,8 @@ fn slope_along(axis: &Numbers, found: &Steps) -> Slope
     requires steps { (k : ℕ) → k < PLACES → Within 32 (number found.now.steps k) }
     requires marks { (k : ℕ) → k < PLACES → IsFromTo (pos 0) (pos 1) (number found.now.marks k) }
     ensures moment { result.moment ≡ products (number axis.now) (number found.now.steps) }
-    ensures spread { result.spread ≡ products (λ k. number axis.now k *ℤ number axis.now k) (number found.now.marks) }
+    ensures spread { result.spread
+        ≡ products (λ k. number axis.now k *ℤ number axis.now k) (number found.now.marks) }
     ensures kept { IsSlope result }
 {
     Slope {
@@ -154,7 +157,8 @@ fn times(distance: i32, moment: i32) -> i32
 fn quotient(a: i32, b: i32) -> i32
     requires a { Within 3200 a }
     requires b { IsFromTo (pos 1) (pos 100) b }
-    ensures { result ≡ rounded a b }
+    ensures value { result ≡ rounded a b }
+    ensures small { Within 6600 result }
 {
     (2 * a + b).div_euclid(2 * b)
 }
@@ -164,7 +168,9 @@ fn quotient(a: i32, b: i32) -> i32
 pub(crate) fn rise_over(slope: Slope, distance: i32) -> i32
     requires slope { IsSlope slope }
     requires distance { Within 2 distance }
-    ensures { result ≡ (if int_eq slope.spread (pos 0) then pos 0 else rounded (distance *ℤ slope.moment) slope.spread) }
+    ensures value { result ≡ (if int_eq slope.spread (pos 0) then pos 0
+        else rounded (distance *ℤ slope.moment) slope.spread) }
+    ensures small { Within 6600 result }
 {
     if slope.spread == 0 {
         return 0;

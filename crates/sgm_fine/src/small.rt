@@ -82,8 +82,10 @@ fn halvings_to(limit: u32, number: u32) -> u32
 fn made_small(samples: &Samples, least: u32, halvings: u32) -> Numbers
     requires few { halvings ≤ 20 }
     requires least { (k : ℕ) → k < PLACES → least ≤ slice_index samples.now k }
-    requires small { (k : ℕ) → k < PLACES → halved least halvings (slice_index samples.now k) < 4096 }
-    ensures { (k : ℕ) → k < PLACES → number result k ≡ pos (halved least halvings (slice_index samples.now k)) }
+    requires small { (k : ℕ) → k < PLACES
+        → halved least halvings (slice_index samples.now k) < 4096 }
+    ensures { (k : ℕ) → k < PLACES → number result k
+        ≡ pos (halved least halvings (slice_index samples.now k)) }
 {
     let mut numbers = [0; PLACES];
     for k in 0..PLACES {

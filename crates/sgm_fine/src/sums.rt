@@ -4,7 +4,10 @@ ghost use Rattle.std.specs.Prelude.{◌≡◌, ℕ, ◌<◌, ◌*ℤ◌};
 ghost use Rattle.sgm_base.specs.Ranges.{Within};
 ghost use Rattle.sgm_fine.specs.Windows.{number, over, products};
 
-/// The pixels of a window: five columns and five rows, row by row.
+/// The columns of a window, and the rows.
+pub(crate) const SIDE: usize = 5;
+
+/// The pixels of a window, row by row.
 pub(crate) const PLACES: usize = 25;
 
 /// A number of each pixel of a window.
@@ -21,8 +24,9 @@ fn product(a: i16, b: i16) -> i32
     i32::from(a) * i32::from(b)
 }
 
-/// The sum of the products of two numbers of each pixel.
-#[inline]
+/// The sum of the products of two numbers of each pixel. The compiler puts them into lanes where
+/// this is a function by itself.
+#[inline(never)]
 pub(crate) fn products_of(a: &Numbers, b: &Numbers) -> i32
     requires a_small { (k : ℕ) → k < PLACES → Within 4096 (number a.now k) }
     requires b_small { (k : ℕ) → k < PLACES → Within 4096 (number b.now k) }
@@ -36,7 +40,7 @@ pub(crate) fn products_of(a: &Numbers, b: &Numbers) -> i32
 }
 
 /// The sum of a number of each pixel.
-#[inline]
+#[inline(never)]
 pub(crate) fn total_of(a: &Numbers) -> i32
     requires { (k : ℕ) → k < PLACES → Within 4096 (number a.now k) }
     ensures { result ≡ over (number a.now) }

@@ -5,7 +5,7 @@ use Rattle.sgm_fine.specs.Finer.{fits, place_score}
 use Rattle.sgm_fine.specs.Scores.{score}
 use Rattle.sgm_fine.specs.declared.finer.TheConstants.{ORDER}
 use Rattle.sgm_fine.proofs.PixelSums.{by_itself_is, together_within, with_left_is}
-use Rattle.sgm_fine.proofs.PlaceTests.{best_all, best_below, best_first, best_keeps, best_takes}
+use Rattle.sgm_fine.proofs.PlaceTests.{above_keeps, above_takes, best_all, best_below, best_first, best_keeps, best_takes}
 use Rattle.sgm_fine.proofs.finer.best.Goals as goal
 use Rattle.sgm_fine.proofs.finer.best.Goals.{else-score-other, then-score-other}
 
@@ -53,8 +53,9 @@ loop-k-preserved c =
             bound = λ h. omega (arith, ints, is, same, within.1);
             held = λ p h.
                 let old = i.held p h in
-                let other = c.score_at-other.ensures.value p h ∙ ap (λ z. if fits most m z then place_score p z else 0) same in
-                let new = best_takes (fits most m) (place_score p) k here (to_z w32 c.loop-k.best-bits) c.loop-k.score c.score_at-other.result lt c.tried-c.ensures.value old.0 old.1 other w.if-score-other.true in
+                let greater = w.if-score-other.true in
+                let other = above_takes _ _ _ (c.score_at-other.ensures.value p h) greater ∙ ap (λ z. if fits most m z then place_score p z else 0) same in
+                let new = best_takes (fits most m) (place_score p) k here (to_z w32 c.loop-k.best-bits) c.loop-k.score c.score_at-other.result lt c.tried-c.ensures.value old.0 old.1 other greater in
                 (is ∙ new.0, w.score-is ∙ new.1 ∙ ap (place_score p) (sym is));
           }
       | else-score-other w ↦
@@ -68,8 +69,10 @@ loop-k-preserved c =
             bound = λ h. subst (λ z. (pos m +ℤ z) ≤ℤ pos most) (sym is) (i.bound h);
             held = λ p h.
                 let old = i.held p h in
-                let other = c.score_at-other.ensures.value p h ∙ ap (λ z. if fits most m z then place_score p z else 0) same in
-                let new = best_keeps (fits most m) (place_score p) k here (to_z w32 c.loop-k.best-bits) c.loop-k.score c.score_at-other.result lt c.tried-c.ensures.value old.0 old.1 other w.if-score-other.false in
+                let other : (if fits most m (to_z w32 (of_z w32 here)) then place_score p (to_z w32 (of_z w32 here)) else 0) ≡ (if fits most m here then place_score p here else 0) =
+                ap (λ z. if fits most m z then place_score p z else 0) same in
+                let new = best_keeps (fits most m) (place_score p) k here (to_z w32 c.loop-k.best-bits) c.loop-k.score _ lt c.tried-c.ensures.value old.0 old.1 other
+                (above_keeps _ _ _ (c.score_at-other.ensures.value p h) w.if-score-other.false) in
                 (is ∙ new, w.score-is ∙ old.1 ∙ ap (place_score p) (sym is));
           }
     ]

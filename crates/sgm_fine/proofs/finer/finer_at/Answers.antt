@@ -6,19 +6,19 @@ use Rattle.sgm_fine.proofs.finer.finer_at.Goals as goal
 
 pub returns-in-None-clause-value : goal.returns-in-None-clause-value
 returns-in-None-clause-value c = λ count e.
-    let at : ℤ → Centre = λ z. centre c.args.left.now c.args.right.now c.args.map.now z c.args.x c.args.y c.args.m in
+    let at : ℤ → Centre = λ z. centre c.args.ground.now.left c.args.ground.now.right c.args.ground.now.map z c.args.x c.args.y c.args.m in
     let first = c.requires.pixel.2 in
-    let same : to_z w32 (of_z w32 c.args.first) ≡ c.args.first = omega (arith, ints, first.0, first.1) in
-    let lacks = sym (c.samples_at.ensures.none c.args.map.now c.slopes_at-slopes.ensures.holds) ∙ ap is_some c.in-None.is in
-    not_finer count (at c.args.first) (ap (λ z. has_all (at z)) (sym same) ∙ lacks)
+    let same : to_z w32 (of_z w32 c.args.ground.now.first) ≡ c.args.ground.now.first = omega (arith, ints, first.0, first.1) in
+    let lacks = sym (c.samples_at.ensures.none c.args.ground.now.map c.slopes_at-slopes.ensures.holds) ∙ ap is_some c.in-None.is in
+    not_finer count (at c.args.ground.now.first) (ap (λ z. has_all (at z)) (sym same) ∙ lacks)
 
 pub returns-in-Some-clause-value : goal.returns-in-Some-clause-value
 returns-in-Some-clause-value c = λ count e.
-    let at : ℤ → Centre = λ z. centre c.args.left.now c.args.right.now c.args.map.now z c.args.x c.args.y c.args.m in
+    let at : ℤ → Centre = λ z. centre c.args.ground.now.left c.args.ground.now.right c.args.ground.now.map z c.args.x c.args.y c.args.m in
     let first = c.requires.pixel.2 in
-    let same : to_z w32 (of_z w32 c.args.first) ≡ c.args.first = omega (arith, ints, first.0, first.1) in
+    let same : to_z w32 (of_z w32 c.args.ground.now.first) ≡ c.args.ground.now.first = omega (arith, ints, first.0, first.1) in
     let holds = c.slopes_at-slopes.ensures.holds in
-    let all = sym (c.samples_at.ensures.none c.args.map.now holds) ∙ ap is_some c.in-Some.is in
-    let is = subst (λ z. HoldsSamples c.in-Some.window (at z)) same (c.in-Some.ensures.some c.args.map.now holds) in
-    let sums = pixel_sums c.window_sums.result c.small_window.result c.in-Some.window (at c.args.first) c.window_sums.ensures.holds c.small_window.ensures.holds is in
-    c.refined.ensures.value (at c.args.first) count sums refl e ∙ is_finer count (at c.args.first) (ap (λ z. has_all (at z)) (sym same) ∙ all)
+    let all = sym (c.samples_at.ensures.none c.args.ground.now.map holds) ∙ ap is_some c.in-Some.is in
+    let is = subst (λ z. HoldsSamples c.in-Some.window (at z)) same (c.in-Some.ensures.some c.args.ground.now.map holds) in
+    let sums = pixel_sums c.window_sums.result c.small_window.result c.in-Some.window (at c.args.ground.now.first) c.window_sums.ensures.holds c.small_window.ensures.holds is in
+    c.refined.ensures.value (at c.args.ground.now.first) count sums refl e ∙ is_finer count (at c.args.ground.now.first) (ap (λ z. has_all (at z)) (sym same) ∙ all)

@@ -55,25 +55,28 @@ loop-k-preserved c =
 pub returns-in_err-place-clause-none : goal.returns-in_err-place-clause-none
 returns-in_err-place-clause-none c = λ map h.
     let p : Centre = centre c.args.left.now c.args.right.now map c.args.at.first c.args.at.x c.args.at.y c.args.at.value in
+    let lie = c.lie_of-lie.ensures.holds p refl refl refl h in
     let k = c.loop-k.k in
-    let fails : has p k ≡ false = sym (c.place_at.ensures.none map h) ∙ ap is_some c.in_err-place.was in
+    let fails : has p k ≡ false = sym (c.place_at.ensures.none map lie) ∙ ap is_some c.in_err-place.was in
     ap is_some c.from_residual.ensures ∙ sym (one_fails (has p) 25 k c.loop-k-test.true fails)
 
 pub returns-clause-none : goal.returns-clause-none
 returns-clause-none c = λ map h.
     let p : Centre = centre c.args.left.now c.args.right.now map c.args.at.first c.args.at.x c.args.at.y c.args.at.value in
+    let lie = c.lie_of-lie.ensures.holds p refl refl refl h in
     let k = c.loop-k.k in
     let i = c.loop-k.invariant in
     let end : k ≡ 25 = omega (arith, i.few, c.loop-k-test.false) in
-    sym (all_pass (has p) 0 25 (λ j lt. has_below k c.loop-k.window p (i.held map h) j (omega (arith, lt, end))))
+    sym (all_pass (has p) 0 25 (λ j lt. has_below k c.loop-k.window p (i.held map lie) j (omega (arith, lt, end))))
 
 pub returns-clause-some : goal.returns-clause-some
 returns-clause-some c = λ map h.
     let p : Centre = centre c.args.left.now c.args.right.now map c.args.at.first c.args.at.x c.args.at.y c.args.at.value in
+    let lie = c.lie_of-lie.ensures.holds p refl refl refl h in
     let k = c.loop-k.k in
     let w = c.loop-k.window in
     let i = c.loop-k.invariant in
-    let all = i.held map h in
+    let all = i.held map lie in
     let end : k ≡ 25 = omega (arith, i.few, c.loop-k-test.false) in
     record {
       left = list_all_places (left_at p) w.left 25 k i.long_left end all.left;

@@ -1,7 +1,6 @@
 use Rattle.std.proofs.Common.{◌≡◌, ◌≤◌, length}
 use Rattle.sgm_base.specs.Values.{Values}
-use Rattle.sgm_fine.specs.Samples.{IsWindow, centre}
-use Rattle.sgm_fine.specs.Slopes.{HoldsSlopes, step_at}
+use Rattle.sgm_fine.specs.Samples.{HoldsLie, IsWindow, centre}
 use Rattle.sgm_fine.proofs.WindowSamples.{HoldsBelow}
 use Rattle.sgm_fine.proofs.samples.samples_at.Given as goal
 
@@ -13,5 +12,6 @@ invariant-loop-k l = record {
   long_here : length l.window.here ≡ 25;
   long_before : length l.window.before ≡ 25;
   kept : IsWindow l.window;
-  held : (map : Values) → HoldsSlopes l.slopes (step_at map l.at.x l.at.y l.at.value) → HoldsBelow l.k l.window (centre l.left l.right map l.at.first l.at.x l.at.y l.at.value);
+  held : (map : Values) → HoldsLie l.lie (centre l.left l.right map l.at.first l.at.x l.at.y l.at.value)
+      → HoldsBelow l.k l.window (centre l.left l.right map l.at.first l.at.x l.at.y l.at.value);
 }

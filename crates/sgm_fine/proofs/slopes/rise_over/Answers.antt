@@ -9,8 +9,8 @@ not_zero (pos zero) h = absurd (h refl)
 not_zero (pos (suc n)) h = grind arith
 not_zero (negsuc n) h = refl
 
-pub returns : goal.returns
-returns c =
+pub returns-clause-value : goal.returns-clause-value
+returns-clause-value c =
     let d = c.args.distance in
     let m = c.args.slope.moment in
     let s = c.args.slope.spread in
@@ -20,4 +20,4 @@ returns c =
     let wide : to_z w32 (of_z w32 s) ≡ s = omega (arith, ints, c.requires.slope.spread.0, c.requires.slope.spread.1) in
     let product : to_z w32 (of_z w32 c.times.result) ≡ d *ℤ m = omega (arith, ints, c.times.type_inv) ∙ c.times.ensures.value ∙ ap₂ (λ (y z : ℤ). y *ℤ z) near rising in
     let some : int_eq s (pos 0) ≡ false = not_zero s c.if-slope-eq0.false in
-    whole ∙ c.quotient.ensures ∙ ap₂ rounded product wide ∙ sym (ap (λ b. if b then pos 0 else rounded (d *ℤ m) s) some)
+    whole ∙ c.quotient.ensures.value ∙ ap₂ rounded product wide ∙ sym (ap (λ b. if b then pos 0 else rounded (d *ℤ m) s) some)

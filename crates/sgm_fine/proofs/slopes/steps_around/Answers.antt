@@ -15,7 +15,7 @@ loop-k-preserved c =
     let k = c.loop-k.k in
     let s = c.loop-k.found.steps in
     let n = c.loop-k.found.marks in
-    let is : c.step_to-step.result ≡ found k = c.step_to-step.ensures.exact ∙ ap (step_to 32 c.args.m) c.around.ensures in
+    let is : c.step_to-step.result ≡ found k = c.step_to-step.ensures.exact ∙ ap (step_to 32 c.args.m) (c.window-window.ensures k c.loop-k-test.true) in
     let whole : to_z w16 (of_z w16 c.unwrap_or.result) ≡ c.unwrap_or.result = omega (arith, ints, c.unwrap_or.type_inv) in
     let marked : to_z w16 (of_z w16 c.from.result) ≡ c.from.result = omega (arith, ints, c.from.type_inv) in
     record {
