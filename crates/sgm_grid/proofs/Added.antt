@@ -1,6 +1,6 @@
 -- What points that are added make of the cells of a grid.
 use Rattle.std.proofs.Common.{◌≡◌, ◌≢◌, ℕ, suc, ◌*◌, ◌<◌, ◌≤◌, Bool, true, false, ◌==◌, ◌&&◌, nat_lt, if◌then◌else◌, List, [], ◌∷◌, length, map, Option, Some, None, ℤ, pos, negsuc, neg_ℤ, ◌-ℤ◌, ◌^◌, to_z, of_z, w64, refl, sym, ap, subst, ◌∙◌, arith, rules, inl, inr, ◌⊎◌, ◌-◌, slice_set}
-use Rattle.std.specs.Prelude.{fold, filter, replicate}
+use Rattle.std.specs.Prelude.{fold, filter, replicate, slice_get, unwrap_or}
 use Rattle.std.specs.Option.{ForSome}
 use Rattle.std.specs.Int.{int_max, int_div_euclid}
 use Rattle.std.proofs.lemmas.Int.{ints}
@@ -13,7 +13,9 @@ use Rattle.sgm_base.specs.declared.point.Point.{Point}
 use Rattle.sgm_grid.specs.declared.grid_spec.GridSpec.{GridSpec}
 use Rattle.sgm_grid.specs.Cells.{Cells, IsCells, IsHeight, cells_of, height_at, cell_index}
 use Rattle.sgm_base.specs.Ranges.{IsFromTo}
-use Rattle.sgm_grid.specs.Points.{added, cell_after, cell_of, col_of, row_from_south, empty_grid, falls_into, from_north, greatest, higher, index_below, is_that_cell, raised}
+use Rattle.sgm_grid.specs.Keeping.{cell_after}
+use Rattle.sgm_grid.specs.declared.keep.Keep.TheVariants.{Highest}
+use Rattle.sgm_grid.specs.Points.{added, cell_of, col_of, row_from_south, empty_grid, falls_into, from_north, greatest, higher, index_below, is_that_cell, raised}
 
 -- a cell of the grid
 abbrev pub Inside : GridSpec → ℕ × ℕ → Type 0
@@ -46,7 +48,7 @@ pub cell_inside : (spec : GridSpec) (p : Point) (cell : ℕ × ℕ) → cell_of 
 cell_inside spec p cell e =
     north_inside spec (col_of spec p) (row_from_south spec p) cell (λ n f. index_inside spec.cols _ n f) (λ n f. index_inside spec.rows _ n f) e
 
-place_inside : (spec : GridSpec) (col row : ℕ) → col < spec.cols → row < spec.rows → cell_index spec col row < spec.cols * spec.rows
+pub place_inside : (spec : GridSpec) (col row : ℕ) → col < spec.cols → row < spec.rows → cell_index spec col row < spec.cols * spec.rows
 place_inside spec col row hc hr =
     let whole : suc row * spec.cols ≤ spec.rows * spec.cols = mul-le-mul_right spec.cols hr in
     omega arith
@@ -67,29 +69,33 @@ place_apart spec a b c d ha hc e = places_apart spec a b c d ha hc e (cases_orde
 not_both : (a b : ℕ) → (a == b) ≡ false → a ≡ b → ⊥
 not_both a b f e = let yes : (a == b) ≡ true = eq-eqb a b e in cc
 
+-- what a list has at a cell's place, or that default
+abbrev pub at_cell : {X : Type 0} → GridSpec → List X → ℕ → ℕ → X → X
+at_cell spec xs col row d = unwrap_or (slice_get xs (cell_index spec col row)) d
+
 -- a cell that was written, and another
-read_written : (spec : GridSpec) (hs : List (Option ℤ)) (cell : ℕ × ℕ) (v : Option ℤ) (col row : ℕ)
-    → length hs ≡ spec.cols * spec.rows → Inside spec cell → col < spec.cols → row < spec.rows
+pub read_written : {X : Type 0} (spec : GridSpec) (xs : List X) (cell : ℕ × ℕ) (v d : X) (col row : ℕ)
+    → length xs ≡ spec.cols * spec.rows → Inside spec cell → col < spec.cols → row < spec.rows
     → (x y : Bool) → (cell.0 == col) ≡ x → (cell.1 == row) ≡ y
-    → height_at (cells_of spec (slice_set hs (cell_index spec cell.0 cell.1) v)) col row ≡ (if x && y then v else height_at (cells_of spec hs) col row)
-read_written spec hs cell v col row full inside hc hr true true ex ey =
+    → at_cell spec (slice_set xs (cell_index spec cell.0 cell.1) v) col row d ≡ (if x && y then v else at_cell spec xs col row d)
+read_written spec xs cell v d col row full inside hc hr true true ex ey =
     let same_col : cell.0 ≡ col = eqb-true _ _ ex in
     let same_row : cell.1 ≡ row = eqb-true _ _ ey in
     let at : cell_index spec cell.0 cell.1 ≡ cell_index spec col row = cc in
-    let within : cell_index spec col row < length hs = omega (arith, place_inside spec col row hc hr) in
-    ap (λ (n : ℕ). height_at (cells_of spec (slice_set hs n v)) col row) at
-    ∙ unwrap_or-slice_get (slice_set hs (cell_index spec col row) v) (cell_index spec col row) None
-    ∙ get_or-set_same hs (cell_index spec col row) v None within
-read_written spec hs cell v col row full inside hc hr true false ex ey =
+    let within : cell_index spec col row < length xs = omega (arith, place_inside spec col row hc hr) in
+    ap (λ (n : ℕ). at_cell spec (slice_set xs n v) col row d) at
+    ∙ unwrap_or-slice_get (slice_set xs (cell_index spec col row) v) (cell_index spec col row) d
+    ∙ get_or-set_same xs (cell_index spec col row) v d within
+read_written spec xs cell v d col row full inside hc hr true false ex ey =
     let other : cell_index spec col row ≢ cell_index spec cell.0 cell.1 = λ e. not_both cell.1 row ey (sym ((place_apart spec col row cell.0 cell.1 hc inside.0 e).1)) in
-    unwrap_or-slice_get (slice_set hs (cell_index spec cell.0 cell.1) v) (cell_index spec col row) None
-    ∙ get_or-set_other hs (cell_index spec cell.0 cell.1) (cell_index spec col row) v None other
-    ∙ sym (unwrap_or-slice_get hs (cell_index spec col row) None)
-read_written spec hs cell v col row full inside hc hr false y ex ey =
+    unwrap_or-slice_get (slice_set xs (cell_index spec cell.0 cell.1) v) (cell_index spec col row) d
+    ∙ get_or-set_other xs (cell_index spec cell.0 cell.1) (cell_index spec col row) v d other
+    ∙ sym (unwrap_or-slice_get xs (cell_index spec col row) d)
+read_written spec xs cell v d col row full inside hc hr false y ex ey =
     let other : cell_index spec col row ≢ cell_index spec cell.0 cell.1 = λ e. not_both cell.0 col ex (sym ((place_apart spec col row cell.0 cell.1 hc inside.0 e).0)) in
-    unwrap_or-slice_get (slice_set hs (cell_index spec cell.0 cell.1) v) (cell_index spec col row) None
-    ∙ get_or-set_other hs (cell_index spec cell.0 cell.1) (cell_index spec col row) v None other
-    ∙ sym (unwrap_or-slice_get hs (cell_index spec col row) None)
+    unwrap_or-slice_get (slice_set xs (cell_index spec cell.0 cell.1) v) (cell_index spec col row) d
+    ∙ get_or-set_other xs (cell_index spec cell.0 cell.1) (cell_index spec col row) v d other
+    ∙ sym (unwrap_or-slice_get xs (cell_index spec col row) d)
 
 same_held : (grid : Cells) (cell : ℕ × ℕ) (h : ℤ) (col row : ℕ) (x y : Bool) → (cell.0 == col) ≡ x → (cell.1 == row) ≡ y
     → (if x && y then Some (higher (height_at grid cell.0 cell.1) h) else height_at grid col row)
@@ -107,7 +113,7 @@ read_raised : (grid : Cells) (o : Option (ℕ × ℕ)) (h : ℤ) (col row : ℕ)
     → height_at (raised grid o h) col row ≡ (if is_that_cell o col row then Some (higher (height_at grid col row) h) else height_at grid col row)
 read_raised grid None h col row full inside hc hr = refl
 read_raised grid (Some cell) h col row full inside hc hr =
-    read_written grid.spec grid.heights cell (Some (higher (height_at grid cell.0 cell.1) h)) col row full (inside cell refl) hc hr
+    read_written grid.spec grid.heights cell (Some (higher (height_at grid cell.0 cell.1) h)) None col row full (inside cell refl) hc hr
     (cell.0 == col) (cell.1 == row) refl refl
     ∙ same_held grid cell h col row (cell.0 == col) (cell.1 == row) refl refl
 
@@ -156,13 +162,21 @@ after_points (p ∷ points) grid col row full hc hr =
     ∙ ap (λ (held : Option ℤ). carried held (heights_of (filter (falls_into grid.spec col row) points))) held
     ∙ carried_on (falls_into grid.spec col row p) (height_at grid col row) p (filter (falls_into grid.spec col row) points)
 
+pub added-spec : (points : List Point) (grid : Cells) → (fold added grid points).spec ≡ grid.spec
+added-spec [] grid = refl
+added-spec (p ∷ points) grid = added-spec points (added grid p) ∙ raised-spec grid (cell_of grid.spec p) p.h
+
+pub added-length : (points : List Point) (grid : Cells) → length ((fold added grid points).heights) ≡ length grid.heights
+added-length [] grid = refl
+added-length (p ∷ points) grid = added-length points (added grid p) ∙ raised-length grid (cell_of grid.spec p) p.h
+
 empty-height : (spec : GridSpec) (col row : ℕ) → col < spec.cols → row < spec.rows → height_at (empty_grid spec) col row ≡ None
 empty-height spec col row hc hr =
     unwrap_or-slice_get (replicate (spec.cols * spec.rows) None) (cell_index spec col row) None
     ∙ get_or-replicate (spec.cols * spec.rows) (cell_index spec col row) None None (place_inside spec col row hc hr)
 
 pub highest_of_points : (spec : GridSpec) (points : List Point) (col row : ℕ) → col < spec.cols → row < spec.rows
-    → height_at (fold added (empty_grid spec) points) col row ≡ cell_after spec points col row
+    → height_at (fold added (empty_grid spec) points) col row ≡ cell_after Highest spec points col row
 highest_of_points spec points col row hc hr =
     after_points points (empty_grid spec) col row (length-replicate (spec.cols * spec.rows) None) hc hr
     ∙ ap (λ (held : Option ℤ). carried held (heights_of (filter (falls_into spec col row) points))) (empty-height spec col row hc hr)

@@ -1,5 +1,5 @@
 -- The head of a text, line by line.
-use Rattle.std.proofs.Common.{◌≡◌, ℕ, ◌+◌, List, [], ◌∷◌, Bool, true, false, ℤ, pos, neg_ℤ, Option, Some, None, codes, is_some, if◌then◌else◌, refl, sym, ap, ◌∙◌, subst, arith, ◌≤◌, unsigned_abs, FitsSigned, Fits, w32, w64, to_z, of_z, ◌⊎◌, inl, inr, drop, unwrap_or, Result, Ok, Err}
+use Rattle.std.proofs.Common.{◌≡◌, ℕ, ◌+◌, List, [], ◌∷◌, Bool, true, false, ℤ, pos, neg_ℤ, Option, Some, None, codes, is_some, if◌then◌else◌, refl, sym, ap, ◌∙◌, subst, arith, ◌≤◌, unsigned_abs, FitsSigned, Fits, w32, w64, to_z, of_z, ◌⊎◌, inl, inr, drop, unwrap_or, Result, Err}
 use Rattle.std.specs.Option.{option_map}
 use Rattle.std.proofs.lemmas.Int.{ints, clamps, to_z-of_z}
 use Rattle.sgm_base.specs.Ranges.{IsFromTo}
@@ -16,7 +16,7 @@ use Rattle.sgm_grid.specs.declared.head.Numbers.{Numbers}
 use Rattle.sgm_grid.specs.Asc.{Place, named, number, head, first_failing, first_of, grid_of, is_in_range, is_kind, is_from_to, number_at, spec_in, told_by}
 use Rattle.sgm_grid.specs.Cells.{Cells}
 use Rattle.sgm_grid.specs.Words.{number_of}
-use Rattle.sgm_grid.specs.Head.{HasLine, HasNumber, HasNumbers, IsRangeFault, IsWordFault, LacksAt, LacksNumber, LacksLine, first_out, out_of, spec_told}
+use Rattle.sgm_grid.specs.Head.{HasLine, HasNumbers, IsRangeFault, IsWordFault, LacksAt, LacksNumber, LacksLine, first_out, out_of, spec_told}
 
 -- over a line
 pub over_line : {name : List ℕ} {words rest : List (List ℕ)} {value : ℤ} (at : ℕ) (low high : ℤ) (places : List Place) → HasLine name words value rest

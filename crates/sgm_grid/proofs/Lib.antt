@@ -1,6 +1,14 @@
 pub mod Added
+pub mod BridgeLaws
+pub mod CellRows
 pub mod HeadLaws
 pub mod HeightLaws
+pub mod Kept
+pub mod Means
+pub mod Neighbours
+pub mod Room
 pub mod Rows
+pub mod Spans
+pub mod Summed
 pub mod WordLaws
 pub mod WrittenLaws

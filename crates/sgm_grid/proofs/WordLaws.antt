@@ -1,5 +1,5 @@
 -- Words of a text, one after the other, and the numbers that they write.
-use Rattle.std.proofs.Common.{◌≡◌, ℕ, zero, suc, ◌+◌, ◌-◌, ◌*◌, ◌<◌, ◌≤◌, ◌⊎◌, inl, inr, min, List, [], ◌∷◌, ◌++◌, length, take, drop, get_or, filter, Bool, true, false, ◌&&◌, Option, Some, None, pos, neg_ℤ, if◌then◌else◌, refl, sym, ap, ◌∙◌, arith, All, drop-cons, length-drop}
+use Rattle.std.proofs.Common.{◌≡◌, ℕ, zero, suc, ◌+◌, ◌-◌, ◌*◌, ◌<◌, ◌≤◌, inl, inr, min, List, [], ◌∷◌, ◌++◌, length, take, drop, get_or, filter, Bool, true, false, ◌&&◌, Option, Some, None, pos, neg_ℤ, if◌then◌else◌, refl, sym, ap, ◌∙◌, arith, All, drop-cons, length-drop}
 use Rattle.std.specs.List.{slice_split}
 use Rattle.std.specs.Char.{is_ascii_digit, digit_value}
 use Rattle.std.specs.Option.{option_map}

@@ -1,5 +1,5 @@
 -- What is written is read again.
-use Rattle.std.proofs.Common.{◌≡◌, ℕ, zero, suc, ◌+◌, ◌-◌, ◌*◌, ◌^◌, ◌<◌, ◌≤◌, List, [], ◌∷◌, ◌++◌, map, flat_map, length, take, drop, codes, Bool, true, false, ◌==◌, ◌&&◌, ℤ, pos, negsuc, neg_ℤ, unsigned_abs, Option, Some, None, Result, Ok, if◌then◌else◌, refl, sym, ap, ◌∙◌, subst, arith, rules, All, append_assoc, append-nil}
+use Rattle.std.proofs.Common.{◌≡◌, ℕ, zero, suc, ◌+◌, ◌*◌, ◌^◌, ◌<◌, ◌≤◌, List, [], ◌∷◌, ◌++◌, map, flat_map, length, take, drop, codes, Bool, true, false, ◌==◌, ◌&&◌, ℤ, pos, negsuc, neg_ℤ, unsigned_abs, Option, Some, None, Ok, if◌then◌else◌, refl, sym, ap, ◌∙◌, arith, rules, append_assoc}
 use Rattle.std.specs.Prelude.{decimal}
 use Rattle.std.specs.Char.{is_ascii_digit}
 use Rattle.std.specs.Fmt.{signed_decimal}
@@ -18,7 +18,6 @@ use Rattle.std.proofs.lemmas.Bool.Decides.{Decides-int_eq}
 use Rattle.std.proofs.lemmas.Int.{clamps}
 use Rattle.std.proofs.lemmas.List.{drop_all, drop-drop, length-drop, length-map, length-take-le}
 use Rattle.sgm_base.specs.Ranges.{IsFromTo}
-use Rattle.sgm_grid.specs.declared.asc_fault.AscFault.{AscFault}
 use Rattle.sgm_grid.specs.declared.head.Numbers.{Numbers}
 use Rattle.sgm_base.specs.declared.limits.TheConstants.{MAX_GRID_LINES}
 use Rattle.sgm_grid.specs.declared.limits.TheConstants.{MAX_HEIGHT, MAX_PLACE, MAX_CELL, NO_HEIGHT}

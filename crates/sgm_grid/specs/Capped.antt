@@ -1,5 +1,5 @@
 -- Words of the reader's own functions. No public clause cites them.
-use Rattle.std.specs.Prelude.{◌≡◌, ℕ, min, ℤ, pos, neg_ℤ}
+use Rattle.std.specs.Prelude.{ℕ, min, ℤ, pos, neg_ℤ}
 use Rattle.std.specs.Int.{int_max, int_min}
 use Rattle.sgm_grid.specs.declared.words.TheConstants.{TOO_GREAT}
 

@@ -1,8 +1,14 @@
 pub mod Asc
+pub mod Beside
+pub mod Binning
+pub mod Bridges
 pub mod Capped
 pub mod Cells
 pub mod Head
+pub mod Holding
+pub mod Keeping
 pub mod Leading
 pub mod Points
+pub mod Summing
 pub mod Text
 pub mod Words

@@ -1,5 +1,5 @@
 -- Into which cell a point falls, and what a list of points makes of a grid.
-use Rattle.std.specs.Prelude.{ℕ, ◌-◌, ◌*◌, ◌==◌, ◌&&◌, Bool, false, nat_lt, ℤ, pos, negsuc, ◌-ℤ◌, List, [], ◌∷◌, fold, filter, map, replicate, slice_set, Option, Some, None, if◌then◌else◌}
+use Rattle.std.specs.Prelude.{ℕ, ◌-◌, ◌*◌, ◌==◌, ◌&&◌, Bool, false, nat_lt, ℤ, pos, negsuc, ◌-ℤ◌, List, [], ◌∷◌, fold, replicate, slice_set, Option, Some, None, if◌then◌else◌}
 use Rattle.std.specs.Int.{int_div_euclid, int_max}
 use Rattle.sgm_base.specs.declared.point.Point.{Point}
 use Rattle.sgm_grid.specs.declared.grid_spec.GridSpec.{GridSpec}
@@ -39,10 +39,6 @@ falls_into spec col row p = is_that_cell (cell_of spec p) col row
 abbrev pub greatest : List ℤ → Option ℤ
 greatest [] = None
 greatest (h ∷ more) = Some (fold int_max h more)
-
--- the greatest height of the points of a list that fall into a cell, or none
-abbrev pub cell_after : GridSpec → List Point → ℕ → ℕ → Option ℤ
-cell_after spec points col row = greatest (map (λ p. p.h) (filter (falls_into spec col row) points))
 
 -- a grid without a height
 abbrev pub empty_grid : GridSpec → Cells

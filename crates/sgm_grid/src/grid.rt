@@ -112,7 +112,7 @@ impl Grid {
 }
 
 /// The place of a cell in the list.
-fn place(spec: GridSpec, col: u32, row: u32) -> usize
+pub(crate) fn place(spec: GridSpec, col: u32, row: u32) -> usize
     requires ranges { IsGridSpec spec }
     requires col_in { col < spec.cols }
     requires row_in { row < spec.rows }
@@ -123,7 +123,7 @@ fn place(spec: GridSpec, col: u32, row: u32) -> usize
 }
 
 /// The column, and the row from the north, of the cell into which `p` falls; None outside the grid.
-fn cell_of(spec: GridSpec, p: Point) -> Option<(u32, u32)>
+pub(crate) fn cell_of(spec: GridSpec, p: Point) -> Option<(u32, u32)>
     requires ranges { IsGridSpec spec }
     requires east { Within (2 ^ 60) p.x }
     requires north { Within (2 ^ 60) p.y }

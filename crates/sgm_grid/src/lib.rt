@@ -3,9 +3,12 @@
 
 mod asc;
 mod asc_fault;
+mod bins;
+mod bridges;
 mod grid;
 mod grid_spec;
 mod head;
+mod keep;
 pub mod laws;
 mod limits;
 mod text;
@@ -13,7 +16,10 @@ mod words;
 
 pub use asc::read_asc;
 pub use asc_fault::{AscError, AscFault};
+pub use bins::Bins;
+pub use bridges::bridge;
 pub use grid::{Grid, higher};
 pub use grid_spec::GridSpec;
-pub use limits::{MAX_CELL, MAX_HEIGHT, MAX_PLACE, NO_HEIGHT};
+pub use keep::{Gridding, Keep};
+pub use limits::{MAX_BRIDGE, MAX_CELL, MAX_HEIGHT, MAX_PLACE, NO_HEIGHT};
 pub use text::append_head;

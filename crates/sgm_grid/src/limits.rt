@@ -11,3 +11,6 @@ pub const MAX_HEIGHT: i64 = 2_000_000_000;
 
 /// What stands for an empty cell in a grid's text.
 pub const NO_HEIGHT: i64 = -2_147_483_648;
+
+/// Over how many cells to each side heights are bridged at most.
+pub const MAX_BRIDGE: u32 = 8;

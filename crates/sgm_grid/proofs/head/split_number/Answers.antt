@@ -1,5 +1,5 @@
 use Rattle.sgm_grid.proofs.HeadLaws.{some_capped, capped_fits, lacks_number, lacks_word}
-use Rattle.std.proofs.Common.{◌≡◌, ap, sym, ◌∙◌, to_z, of_z, w64, ℤ}
+use Rattle.std.proofs.Common.{ap, sym, ◌∙◌, to_z, of_z, w64, ℤ}
 use Rattle.sgm_grid.specs.Words.{number_of, words_of}
 use Rattle.sgm_grid.proofs.head.split_number.Goals as goal
 
