@@ -1,14 +1,15 @@
 -- The cells of a region, row by row.
-use Rattle.std.proofs.Common.{◌≡◌, ℕ, suc, ◌+◌, ◌-◌, ◌*◌, ◌<◌, ◌≤◌, ◌++◌, List, [], ◌∷◌, length, map, ℤ, Option, None, take, drop, refl, sym, ap, subst, ◌∙◌, arith, append-nil, length-drop}
-use Rattle.std.specs.Prelude.{flat_map}
+use Rattle.std.proofs.Common.{◌≡◌, ℕ, ◌+◌, ◌-◌, ◌*◌, ◌<◌, ◌≤◌, ◌++◌, List, [], ◌∷◌, length, map, ℤ, Option, None, take, drop, refl, sym, ap, subst, ◌∙◌, arith, append-nil, length-drop}
+use Rattle.std.specs.Prelude.{count_by, flat_map, is_some}
 use Rattle.std.specs.List.{range_with_len}
 use Rattle.std.proofs.lemmas.List.{ext_get_or, get_or-drop, get_or-take, length-take-le, map-id}
 use Rattle.std.proofs.lemmas.List.FromFn.{get_or-map-range_with_len, length-map-range_with_len, map-range_with_len_more}
 use Rattle.std.proofs.lemmas.Grind.{flat_map-append}
+use Rattle.std.proofs.lemmas.List.Sums.{sum_by-append}
 use Rattle.std.proofs.lemmas.Option.{unwrap_or-slice_get}
-use Rattle.std.proofs.Math.Nat.{mul-le-mul_right}
 use Rattle.std.proofs.lemmas.Nat.{mul-le}
-use Rattle.sgm_grid.specs.Cells.{Cells, IsCells, height_at, cell_index, row_of}
+use Rattle.sgm_grid.specs.Cells.{Cells, IsGridSpec, height_at, cell_index, row_of}
+use Rattle.sgm_grid.specs.declared.grid_spec.GridSpec.{GridSpec}
 use Rattle.sgm_report.specs.Areas.{Area, LiesIn}
 use Rattle.sgm_report.specs.Sums.{HasRoom, most_cells, sums_over}
 use Rattle.sgm_report.specs.Tallies.{cols_of}
@@ -32,27 +33,14 @@ rows_more grid area n j e =
     ∙ flat_map-append row (range_with_len area.row n) (j ∷ [])
     ∙ ap (λ (t : List (Option ℤ)). first_rows grid area n ++ t) (append-nil (row j))
 
-row_full : (grid : Cells) (row : ℕ) → length grid.heights ≡ grid.spec.cols * grid.spec.rows → row < grid.spec.rows
-    → row * grid.spec.cols + grid.spec.cols ≤ length grid.heights
-row_full grid row full hr =
-    let whole : suc row * grid.spec.cols ≤ grid.spec.rows * grid.spec.cols = mul-le-mul_right grid.spec.cols hr in
-    omega arith
-
-row_length : (grid : Cells) (row : ℕ) → length grid.heights ≡ grid.spec.cols * grid.spec.rows → row < grid.spec.rows
-    → length (row_of grid row) ≡ grid.spec.cols
-row_length grid row full hr =
-    length-take-le grid.spec.cols (drop (row * grid.spec.cols) grid.heights)
-    (omega (arith, length-drop (row * grid.spec.cols) grid.heights, row_full grid row full hr))
-
 -- a part of a row has the heights of those columns
-pub part_is : (grid : Cells) (row col cols many : ℕ) → length grid.heights ≡ grid.spec.cols * grid.spec.rows → row < grid.spec.rows
-    → col + cols ≤ grid.spec.cols → many ≡ cols
+pub part_is : (grid : Cells) (row col cols many : ℕ) → length (row_of grid row) ≡ grid.spec.cols → col + cols ≤ grid.spec.cols → many ≡ cols
     → take many (drop col (row_of grid row)) ≡ map (λ c. height_at grid c row) (range_with_len col cols)
-part_is grid row col cols many full hr hc same =
+part_is grid row col cols many whole hc same =
     let f : ℕ → Option ℤ = λ (c : ℕ). height_at grid c row in
     let part = take many (drop col (row_of grid row)) in
     let part_length : length part ≡ cols =
-    length-take-le many (drop col (row_of grid row)) (omega (arith, length-drop col (row_of grid row), row_length grid row full hr)) ∙ same in
+    length-take-le many (drop col (row_of grid row)) (omega (arith, length-drop col (row_of grid row), whole)) ∙ same in
     ext_get_or None part (map f (range_with_len col cols)) (part_length ∙ sym (length-map-range_with_len f col cols))
     (λ i lt.
     let within : i < cols = omega (arith, part_length) in
@@ -64,10 +52,21 @@ part_is grid row col cols many full hr hc same =
     ∙ sym (unwrap_or-slice_get grid.heights (cell_index grid.spec (col + i) row) None)
     ∙ sym (get_or-map-range_with_len f col cols i (col + i) None within refl))
 
+-- how many heights there are with one row more
+pub count_more : (grid : Cells) (area : Area) (n j count here : ℕ) (part : List (Option ℤ)) → count ≡ count_by is_some (first_rows grid area n)
+    → here ≡ count_by is_some part → part ≡ map (λ col. height_at grid col j) (cols_of area) → area.row + n ≡ j
+    → count + here ≡ count_by is_some (first_rows grid area (n + 1))
+count_more grid area n j count here part so_far of_part parts at =
+    let row = map (λ (col : ℕ). height_at grid col j) (cols_of area) in
+    ap (λ (k : ℕ). k + here) so_far
+    ∙ ap (λ (k : ℕ). count_by is_some (first_rows grid area n) + k) (of_part ∙ ap (λ (t : List (Option ℤ)). count_by is_some t) parts)
+    ∙ sym (sum_by-append _ (first_rows grid area n) row)
+    ∙ ap (λ (t : List (Option ℤ)). count_by is_some t) (sym (rows_more grid area n j at))
+
 -- a region has at most the most cells
-pub cells_at_most : (grid : Cells) (area : Area) → IsCells grid → LiesIn grid.spec area → area.rows * area.cols ≤ most_cells
-cells_at_most grid area kept inside =
-    mul-le area.rows area.cols 4096 4096 (omega (arith, inside.within_rows, kept.ranges.rows_in_range.1)) (omega (arith, inside.within_cols, kept.ranges.cols_in_range.1))
+pub cells_at_most : (spec : GridSpec) (area : Area) → IsGridSpec spec → LiesIn spec area → area.rows * area.cols ≤ most_cells
+cells_at_most spec area ranges inside =
+    mul-le area.rows area.cols 4096 4096 (omega (arith, inside.within_rows, ranges.rows_in_range.1)) (omega (arith, inside.within_cols, ranges.cols_in_range.1))
 
 -- no cells leave all the room
 pub room_at_first : (base : ℤ) (s : Sums) (n : ℕ) → s ≡ sums_over base [] → n ≤ most_cells → HasRoom s n

@@ -1,5 +1,5 @@
 -- What one cell more makes of the sums of some cells.
-use Rattle.std.proofs.Common.{◌≡◌, ℕ, ◌+◌, ◌*◌, ◌≤◌, ◌++◌, List, [], ◌∷◌, length, ℤ, pos, negsuc, ◌<◌, get_or, take, append_assoc, take_all, Fits, ◌-ℤ◌, ◌≤ℤ◌, to_z, of_z, w32, w64, Option, Some, None, refl, sym, ap, ◌∙◌, arith, append-nil}
+use Rattle.std.proofs.Common.{◌≡◌, ℕ, ◌+◌, ◌-◌, ◌*◌, ◌≤◌, ◌++◌, List, [], ◌∷◌, length, ℤ, pos, negsuc, ◌<◌, get_or, take, append_assoc, take_all, Fits, ◌-ℤ◌, ◌≤ℤ◌, to_z, of_z, w32, w64, Option, Some, None, refl, sym, ap, ◌∙◌, arith, append-nil}
 use Rattle.std.specs.Prelude.{count_by, sum_by, is_some, is_none, unsigned_abs}
 use Rattle.std.specs.Int.{int_max, int_min}
 use Rattle.std.proofs.lemmas.List.Sums.{fold_push, sum_by-cons, sum_by_push}
@@ -128,19 +128,25 @@ sum_by-times {X} f k (x ∷ xs) =
     ∙ apart
     ∙ ap (λ (n : ℕ). n * k) (sym (sum_by-cons f x xs))
 
-abbrev tally_from : ℕ → ℕ → ℕ → ℕ → Option ℤ → Option ℤ → RegionTally
-tally_from some none over under low high = record { cells = some; empty = none; fill = over; cut = under; lowest = low; highest = high }
+abbrev tally_from : ℕ → ℕ → ℕ → ℕ → ℕ → Option ℤ → Option ℤ → RegionTally
+tally_from some more none over under low high = record { cells = some; bridged = more; empty = none; fill = over; cut = under; lowest = low; highest = high }
 
 -- the tally where a cell covers that ground
-pub tally_is : (side base : ℤ) (cells : List (Option ℤ)) (s : Sums) (ground : ℕ) → s ≡ sums_over base cells → ground ≡ square side
-    → tally_from s.cells s.empty (s.above * ground) (s.below * ground) s.lowest s.highest ≡ tally_over side base cells
-tally_is side base cells s ground e g =
+pub tally_is : (side base : ℤ) (cells without : List (Option ℤ)) (s : Sums) (more measured ground : ℕ) → s ≡ sums_over base cells
+    → more ≡ s.cells - measured → measured ≡ count_by is_some without → ground ≡ square side
+    → tally_from s.cells more s.empty (s.above * ground) (s.below * ground) s.lowest s.highest ≡ tally_over side base cells without
+tally_is side base cells without s more measured ground e b m g =
     let hs = heights_in cells in
-    ap (λ (t : Sums). tally_from t.cells t.empty (t.above * ground) (t.below * ground) t.lowest t.highest) e
-    ∙ ap (λ (n : ℕ). tally_from (count_by is_some cells) (count_by is_none cells) (sum_by (above base) hs * n) (sum_by (below base) hs * n) (least hs) (greatest hs)) g
-    ∙ ap (λ (n : ℕ). tally_from (count_by is_some cells) (count_by is_none cells) n (sum_by (below base) hs * square side) (least hs) (greatest hs))
+    let some = count_by is_some cells in
+    let none = count_by is_none cells in
+    let bridged : more ≡ some - count_by is_some without =
+    b ∙ ap (λ (t : Sums). t.cells - measured) e ∙ ap (λ (n : ℕ). some - n) m in
+    ap (λ (t : Sums). tally_from t.cells more t.empty (t.above * ground) (t.below * ground) t.lowest t.highest) e
+    ∙ ap (λ (n : ℕ). tally_from some n none (sum_by (above base) hs * ground) (sum_by (below base) hs * ground) (least hs) (greatest hs)) bridged
+    ∙ ap (λ (n : ℕ). tally_from some (some - count_by is_some without) none (sum_by (above base) hs * n) (sum_by (below base) hs * n) (least hs) (greatest hs)) g
+    ∙ ap (λ (n : ℕ). tally_from some (some - count_by is_some without) none n (sum_by (below base) hs * square side) (least hs) (greatest hs))
     (sym (sum_by-times (above base) (square side) hs))
-    ∙ ap (λ (n : ℕ). tally_from (count_by is_some cells) (count_by is_none cells) (sum_by (λ h. above base h * square side) hs) n (least hs) (greatest hs))
+    ∙ ap (λ (n : ℕ). tally_from some (some - count_by is_some without) none (sum_by (λ h. above base h * square side) hs) n (least hs) (greatest hs))
     (sym (sum_by-times (below base) (square side) hs))
 
 -- the volume of the most and largest cells fits 128 bits

@@ -1,12 +1,12 @@
 -- Fields that need no quotes, and rows of them.
-use Rattle.std.proofs.Common.{◌≡◌, ℕ, suc, ◌^◌, ◌<◌, ◌≤◌, ◌++◌, Bool, true, false, ◌==◌, ◌&&◌, ◌||◌, List, [], ◌∷◌, ℤ, pos, negsuc, neg_ℤ, ◌≤ℤ◌, refl, sym, ap, ◌∙◌, arith, append_assoc, if◌then◌else◌, length, nat_le, Result, Ok, Err, OnOk, Fits, codes}
+use Rattle.std.proofs.Common.{◌≡◌, ℕ, suc, ◌^◌, ◌<◌, ◌≤◌, ◌++◌, Bool, true, false, ◌==◌, ◌&&◌, ◌||◌, List, [], ◌∷◌, ℤ, pos, negsuc, neg_ℤ, ◌≤ℤ◌, refl, sym, ap, ◌∙◌, arith, append_assoc, append-nil, if◌then◌else◌, length, nat_le, Result, Ok, Err, OnOk, Fits, codes}
 use Rattle.std.specs.Prelude.{decimal}
 use Rattle.std.specs.Char.{is_ascii_alphanumeric}
 use Rattle.std.specs.Fmt.{signed_decimal}
 use Rattle.std.specs.Int.{IsInRange, is_in_range}
 use Rattle.std.specs.List.{list_all, join_with_byte}
 use Rattle.std.specs.Str.Parse.{AllDigits}
-use Rattle.std.proofs.lemmas.Bool.{and_from, and_parts, eqb-true, le-leb, or_from, or_left}
+use Rattle.std.proofs.lemmas.Bool.{and_from, and_parts, eqb-true, false_from_ne_true, le-leb, or_from, or_left}
 use Rattle.std.proofs.Math.Facts.{Fits-lt-pow}
 use mir.Syntax.{w128}
 use Rattle.std.proofs.lemmas.Fmt.{decimal_is_IsNumeral_wide}
@@ -15,7 +15,9 @@ use Rattle.std.proofs.lemmas.Str.Parse.{digit_from_value}
 use Rattle.csv.specs.Writing.{default_writer, field_text, fields_text, is_blank, needs_byte, needs_quotes, next_sep, quoted, row_text, tail_text}
 use Rattle.sgm_report.specs.Table.{fields_line, head_line}
 use Rattle.sgm_report.specs.Areas.{IsRegionName, is_name_byte}
-use Rattle.sgm_report.specs.Writers.{IsPlain, next_field}
+use Rattle.sgm_report.specs.declared.table.Columns.{Columns}
+use Rattle.sgm_report.specs.declared.table.Columns.TheVariants.{Plain, Bridged}
+use Rattle.sgm_report.specs.Writers.{IsPlain, later_fields, next_field}
 
 other_byte : (b n : ℕ) (t : Bool) → (b == n) ≡ t → is_name_byte b ≡ true → is_name_byte n ≡ false → (b == n) ≡ false
 other_byte b n false e p q = e
@@ -51,26 +53,39 @@ pub next_is : (count : ℕ) (field : List ℕ) → IsPlain field → next_sep de
 next_is count field e =
     ap (λ (t : List ℕ). next_sep default_writer count ++ t) (field_is field e) ∙ by_place (count == 0) field
 
--- and at a row's end: no row of seven fields gets quotes
-pub end_is : (wrote : Bool) → tail_text default_writer wrote 7 ≡ 10 ∷ []
-end_is true = refl
-end_is false = refl
+other_count : (count few : ℕ) → few < count → (count == few) ≡ false
+other_count count few more = false_from_ne_true (count == few) (λ e. absurd (omega (arith, more, eqb-true count few e)))
+
+-- and at a row's end: no row of two fields or more gets quotes
+pub end_is : (wrote : Bool) (count : ℕ) → 2 ≤ count → tail_text default_writer wrote count ≡ 10 ∷ []
+end_is true count some = refl
+end_is false count some =
+    ap (λ (blank : Bool). (if blank then 34 ∷ 34 ∷ [] else []) ++ 10 ∷ [])
+    (or_from (count == 0) (count == 1) (other_count count 0 (omega (arith, some))) (other_count count 1 (omega (arith, some))))
 
 -- the names of the columns
-abbrev pub head_fields : List (List ℕ)
-head_fields = codes "region" ∷ codes "cells" ∷ codes "empty" ∷ codes "fill" ∷ codes "cut" ∷ codes "lowest" ∷ codes "highest" ∷ []
+abbrev pub head_fields : Columns → List (List ℕ)
+head_fields Plain = codes "region" ∷ codes "cells" ∷ codes "empty" ∷ codes "fill" ∷ codes "cut" ∷ codes "lowest" ∷ codes "highest" ∷ []
+head_fields Bridged =
+    codes "region" ∷ codes "cells" ∷ codes "bridged" ∷ codes "empty" ∷ codes "fill" ∷ codes "cut" ∷ codes "lowest" ∷ codes "highest" ∷ []
 
-pub head_is : row_text default_writer head_fields ≡ head_line
+pub head_is : (columns : Columns) → row_text default_writer (head_fields columns) ≡ head_line columns
 unfolding fields_text is_blank
-head_is = refl
+head_is Plain = refl
+head_is Bridged = refl
 
--- one field that was written after others
-pub next_written : (count n : ℕ) (sofar new field text : List ℕ) → new ≡ sofar ++ next_field count field → count ≡ n → field ≡ text → new ≡ sofar ++ next_field n text
-next_written count n sofar new field text e p q =
-    e ∙ ap (λ (k : ℕ). sofar ++ next_field k field) p ∙ ap (λ (t : List ℕ). sofar ++ next_field n t) q
+-- a field behind others has a comma before it
+later_field : (count : ℕ) (field : List ℕ) → 1 ≤ count → next_field count field ≡ 44 ∷ field
+later_field count field some = ap (λ (first : Bool). if first then field else 44 ∷ field) (other_count count 0 some)
 
--- the fields after the first, each after a comma, and the line's end
-abbrev rest_text : List (List ℕ) → List ℕ
+-- one field, written behind others
+pub one_later : (count : ℕ) (sofar new field text : List ℕ) → new ≡ sofar ++ next_field count field → 1 ≤ count → field ≡ text
+    → new ≡ sofar ++ later_fields (text ∷ [])
+one_later count sofar new field text e some same =
+    e ∙ ap (λ (t : List ℕ). sofar ++ t) (later_field count field some) ∙ ap (λ (t : List ℕ). sofar ++ 44 ∷ t) (same ∙ sym (append-nil text))
+
+-- the fields after some, each after a comma, and the line's end
+abbrev pub rest_text : List (List ℕ) → List ℕ
 rest_text [] = 10 ∷ []
 rest_text (field ∷ fields) = 44 ∷ (field ++ rest_text fields)
 
@@ -79,22 +94,31 @@ line_is field [] = refl
 line_is field (next ∷ fields) =
     ap (λ (t : List ℕ). field ++ 44 ∷ t) (line_is next fields) ∙ sym (append_assoc field (44 ∷ join_with_byte 44 (next ∷ fields)) (10 ∷ []))
 
-field_before : (sofar new piece rest row : List ℕ) → new ≡ sofar ++ piece → row ≡ new ++ rest → row ≡ sofar ++ (piece ++ rest)
-field_before sofar new piece rest row p q = q ∙ ap (λ (t : List ℕ). t ++ rest) p ∙ append_assoc sofar piece rest
+rest_more : (more fields : List (List ℕ)) → later_fields more ++ rest_text fields ≡ rest_text (more ++ fields)
+rest_more [] fields = refl
+rest_more (field ∷ more) fields =
+    append_assoc (44 ∷ field) (later_fields more) (rest_text fields) ∙ ap (λ (t : List ℕ). 44 ∷ (field ++ t)) (rest_more more fields)
 
--- seven fields and a row's end
-pub row_written : (before a b c d e f g t0 t1 t2 t3 t4 t5 t6 row : List ℕ) → t0 ≡ before ++ a → t1 ≡ t0 ++ 44 ∷ b → t2 ≡ t1 ++ 44 ∷ c → t3 ≡ t2 ++ 44 ∷ d
-    → t4 ≡ t3 ++ 44 ∷ e → t5 ≡ t4 ++ 44 ∷ f → t6 ≡ t5 ++ 44 ∷ g → row ≡ t6 ++ 10 ∷ []
-    → row ≡ before ++ fields_line (a ∷ b ∷ c ∷ d ∷ e ∷ f ∷ g ∷ [])
-row_written before a b c d e f g t0 t1 t2 t3 t4 t5 t6 row p0 p1 p2 p3 p4 p5 p6 p7 =
-    let r6 = field_before t5 t6 (44 ∷ g) (rest_text []) row p6 p7 in
-    let r5 = field_before t4 t5 (44 ∷ f) (rest_text (g ∷ [])) row p5 r6 in
-    let r4 = field_before t3 t4 (44 ∷ e) (rest_text (f ∷ g ∷ [])) row p4 r5 in
-    let r3 = field_before t2 t3 (44 ∷ d) (rest_text (e ∷ f ∷ g ∷ [])) row p3 r4 in
-    let r2 = field_before t1 t2 (44 ∷ c) (rest_text (d ∷ e ∷ f ∷ g ∷ [])) row p2 r3 in
-    let r1 = field_before t0 t1 (44 ∷ b) (rest_text (c ∷ d ∷ e ∷ f ∷ g ∷ [])) row p1 r2 in
-    field_before before t0 a (rest_text (b ∷ c ∷ d ∷ e ∷ f ∷ g ∷ [])) row p0 r1
-    ∙ ap (λ (t : List ℕ). before ++ t) (line_is a (b ∷ c ∷ d ∷ e ∷ f ∷ g ∷ []))
+-- a row of which some fields were written before the rest
+pub fields_before : (sofar new row : List ℕ) (more fields : List (List ℕ)) → new ≡ sofar ++ later_fields more → row ≡ new ++ rest_text fields
+    → row ≡ sofar ++ rest_text (more ++ fields)
+fields_before sofar new row more fields e rest =
+    rest ∙ ap (λ (t : List ℕ). t ++ rest_text fields) e ∙ append_assoc sofar (later_fields more) (rest_text fields)
+    ∙ ap (λ (t : List ℕ). sofar ++ t) (rest_more more fields)
+
+-- one of which one field was
+pub field_before : (count : ℕ) (sofar new row field text : List ℕ) (fields : List (List ℕ)) → new ≡ sofar ++ next_field count field → 1 ≤ count
+    → field ≡ text → row ≡ new ++ rest_text fields → row ≡ sofar ++ rest_text (text ∷ fields)
+field_before count sofar new row field text fields e some same rest =
+    fields_before sofar new row (text ∷ []) fields (one_later count sofar new field text e some same) rest
+
+-- and the whole row behind its first field
+pub row_behind : (count : ℕ) (before new row field text : List ℕ) (fields : List (List ℕ)) → new ≡ before ++ next_field count field → count ≡ 0
+    → field ≡ text → row ≡ new ++ rest_text fields → row ≡ before ++ fields_line (text ∷ fields)
+row_behind count before new row field text fields e none same rest =
+    rest ∙ ap (λ (t : List ℕ). t ++ rest_text fields)
+    (e ∙ ap (λ (k : ℕ). before ++ next_field k field) none ∙ ap (λ (t : List ℕ). before ++ t) same)
+    ∙ append_assoc before text (rest_text fields) ∙ ap (λ (t : List ℕ). before ++ t) (line_is text fields)
 
 digits_plain : (bytes : List ℕ) → AllDigits 10 bytes → list_all is_name_byte bytes ≡ true
 digits_plain [] d = refl

@@ -1,5 +1,5 @@
 -- What the definitions of a tally imply.
-use Rattle.std.proofs.Common.{◌≡◌, ℕ, suc, ◌+◌, ◌*◌, ◌⊎◌, inl, inr, List, [], ◌∷◌, length, map, ℤ, ◌≤ℤ◌, Option, Some, None, refl, sym, ap, ◌∙◌, arith, length-append}
+use Rattle.std.proofs.Common.{◌≡◌, ℕ, suc, ◌+◌, ◌-◌, ◌*◌, ◌⊎◌, inl, inr, List, [], ◌∷◌, length, map, ℤ, ◌≤ℤ◌, Option, Some, None, refl, sym, ap, ◌∙◌, arith, length-append}
 use Rattle.std.specs.Prelude.{Contains, count_by, sum_by, flat_map, fold, is_some, is_none}
 use Rattle.std.specs.Int.{int_max, int_min}
 use Rattle.std.proofs.lemmas.Int.{fold-int_max_bounds, fold-int_max_reached, fold-int_min_bounds, fold-int_min_reached}
@@ -7,6 +7,7 @@ use Rattle.std.proofs.lemmas.List.{length-map}
 use Rattle.std.proofs.lemmas.List.Elements.{All-cons, Contains-append_right}
 use Rattle.std.proofs.lemmas.List.FromFn.{length-range_with_len}
 use Rattle.std.proofs.lemmas.List.Sums.{sum_by-cons}
+use Rattle.std.proofs.Math.Nat.{zero-sub}
 use Rattle.sgm_grid.specs.Cells.{Cells, height_at}
 use Rattle.sgm_grid.specs.Points.{greatest}
 use Rattle.sgm_report.specs.Areas.{Area}
@@ -30,8 +31,9 @@ rows_length grid area (row ∷ rows) =
     ∙ ap (λ (n : ℕ). area.cols + n) (rows_length grid area rows)
     ∙ sym next
 
-pub cells_counted : (grid : Cells) (area : Area) → (tally_of grid area).cells + (tally_of grid area).empty ≡ area.cols * area.rows
-cells_counted grid area =
+pub cells_counted : (grid measured : Cells) (area : Area)
+    → (tally_of grid measured area).cells + (tally_of grid measured area).empty ≡ area.cols * area.rows
+cells_counted grid measured area =
     let turned : area.rows * area.cols ≡ area.cols * area.rows = omega arith in
     counted_once (region_cells grid area) ∙ rows_length grid area (rows_of area)
     ∙ ap (λ (n : ℕ). n * area.cols) (length-range_with_len area.row area.rows) ∙ turned
@@ -61,9 +63,10 @@ no_heights [] e = refl
 no_heights (None ∷ cells) e = no_heights cells (omega (arith, e, sum_by-cons))
 no_heights (Some h ∷ cells) e = absurd (omega (arith, e, sum_by-cons))
 
-abbrev tally_from : ℕ → ℕ → ℤ → ℤ → List ℤ → RegionTally
-tally_from some none side base hs = record {
+abbrev tally_from : ℕ → ℕ → ℕ → ℤ → ℤ → List ℤ → RegionTally
+tally_from some more none side base hs = record {
   cells = some;
+  bridged = more;
   empty = none;
   fill = sum_by (λ height. above base height * square side) hs;
   cut = sum_by (λ height. below base height * square side) hs;
@@ -71,12 +74,16 @@ tally_from some none side base hs = record {
   highest = greatest hs;
 }
 
-pub empty_tally : (grid : Cells) (area : Area) → (tally_of grid area).cells ≡ 0
-    → tally_of grid area ≡ record { cells = 0; empty = area.cols * area.rows; fill = 0; cut = 0; lowest = None; highest = None }
-empty_tally grid area e =
+pub empty_tally : (grid measured : Cells) (area : Area) → (tally_of grid measured area).cells ≡ 0
+    → tally_of grid measured area
+    ≡ record { cells = 0; bridged = 0; empty = area.cols * area.rows; fill = 0; cut = 0; lowest = None; highest = None }
+empty_tally grid measured area e =
     let cells = region_cells grid area in
+    let without = count_by is_some (region_cells measured area) in
+    let none = count_by is_none cells in
     let side = grid.spec.cell in
-    let all : count_by is_none cells ≡ area.cols * area.rows = omega (arith, cells_counted grid area, e) in
-    ap (λ (hs : List ℤ). tally_from (count_by is_some cells) (count_by is_none cells) side area.base hs) (no_heights cells e)
-    ∙ ap (λ (n : ℕ). tally_from n (count_by is_none cells) side area.base []) e
-    ∙ ap (λ (n : ℕ). tally_from 0 n side area.base []) all
+    let all : none ≡ area.cols * area.rows = omega (arith, cells_counted grid measured area, e) in
+    ap (λ (hs : List ℤ). tally_from (count_by is_some cells) (count_by is_some cells - without) none side area.base hs) (no_heights cells e)
+    ∙ ap (λ (n : ℕ). tally_from n (n - without) none side area.base []) e
+    ∙ ap (λ (n : ℕ). tally_from 0 n none side area.base []) (zero-sub without)
+    ∙ ap (λ (n : ℕ). tally_from 0 0 n side area.base []) all

@@ -1,5 +1,5 @@
 -- What is counted and added up over the cells of a region.
-use Rattle.std.specs.Prelude.{◌≡◌, ℕ, ◌*◌, ℤ, pos, ◌-ℤ◌, ◌≤ℤ◌, All, Contains, unsigned_abs, List, [], ◌∷◌, fold, map, flat_map, filter_map, count_by, sum_by, is_some, is_none, Option, Some, None}
+use Rattle.std.specs.Prelude.{◌≡◌, ℕ, ◌-◌, ◌*◌, ℤ, pos, ◌-ℤ◌, ◌≤ℤ◌, All, Contains, unsigned_abs, List, [], ◌∷◌, fold, map, flat_map, filter_map, count_by, sum_by, is_some, is_none, Option, Some, None}
 use Rattle.std.specs.Int.{int_max, int_min}
 use Rattle.std.specs.List.{range_with_len}
 use Rattle.sgm_grid.specs.Cells.{Cells, height_at}
@@ -40,10 +40,12 @@ abbrev pub least : List ℤ → Option ℤ
 least [] = None
 least (h ∷ more) = Some (fold int_min h more)
 
--- the tally of some cells of that side, over that base
-abbrev pub tally_over : ℤ → ℤ → List (Option ℤ) → RegionTally
-tally_over side base cells = record {
+-- the tally of some cells of that side, over that base, beside the same cells without bridges: as
+-- many are bridged as have a height beyond those that have one without
+abbrev pub tally_over : ℤ → ℤ → List (Option ℤ) → List (Option ℤ) → RegionTally
+tally_over side base cells measured = record {
   cells = count_by is_some cells;
+  bridged = count_by is_some cells - count_by is_some measured;
   empty = count_by is_none cells;
   fill = sum_by (λ height. above base height * square side) (heights_in cells);
   cut = sum_by (λ height. below base height * square side) (heights_in cells);
@@ -51,9 +53,10 @@ tally_over side base cells = record {
   highest = greatest (heights_in cells);
 }
 
--- the tally of a region
-abbrev pub tally_of : Cells → Area → RegionTally
-tally_of grid area = tally_over grid.spec.cell area.base (region_cells grid area)
+-- the tally of a region of a grid, beside the same grid without bridges
+abbrev pub tally_of : Cells → Cells → Area → RegionTally
+tally_of grid measured area =
+    tally_over grid.spec.cell area.base (region_cells grid area) (region_cells measured area)
 
 -- the least of some heights, and none exactly where there are none
 abbrev pub IsLowest : List ℤ → Option ℤ → Type 0

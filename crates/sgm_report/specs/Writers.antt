@@ -1,5 +1,5 @@
 -- What is known of the csv writer between two rows.
-use Rattle.std.specs.Prelude.{◌≡◌, ℕ, ◌==◌, false, List, ◌++◌, ◌∷◌, Vec, IsTrue, if◌then◌else◌}
+use Rattle.std.specs.Prelude.{◌≡◌, ℕ, ◌==◌, false, List, ◌++◌, ◌∷◌, flat_map, Vec, IsTrue, if◌then◌else◌}
 use Rattle.std.specs.List.{list_all}
 use Rattle.std.specs.declared.alloc.Global.{Global}
 use Rattle.csv.specs.Writing.{default_writer, fields_written, has_written, writer_pending, writer_setup, writer_under}
@@ -23,3 +23,7 @@ IsPlain field = IsTrue (list_all is_name_byte field)
 -- what a field adds to a row that has that many: a comma, but at the front, and the field
 abbrev pub next_field : ℕ → List ℕ → List ℕ
 next_field count field = if count == 0 then field else 44 ∷ field
+
+-- what fields add to a row that has some: a comma before each
+abbrev pub later_fields : List (List ℕ) → List ℕ
+later_fields fields = flat_map (λ field. 44 ∷ field) fields

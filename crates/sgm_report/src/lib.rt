@@ -7,5 +7,5 @@ mod table;
 mod volumes;
 
 pub use region::{MAX_NAME, Region, is_region_name};
-pub use table::write_report;
+pub use table::{Columns, write_report};
 pub use volumes::{RegionTally, tally};

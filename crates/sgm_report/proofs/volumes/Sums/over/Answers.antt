@@ -16,6 +16,6 @@ overflow_mul-result-2 c =
     volume_fits _ c.args.self.below side (omega (arith, c.requires.room.heights_below))
 
 pub returns : goal.returns
-returns c = λ base cells e.
+returns c = λ base cells without e m.
     let same : to_z w64 (of_z w64 c.args.side) ≡ c.args.side = omega (arith, ints, c.requires.side.0, c.requires.side.1) in
-    tally_is c.args.side base cells c.args.self _ e (ap (λ (z : ℤ). square z) same)
+    tally_is c.args.side base cells without c.args.self _ c.args.measured _ e c.saturating_sub.ensures m (ap (λ (z : ℤ). square z) same)

@@ -1,7 +1,7 @@
 use Rattle.std.proofs.Common.{◌≡◌, ◌+◌, ◌-◌, ◌*◌}
 use Rattle.sgm_report.specs.Sums.{HasRoom, sums_over}
 use Rattle.sgm_report.proofs.Cells.{first_rows}
-use Rattle.sgm_report.proofs.volumes.tally.Given as goal
+use Rattle.sgm_report.proofs.volumes.sums_of.Given as goal
 
 abbrev pub invariant-loop-row : goal.invariant-loop-row
 invariant-loop-row l = record {
