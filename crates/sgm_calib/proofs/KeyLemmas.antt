@@ -1,5 +1,5 @@
 -- The checks of an object's keys, and of an object of the value itself.
-use Rattle.std.proofs.Common.{◌≡◌, ℕ, ◌+◌, ◌≤◌, ℤ, pos, negsuc, nat_abs, ◌-ℤ◌, ◌≤ℤ◌, arith, Bool, true, false, if◌then◌else◌, List, ◌∷◌, Option, Some, None, Ok, Err, option_map, Bor, refl, ap, sym, ◌∙◌}
+use Rattle.std.proofs.Common.{◌≡◌, ℕ, ◌+◌, ◌≤◌, ℤ, pos, negsuc, nat_abs, ◌-ℤ◌, ◌≤ℤ◌, arith, Bool, true, false, if◌then◌else◌, List, [], ◌∷◌, ◌++◌, Option, Some, None, Ok, Err, option_map, Bor, refl, ap, sym, ◌∙◌}
 use Rattle.std.proofs.lemmas.Int.{ints}
 use Rattle.std.specs.Option.{option_or}
 use Rattle.std.specs.Result.{result_err}
@@ -91,3 +91,14 @@ lines_inside (pos a) (pos b) lines low some high =
     (first_of (omega (arith, ints), grind (arith, ints)), first_of (omega (arith, ints), grind (arith, ints)))
 lines_inside (pos a) (negsuc b) lines low some high = absurd (first_of (omega (arith, ints), grind (arith, ints)))
 lines_inside (negsuc a) count lines low some high = absurd (first_of (omega (arith, ints), grind (arith, ints)))
+
+or-joined : (a b c : Option CalibFault) → option_or a (option_or b c) ≡ option_or (option_or a b) c
+or-joined None b c = refl
+or-joined (Some fault) b c = refl
+
+-- keys behind others have the first fault where those have none, and else it is that of those
+pub fault-behind : (place : Place) (d : Data) (rows later : List Row) → keys_fault place d (rows ++ later) ≡ option_or (keys_fault place d rows) (keys_fault place d later)
+fault-behind place d [] later = refl
+fault-behind place d (row ∷ rows) later =
+    ap (option_or (key_fault place d row)) (fault-behind place d rows later)
+    ∙ or-joined (key_fault place d row) (keys_fault place d rows) (keys_fault place d later)

@@ -1,5 +1,6 @@
 pub mod Answers
 pub mod Firsts
+pub mod Gridding
 pub mod Kept
 pub mod KeyLemmas
 pub mod ListLemmas

@@ -60,7 +60,7 @@ from_to place d row right =
     let ends = and_parts _ _ range.0 in
     (at_most _ _ ends.0, at_most _ _ ends.1)
 
-both-right : (a b : Option CalibFault) → option_or a b ≡ None → (a ≡ None) × (b ≡ None)
+pub both-right : (a b : Option CalibFault) → option_or a b ≡ None → (a ≡ None) × (b ≡ None)
 both-right None b right = (refl, right)
 both-right (Some fault) b right = absurd (cc)
 
@@ -120,7 +120,7 @@ pub record Gridded (d : Data) : Type 0 where
   pub cols : IsFromTo (pos 1) (pos MAX_GRID_LINES) (number_of table.grid_cols d)
   pub rows : IsFromTo (pos 1) (pos MAX_GRID_LINES) (number_of table.grid_rows d)
 
-gridded : (d : Data) → keys_fault PLAIN d table.grid_keys ≡ None → Gridded d
+gridded : (d : Data) → keys_fault PLAIN d table.place_keys ≡ None → Gridded d
 gridded d right =
     let west = parted PLAIN d table.west (table.south ∷ table.cell ∷ table.grid_cols ∷ table.grid_rows ∷ []) right in
     let south = parted PLAIN d table.south (table.cell ∷ table.grid_cols ∷ table.grid_rows ∷ []) west.1 in
@@ -135,7 +135,7 @@ gridded d right =
       rows = from_to PLAIN d table.grid_rows rows.0;
     }
 
-pub grid_kept : (d : Data) → keys_fault PLAIN d table.grid_keys ≡ None → IsGridSpec (grid_of d)
+pub grid_kept : (d : Data) → keys_fault PLAIN d table.place_keys ≡ None → IsGridSpec (grid_of d)
 unfolding grid_of
 grid_kept d right =
     let g = gridded d right in
@@ -147,7 +147,7 @@ grid_kept d right =
       rows_in_range = count_from_to (number_of table.grid_rows d) 1 MAX_GRID_LINES g.rows;
     }
 
-pub grid_lines : (d : Data) → keys_fault PLAIN d table.grid_keys ≡ None
+pub grid_lines : (d : Data) → keys_fault PLAIN d table.place_keys ≡ None
     → IsCount (number_of table.grid_cols d) × IsCount (number_of table.grid_rows d)
 grid_lines d right =
     let g = gridded d right in

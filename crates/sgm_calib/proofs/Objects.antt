@@ -1,5 +1,5 @@
 -- The keys that each object without objects is given are those that name it as their object and that its sort is given.
-use Rattle.std.proofs.Common.{◌≡◌, [], ◌∷◌, refl}
+use Rattle.std.proofs.Common.{◌≡◌, [], ◌∷◌, ◌++◌, refl}
 use Rattle.sgm_calib.specs.declared.sort.Sort.{Sort}
 use Rattle.sgm_calib.specs.Table as table
 use Rattle.sgm_calib.specs.Table.{keys, given_rows, rows_in}
@@ -20,6 +20,6 @@ pub rows_in-camera : (sort : Sort) → rows_in table.camera sort ≡ table.camer
 unfolding rows_in keys
 rows_in-camera sort = refl
 
-pub rows_in-grid : (sort : Sort) → rows_in table.grid sort ≡ table.grid_keys
+pub rows_in-grid : (sort : Sort) → rows_in table.grid sort ≡ table.place_keys ++ given_rows sort table.gridding_keys
 unfolding rows_in keys
 rows_in-grid sort = refl

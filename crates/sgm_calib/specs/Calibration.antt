@@ -12,7 +12,12 @@ use Rattle.sgm_rectify.specs.Warps.{IsWarp}
 use Rattle.sgm_height.specs.declared.camera.Camera.{Camera}
 use Rattle.sgm_height.specs.Camera.{IsCamera}
 use Rattle.sgm_grid.specs.declared.grid_spec.GridSpec.{GridSpec}
+use Rattle.sgm_grid.specs.declared.keep.Gridding.{Gridding}
+use Rattle.sgm_grid.specs.declared.keep.Keep.TheVariants.{Highest}
 use Rattle.sgm_grid.specs.Cells.{IsGridSpec}
+use Rattle.sgm_grid.specs.Keeping.{IsGridding}
+use Rattle.sgm_report.specs.declared.table.Columns.{Columns}
+use Rattle.sgm_report.specs.declared.table.Columns.TheVariants as columns
 use Rattle.sgm_report.specs.Areas.{Area, IsArea}
 
 pub record Calibration : Type 0 where
@@ -25,26 +30,30 @@ pub record Calibration : Type 0 where
   pub right : Warp
   pub camera : Option Camera
   pub grid : Option GridSpec
+  pub gridding : Gridding
+  pub columns : Columns
   pub regions : Option (List Area)
 
-abbrev pub settings : Disparities → Bool → WindowSides → CostRule → Penalties → Warp → Warp → Option Camera → Option GridSpec → Option (List Area) → Calibration
-settings span fine window rule penalties left right camera grid regions = record {
-  span = span;
-  fine = fine;
-  window = window;
-  rule = rule;
-  penalties = penalties;
-  left = left;
-  right = right;
-  camera = camera;
-  grid = grid;
-  regions = regions;
-}
+-- cells that keep the highest of their points, and no bridge
+abbrev pub plain_gridding : Gridding
+plain_gridding = record { keep = Highest; bridge = 0 }
 
 -- the settings for the word `-`
 abbrev pub plain : Calibration
-plain =
-    settings (record { first = pos 0; count = 64 }) false (record { width = 9; height = 7 }) Plain (record { p1 = 10; p2 = 120; adaptive = false }) Identity Identity None None None
+plain = record {
+  span = record { first = pos 0; count = 64 };
+  fine = false;
+  window = record { width = 9; height = 7 };
+  rule = Plain;
+  penalties = record { p1 = 10; p2 = 120; adaptive = false };
+  left = Identity;
+  right = Identity;
+  camera = None;
+  grid = None;
+  gridding = plain_gridding;
+  columns = columns.Plain;
+  regions = None;
+}
 
 -- the ranges of warps, camera and grid; a camera where there is a grid; a grid where there are regions, and each of them in it
 pub record IsCalibration (calib : Calibration) : Type 0 where
@@ -52,6 +61,7 @@ pub record IsCalibration (calib : Calibration) : Type 0 where
   pub right_kept : IsWarp calib.right
   pub camera_kept : IfSome calib.camera IsCamera
   pub grid_kept : IfSome calib.grid IsGridSpec
+  pub gridding_kept : IsGridding calib.gridding
   pub grid_has_camera : IfSome calib.grid (λ _. IsTrue (is_some calib.camera))
   pub regions_have_grid : IfSome calib.regions (λ _. IsTrue (is_some calib.grid))
   pub regions_inside : IfSome calib.grid (λ spec. IfSome calib.regions (λ areas. All (IsArea spec) areas))

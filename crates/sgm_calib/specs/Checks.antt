@@ -13,8 +13,9 @@ use Rattle.sgm_calib.specs.declared.keys.CalibError.{CalibError}
 use Rattle.sgm_calib.specs.declared.keys.CalibError.TheVariants.{Fault, NoMemory}
 use Rattle.sgm_calib.specs.declared.place.Place.{Place}
 use Rattle.sgm_calib.specs.declared.sort.Sort.{Sort}
+use Rattle.sgm_calib.specs.Keeps.{is_keep}
 use Rattle.sgm_calib.specs.Kinds.{is_kind}
-use Rattle.sgm_calib.specs.Rows.{Row, Form, object as object_form, warps, kind, name as name_form, truth, regions, matrix, nodes, key_at, whole, count_of, is_in_range}
+use Rattle.sgm_calib.specs.Rows.{Row, Form, object as object_form, warps, kind, name as name_form, keep as keep_form, truth, regions, matrix, nodes, key_at, whole, count_of, is_in_range}
 use Rattle.sgm_report.specs.Areas.{is_region_name}
 use Rattle.sgm_calib.specs.Table.{is_known, mesh_cols, mesh_rows}
 
@@ -129,6 +130,7 @@ key_fault_of warps place holder row = None
 key_fault_of regions place holder row = None
 key_fault_of kind place holder row = result_err (text_in is_kind place holder row)
 key_fault_of name_form place holder row = result_err (text_in is_region_name place holder row)
+key_fault_of keep_form place holder row = result_err (text_in is_keep place holder row)
 key_fault_of truth place holder row = result_err (typed_in as_bool place holder row)
 key_fault_of (matrix low high) place holder row = numbers_fault place holder row 9
 key_fault_of (nodes low high) place holder row = numbers_fault place holder row (node_numbers holder)

@@ -1,6 +1,6 @@
 -- What the key table says of a value: the calibration, or the first fault. The order is that of the table's rows;
 -- `version` alone comes before the unknown names of the value itself.
-use Rattle.std.specs.Prelude.{Bool, if◌then◌else◌, [], ◌∷◌, map, Option, Some, None, option_map, Result, Ok, Err}
+use Rattle.std.specs.Prelude.{Bool, if◌then◌else◌, [], ◌∷◌, map, Option, Some, None, option_map, unwrap_or, Result, Ok, Err}
 use Rattle.std.specs.Option.{option_or}
 use Rattle.std.specs.Result.{result_err}
 use Rattle.serde_json.specs.Data.{Data}
@@ -9,16 +9,22 @@ use Rattle.sgm_census.specs.declared.rule.CostRule.{CostRule}
 use Rattle.sgm_census.specs.declared.rule.CostRule.TheVariants.{Plain, Smoothed}
 use Rattle.sgm_height.specs.declared.camera.Camera.{Camera}
 use Rattle.sgm_grid.specs.declared.grid_spec.GridSpec.{GridSpec}
+use Rattle.sgm_grid.specs.declared.keep.Gridding.{Gridding}
+use Rattle.sgm_grid.specs.declared.keep.Keep.TheVariants.{Highest}
+use Rattle.sgm_report.specs.declared.table.Columns.{Columns}
+use Rattle.sgm_report.specs.declared.table.Columns.TheVariants.{Bridged}
+use Rattle.sgm_report.specs.declared.table.Columns.TheVariants as columns
 use Rattle.sgm_calib.specs.declared.keys.CalibFault.{CalibFault}
 use Rattle.sgm_calib.specs.declared.keys.CalibFault.TheVariants.{Version, Missing}
 use Rattle.sgm_calib.specs.declared.place.TheConstants.{PLAIN}
 use Rattle.sgm_calib.specs.declared.sort.Sort.{Sort}
 use Rattle.sgm_calib.specs.declared.sort.Sort.TheVariants as sort
-use Rattle.sgm_calib.specs.Calibration.{Calibration}
+use Rattle.sgm_calib.specs.Calibration.{Calibration, plain_gridding}
+use Rattle.sgm_calib.specs.Keeps.{keep_named}
 use Rattle.sgm_calib.specs.Table as table
 use Rattle.sgm_calib.specs.Table.{rows_in, span_of, window_of, penalties_of, camera_of, grid_of}
 use Rattle.sgm_calib.specs.Rows.{Row, Form, object, warps, regions, key_at, whole, count_of, truth_of, is_in_range, is_required, is_since}
-use Rattle.sgm_calib.specs.Checks.{first_of, typed_in, or_out_of_range, object_fault, type_fault, keys_fault, value_of}
+use Rattle.sgm_calib.specs.Checks.{first_of, typed_in, or_out_of_range, object_fault, type_fault, keys_fault, value_of, text_of}
 use Rattle.sgm_calib.specs.WarpKeys.{warps_fault, warp_in}
 use Rattle.sgm_calib.specs.RegionKeys.{regions_fault, regions_in}
 
@@ -33,6 +39,10 @@ sort_of top = sort.Version (count_of table.version top)
 -- the costs of a value go by its version
 unfoldable pub rule_in : Data → CostRule
 rule_in top = if is_since 3 (sort_of top) then Smoothed else Plain
+
+-- the columns of its table too
+unfoldable pub columns_in : Data → Columns
+columns_in top = if is_since 3 (sort_of top) then Bridged else columns.Plain
 
 abbrev pub itself_fault_of : Row → Sort → Bool → Option Data → Option CalibFault
 itself_fault_of row sort required None = if required then Some (Missing (key_at PLAIN row)) else None
@@ -83,6 +93,14 @@ camera_in top = option_map camera_of (get table.camera.name top)
 unfoldable pub grid_in : Data → Option GridSpec
 grid_in top = option_map grid_of (get table.grid.name top)
 
+-- how an object of a grid says that points become heights
+abbrev pub gridding_of : Data → Gridding
+gridding_of d = record { keep = unwrap_or (keep_named (text_of table.keep d)) Highest; bridge = count_of table.bridge d }
+
+-- how those of a value do, which goes by its version
+unfoldable pub gridding_in : Data → Gridding
+gridding_in top = if is_since 3 (sort_of top) then gridding_of (value_of table.grid top) else plain_gridding
+
 abbrev pub calibration_in : Data → Calibration
 calibration_in top = record {
   span = span_of (value_of table.disparities top);
@@ -94,6 +112,8 @@ calibration_in top = record {
   right = warp_in table.right top;
   camera = camera_in top;
   grid = grid_in top;
+  gridding = gridding_in top;
+  columns = columns_in top;
   regions = regions_in top;
 }
 

@@ -1,6 +1,7 @@
 pub mod Calibration
 pub mod Checks
 pub mod Judge
+pub mod Keeps
 pub mod Kinds
 pub mod Numbers
 pub mod Paths

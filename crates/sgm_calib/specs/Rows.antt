@@ -16,7 +16,7 @@ use Rattle.sgm_calib.specs.declared.table.Presence.{Presence as CodePresence}
 use Rattle.sgm_calib.specs.declared.table.Presence.TheVariants as code_presence
 
 -- What the value of a key is, and which numbers are in range: an object; the object of the warps; the name of a kind of warp,
--- or of a region; a truth value; one of which false alone is in range; the list of the regions; a whole number, which is
+-- or of a region, or what a cell keeps; a truth value; one of which false alone is in range; the list of the regions; a whole number, which is
 -- between two, odd and between two, from that of another key of the object on, a column or a row of the grid, or so many of
 -- them as are left from another key's on; nine numbers, or two for each node of a mesh, each between two.
 pub data Form : Type 0 where
@@ -24,6 +24,7 @@ pub data Form : Type 0 where
   warps : Form
   kind : Form
   name : Form
+  keep : Form
   truth : Form
   regions : Form
   between : ℤ → ℤ → Form
@@ -60,6 +61,7 @@ form_meant code.Object = object
 form_meant code.Warps = warps
 form_meant code.Kind = kind
 form_meant code.Name = name
+form_meant code.Keep = keep
 form_meant code.Truth = truth
 form_meant code.Regions = regions
 form_meant (code.Between low high) = between low high

@@ -10,11 +10,11 @@ use Rattle.sgm_census.specs.Windows.{WindowSides}
 use Rattle.sgm_energy.specs.Pens.{Penalties}
 use Rattle.sgm_calib.specs.declared.sort.Sort.{Sort}
 use Rattle.sgm_grid.specs.declared.grid_spec.GridSpec.{GridSpec}
-use Rattle.sgm_grid.specs.declared.limits.TheConstants.{MAX_CELL, MAX_HEIGHT, MAX_PLACE}
+use Rattle.sgm_grid.specs.declared.limits.TheConstants.{MAX_BRIDGE, MAX_CELL, MAX_HEIGHT, MAX_PLACE}
 use Rattle.sgm_height.specs.declared.camera.Camera.{Camera}
 use Rattle.sgm_height.specs.declared.limits.TheConstants.{MAX_BASELINE, MAX_DEPTH, MAX_FOCAL, MAX_MOUNT, MAX_OFFSET}
 use Rattle.sgm_rectify.specs.declared.limits.TheConstants.{MAX_ENTRY, MAX_NODE, MAX_NODE_COUNT, MAX_STEP, MIN_ENTRY, MIN_NODE, MIN_NODE_COUNT, MIN_STEP}
-use Rattle.sgm_calib.specs.Rows.{Form, object, warps, kind, name, truth, regions, between, odd, from, column, line, columns_from, lines_from, matrix, nodes, Presence, required, optional, with, of_kind, since, Row, is_given, number_of, count_of, truth_of}
+use Rattle.sgm_calib.specs.Rows.{Form, object, warps, kind, name, keep as keep_form, truth, regions, between, odd, from, column, line, columns_from, lines_from, matrix, nodes, Presence, required, optional, with, of_kind, since, Row, is_given, number_of, count_of, truth_of}
 
 -- the row of a key of the value itself, and of a key of an object
 abbrev pub entry : ℕ → List ℕ → Form → Presence → Row
@@ -152,6 +152,12 @@ grid_cols = key_of grid 40 (codes "cols") (between (pos 1) (pos MAX_GRID_LINES))
 abbrev pub grid_rows : Row
 grid_rows = key_of grid 41 (codes "rows") (between (pos 1) (pos MAX_GRID_LINES))
 
+abbrev pub keep : Row
+keep = given grid 52 (codes "keep") keep_form (since 3)
+
+abbrev pub bridge : Row
+bridge = given grid 53 (codes "bridge") (between (pos 0) (pos MAX_BRIDGE)) (since 3)
+
 abbrev pub region_list : Row
 region_list = entry 42 (codes "regions") regions optional
 
@@ -195,8 +201,14 @@ side_keys = side_kind ∷ side_matrix ∷ mesh_step ∷ mesh_cols ∷ mesh_rows 
 abbrev pub camera_keys : List Row
 camera_keys = focal ∷ baseline ∷ cx ∷ cy ∷ doffs ∷ mount ∷ near ∷ far ∷ []
 
+abbrev pub place_keys : List Row
+place_keys = west ∷ south ∷ cell ∷ grid_cols ∷ grid_rows ∷ []
+
+abbrev pub gridding_keys : List Row
+gridding_keys = keep ∷ bridge ∷ []
+
 abbrev pub grid_keys : List Row
-grid_keys = west ∷ south ∷ cell ∷ grid_cols ∷ grid_rows ∷ []
+grid_keys = place_keys ++ gridding_keys
 
 abbrev pub region_keys : List Row
 region_keys = region_name ∷ region_col ∷ region_row ∷ region_cols ∷ region_rows ∷ region_base ∷ []
@@ -216,9 +228,9 @@ keys =
     ++ (region_list ∷ [])
     ++ (region ∷ region_keys)
 
--- their numbers in that order: from 1 to 49, with 51 behind 5 and 50 behind 11
+-- their numbers in that order: from 1 to 49, with 51 behind 5, 50 behind 11, and 52 and 53 behind 41
 abbrev pub order : List ℕ
-order = range_with_len 1 5 ++ 51 ∷ range_with_len 6 6 ++ 50 ∷ range_with_len 12 38
+order = range_with_len 1 5 ++ 51 ∷ range_with_len 6 6 ++ 50 ∷ range_with_len 12 30 ++ 52 ∷ 53 ∷ range_with_len 42 8
 
 -- those of some keys that an object of that sort is given
 abbrev pub given_rows : Sort → List Row → List Row

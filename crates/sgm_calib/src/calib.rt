@@ -1,15 +1,16 @@
 ghost use Rattle.std.specs.Prelude.{◌≡◌, option_map};
 ghost use Rattle.sgm_rectify.specs.Warps.{IsWarp};
 ghost use Rattle.sgm_energy.specs.Pens.{penalties_of};
+ghost use Rattle.sgm_grid.specs.Keeping.{IsGridding};
 ghost use Rattle.sgm_calib.specs.Calibration.{plain, IsCalibration};
 
 use sgm_base::Span;
 use sgm_census::{CostRule, Window};
 use sgm_energy::Pen;
-use sgm_grid::GridSpec;
+use sgm_grid::{GridSpec, Gridding, Keep};
 use sgm_height::Camera;
 use sgm_rectify::Warp;
-use sgm_report::Region;
+use sgm_report::{Columns, Region};
 use std::marker::Model;
 
 /// The settings of a survey. Warps, camera and grid keep their ranges. There is a camera where there is a
@@ -25,22 +26,47 @@ pub struct Calib {
     pub(crate) right: Warp,
     pub(crate) camera: Option<Camera>,
     pub(crate) grid: Option<GridSpec>,
+    pub(crate) gridding: Gridding,
+    pub(crate) columns: Columns,
     pub(crate) regions: Option<Vec<Region>>,
 }
 
 impl Model for Calib {
     ghost use Rattle.std.specs.Prelude.{option_map};
-    ghost use Rattle.sgm_calib.specs.Calibration.{Calibration, IsCalibration, settings};
+    ghost use Rattle.sgm_calib.specs.Calibration.{Calibration, IsCalibration};
     ghost use Rattle.sgm_energy.specs.Pens.{penalties_of};
 
     ghost Value = { Calibration };
 
-    ghost view = { λ c. settings c.span c.fine c.window c.rule (penalties_of c.pen) c.left c.right c.camera c.grid
-        (option_map (λ v. v.items) c.regions) };
+    ghost view = { λ c. record {
+      span = c.span;
+      fine = c.fine;
+      window = c.window;
+      rule = c.rule;
+      penalties = penalties_of c.pen;
+      left = c.left;
+      right = c.right;
+      camera = c.camera;
+      grid = c.grid;
+      gridding = c.gridding;
+      columns = c.columns;
+      regions = option_map (λ v. v.items) c.regions;
+    } };
 
-    ghost invariant = { λ c. IsCalibration
-        (settings c.span c.fine c.window c.rule (penalties_of c.pen) c.left c.right c.camera c.grid
-        (option_map (λ v. v.items) c.regions)) };
+    ghost invariant = { λ c. IsCalibration (record {
+      span = c.span;
+      fine = c.fine;
+      window = c.window;
+      rule = c.rule;
+      penalties = penalties_of c.pen;
+      left = c.left;
+      right = c.right;
+      camera = c.camera;
+      grid = c.grid;
+      gridding = c.gridding;
+      columns = c.columns;
+      regions = option_map (λ v. v.items) c.regions;
+    }) };
 }
 
 impl Calib {
@@ -69,6 +95,11 @@ impl Calib {
             right: Warp::Identity,
             camera: None,
             grid: None,
+            gridding: Gridding {
+                keep: Keep::Highest,
+                bridge: 0,
+            },
+            columns: Columns::Plain,
             regions: None,
         }
     }
@@ -138,6 +169,21 @@ impl Calib {
         ensures kept { IsCalibration self.now }
     {
         self.grid
+    }
+
+    /// How points become the heights of the grid's cells.
+    pub fn gridding(&self) -> Gridding
+        ensures value { result ≡ self.now.gridding }
+        ensures kept { IsGridding result }
+    {
+        self.gridding
+    }
+
+    /// The columns of the table of regions.
+    pub fn columns(&self) -> Columns
+        ensures { result ≡ self.now.columns }
+    {
+        self.columns
     }
 
     /// The regions of the grid, where volumes are asked for.

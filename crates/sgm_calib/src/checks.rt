@@ -11,7 +11,7 @@ ghost use Rattle.sgm_calib.specs.Table as table;
 ghost use Rattle.sgm_calib.specs.Table.{is_known};
 ghost use Rattle.sgm_calib.specs.Rows.{key_at, whole, whole_at, number_of, IsCount, least, greatest, has_parity, is_in_range, is_required, is_since, is_given, truth_at, meant, form_meant, presence_meant};
 ghost use Rattle.sgm_calib.specs.Checks.{number_in, typed_in, wholes_fault, object_fault, text_of};
-ghost use Rattle.sgm_calib.specs.Judge.{sort_of, rule_in, version_fault, top_fault, itself_fault};
+ghost use Rattle.sgm_calib.specs.Judge.{sort_of, rule_in, columns_in, version_fault, top_fault, itself_fault};
 
 use crate::keys::{CalibFault, Key};
 use crate::place::{PLAIN, Place};
@@ -19,6 +19,7 @@ use crate::sort::Sort;
 use crate::table::{Form, Presence, Row, TOP, VERSION, rows};
 use serde_json::{Map, Value};
 use sgm_census::CostRule;
+use sgm_report::Columns;
 
 /// The key that a row is at a place.
 pub fn key_at(row: &Row, place: Place) -> Key
@@ -194,7 +195,7 @@ pub fn truth_at(object: &Value, name: &str) -> bool
 }
 
 /// Whether an object of that sort goes by that version or a later one.
-fn is_since(first: u64, sort: Sort) -> bool
+pub fn is_since(first: u64, sort: Sort) -> bool
     ensures { result ≡ is_since first sort }
 {
     match sort {
@@ -270,6 +271,18 @@ pub fn rule(top: &Value) -> CostRule
         CostRule::Smoothed
     } else {
         CostRule::Plain
+    }
+}
+
+/// The columns of the table of a value's regions: they go by its version.
+#[tactic(auto, unfolding(crate::specs::Judge::columns_in))]
+pub fn columns(top: &Value) -> Columns
+    ensures { result ≡ columns_in (view top.now) }
+{
+    if is_since(3, sort_of(top)) {
+        Columns::Bridged
+    } else {
+        Columns::Plain
     }
 }
 

@@ -4,6 +4,7 @@
 
 mod calib;
 mod checks;
+mod keep;
 mod keys;
 mod kind;
 pub mod laws;

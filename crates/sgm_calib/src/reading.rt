@@ -9,10 +9,10 @@ ghost use Rattle.sgm_calib.specs.Read.{Reads, ReadsAs, ReadsText};
 ghost use Rattle.sgm_calib.specs.declared.keys.CalibFault.{CalibFault};
 
 use crate::calib::Calib;
-use crate::checks::{check_top, rule};
+use crate::checks::{check_top, columns, rule};
 use crate::keys::{CalibError, CalibFault};
 use crate::regions::regions;
-use crate::sections::{camera, census, disparities, fine, grid, penalties};
+use crate::sections::{camera, census, disparities, fine, grid, gridding, penalties};
 use crate::warps::warps;
 use serde_json::Value;
 use std::alloc::Global;
@@ -40,6 +40,8 @@ fn entries(alloc: Global, top: &Value) -> Result<Calib, CalibError>
         right,
         camera,
         grid,
+        gridding: gridding(top),
+        columns: columns(top),
         regions,
     })
 }

@@ -1,7 +1,7 @@
 //! The objects that stand in a calibration file and hold no other.
 
 ghost use Rattle.std.specs.Prelude.{◌≡◌, [], ◌∷◌, ◌≤ℤ◌, ◌%◌, ◌==◌, pos, unsigned_abs};
-ghost use Rattle.std.specs.Prelude.{IsTrue, IfOk, OnOk, IfErr, IfSome, Some, None, is_some};
+ghost use Rattle.std.specs.Prelude.{IsTrue, IfOk, OnOk, IfErr, IfSome, Some, None, is_some, unwrap_or};
 ghost use Rattle.serde_json.specs.View.{view};
 ghost use Rattle.serde_json.specs.Find.{get};
 ghost use Rattle.sgm_base.specs.declared.limits.TheConstants.{MIN_FIRST, MAX_FIRST, MAX_COUNT};
@@ -9,29 +9,33 @@ ghost use Rattle.sgm_base.specs.declared.limits.TheConstants.{MAX_PENALTY, MIN_W
 ghost use Rattle.sgm_base.specs.declared.limits.TheConstants.{MAX_WINDOW_HEIGHT};
 ghost use Rattle.sgm_height.specs.Camera.{IsCamera};
 ghost use Rattle.sgm_grid.specs.Cells.{IsGridSpec};
+ghost use Rattle.sgm_grid.specs.Keeping.{IsGridding};
+ghost use Rattle.sgm_grid.specs.declared.keep.Keep.TheVariants.{Highest};
 ghost use Rattle.sgm_energy.specs.Pens.{penalties_of as seen};
+ghost use Rattle.sgm_calib.specs.Keeps.{keep_named};
 ghost use Rattle.sgm_calib.specs.Table as table;
 ghost use Rattle.sgm_calib.specs.Rows.{number_of, count_of, truth_of, IsCount, meant, form_meant, presence_meant};
-ghost use Rattle.sgm_calib.specs.Checks.{keys_fault, value_of};
+ghost use Rattle.sgm_calib.specs.Checks.{key_fault, keys_fault, text_of, value_of};
 ghost use Rattle.sgm_calib.specs.Table.{given_rows, rows_in, span_of, window_of, penalties_of, camera_of, grid_of};
-ghost use Rattle.sgm_calib.specs.Judge.{section_fault, camera_in, grid_in};
+ghost use Rattle.sgm_calib.specs.Judge.{section_fault, sort_of, camera_in, grid_in, gridding_in, gridding_of};
 
 use crate::checks::{
-    check_numbers, count_at, is_given, number_at, object_in, odd_or_whole, sort_of, truth,
-    truth_at, whole,
+    check_numbers, count_at, is_given, is_since, key_at, number_at, object_in, odd_or_whole,
+    sort_of, text, truth, truth_at, whole,
 };
+use crate::keep::keep_named;
 use crate::keys::CalibFault;
 use crate::place::PLAIN;
 use crate::sort::Sort;
 use crate::table::{
-    ADAPT, CAMERA, CAMERA_KEYS, CENSUS, CENSUS_KEYS, DISPARITIES, DISPARITIES_KEYS, FINE, GRID,
-    GRID_KEYS, PENALTIES, PENALTIES_KEYS,
+    ADAPT, BRIDGE, CAMERA, CAMERA_KEYS, CENSUS, CENSUS_KEYS, DISPARITIES, DISPARITIES_KEYS, FINE,
+    GRID, GRID_KEYS, KEEP, PENALTIES, PENALTIES_KEYS,
 };
 use serde_json::Value;
 use sgm_base::Span;
 use sgm_census::Window;
 use sgm_energy::Pen;
-use sgm_grid::GridSpec;
+use sgm_grid::{GridSpec, Gridding, Keep};
 use sgm_height::Camera;
 
 #[tactic(auto, using(std::proofs::lemmas::Int::ints))]
@@ -253,13 +257,43 @@ fn grid_at(object: &Value) -> GridSpec
     }
 }
 
-/// The grid that an object is, once its names are known.
-fn grid_of(object: &Value) -> Result<GridSpec, CalibFault>
-    ensures ok { OnOk result (keys_fault PLAIN (view object.now) table.grid_keys ≡ None) }
+/// Checks the key that says what cells keep of their points.
+fn check_keep(object: &Value) -> Result<(), CalibFault>
+    ensures ok { OnOk result (key_fault PLAIN (view object.now) table.keep ≡ None) }
+    ensures fault { IfErr result (λ f. key_fault PLAIN (view object.now) table.keep ≡ Some f) }
+{
+    let row = &KEEP;
+    let name = text(object, row, PLAIN)?;
+    match keep_named(name) {
+        None => Err(CalibFault::Range(key_at(row, PLAIN))),
+        Some(_) => Ok(()),
+    }
+}
+
+/// Checks the keys that say how points become heights, where a grid of that sort is given them.
+fn check_gridding(object: &Value, sort: Sort) -> Result<(), CalibFault>
+    ensures ok { OnOk result
+        (keys_fault PLAIN (view object.now) (given_rows sort table.gridding_keys) ≡ None) }
+    ensures fault { IfErr result (λ f.
+        keys_fault PLAIN (view object.now) (given_rows sort table.gridding_keys) ≡ Some f) }
+{
+    if is_since(3, sort) {
+        check_keep(object)?;
+        whole(object, &BRIDGE, PLAIN)?;
+    }
+    Ok(())
+}
+
+/// The grid that an object of that sort is, once its names are known.
+fn grid_of(object: &Value, sort: Sort) -> Result<GridSpec, CalibFault>
+    ensures ok { OnOk result (keys_fault PLAIN (view object.now) (rows_in table.grid sort) ≡ None) }
     ensures value { IfOk result (λ g. g ≡ grid_of (view object.now)) }
-    ensures fault { IfErr result (λ f. keys_fault PLAIN (view object.now) table.grid_keys ≡ Some f) }
+    ensures kept { IfOk result IsGridSpec }
+    ensures fault { IfErr result (λ f.
+        keys_fault PLAIN (view object.now) (rows_in table.grid sort) ≡ Some f) }
 {
     check_numbers(object, &GRID_KEYS, PLAIN)?;
+    check_gridding(object, sort)?;
     Ok(grid_at(object))
 }
 
@@ -276,8 +310,48 @@ pub fn grid(top: &Value) -> Result<Option<GridSpec>, CalibFault>
     match found {
         None => Ok(None),
         Some(object) => {
-            let grid = grid_of(object)?;
+            let grid = grid_of(object, sort_of(top))?;
             Ok(Some(grid))
         }
+    }
+}
+
+/// How the object of a grid says that points become heights.
+fn gridding_of(object: &Value) -> Gridding
+    requires bridge { IsCount (number_of table.bridge (view object.now)) }
+    ensures { result ≡ gridding_of (view object.now) }
+{
+    Gridding {
+        keep: keep_at(object),
+        bridge: count_at(object, BRIDGE.name),
+    }
+}
+
+/// What the object of a grid says that cells keep, and the highest where it doesn't say.
+fn keep_at(object: &Value) -> Keep
+    ensures { result ≡ unwrap_or (keep_named (text_of table.keep (view object.now))) Highest }
+{
+    let Some(value) = object.get(KEEP.name) else {
+        return Keep::Highest;
+    };
+    match value.as_str() {
+        None => Keep::Highest,
+        Some(name) => keep_named(name).unwrap_or(Keep::Highest),
+    }
+}
+
+/// How the points of a value become heights, once its grid has no fault.
+#[tactic(auto, unfolding(crate::specs::Judge::gridding_in))]
+pub fn gridding(top: &Value) -> Gridding
+    requires { section_fault (view top.now) table.grid ≡ None }
+    ensures value { result ≡ gridding_in (view top.now) }
+    ensures kept { IsGridding result }
+{
+    match top.get(GRID.name) {
+        Some(object) if is_since(3, sort_of(top)) => gridding_of(object),
+        _ => Gridding {
+            keep: Keep::Highest,
+            bridge: 0,
+        },
     }
 }

@@ -10,7 +10,7 @@ use sgm_base::{
     MAX_COUNT, MAX_FIRST, MAX_GRID_LINES, MAX_PENALTY, MAX_WINDOW_HEIGHT, MAX_WINDOW_WIDTH,
     MIN_FIRST, MIN_WINDOW_SIDE,
 };
-use sgm_grid::{MAX_CELL, MAX_HEIGHT, MAX_PLACE};
+use sgm_grid::{MAX_BRIDGE, MAX_CELL, MAX_HEIGHT, MAX_PLACE};
 use sgm_height::{MAX_BASELINE, MAX_DEPTH, MAX_FOCAL, MAX_MOUNT, MAX_OFFSET};
 use sgm_rectify::{
     MAX_ENTRY, MAX_NODE, MAX_NODE_COUNT, MAX_STEP, MIN_ENTRY, MIN_NODE, MIN_NODE_COUNT, MIN_STEP,
@@ -27,6 +27,8 @@ pub enum Form {
     Kind,
     /// The text that names a region.
     Name,
+    /// The text that names what a cell keeps of its points.
+    Keep,
     /// A truth value.
     Truth,
     /// A list of regions.
@@ -114,6 +116,8 @@ const OFFSETS: Form = Form::Between(-MAX_OFFSET, MAX_OFFSET);
 const PLACES: Form = Form::Between(-MAX_PLACE, MAX_PLACE);
 
 const GRID_LINES: Form = Form::Between(1, MAX_GRID_LINES as i64);
+
+const BRIDGES: Form = Form::Between(0, MAX_BRIDGE as i64);
 
 const BASES: Form = Form::Between(-MAX_HEIGHT, MAX_HEIGHT);
 
@@ -226,7 +230,11 @@ const GRID_COLS: Row = key_row!(40 in 36 "grid." "cols": GRID_LINES);
 
 const GRID_ROWS: Row = key_row!(41 in 36 "grid." "rows": GRID_LINES);
 
-/// The keys of a grid, in the order of the checks.
+pub const KEEP: Row = key_row!(52 in 36 "grid." "keep": Form::Keep, Presence::Since(3));
+
+pub const BRIDGE: Row = key_row!(53 in 36 "grid." "bridge": BRIDGES, Presence::Since(3));
+
+/// The keys of a grid that say where it lies and how it is cut, in the order of the checks.
 pub static GRID_KEYS: [Row; 5] = [WEST, SOUTH, CELL, GRID_COLS, GRID_ROWS];
 
 pub const REGIONS: Row = key_row!(42 in 1 "" "regions": Form::Regions, Presence::Optional);
@@ -255,7 +263,7 @@ pub static REGION_NUMBERS: [Row; 5] = [
 ];
 
 /// The table, in the order of the checks.
-static KEYS: [Row; 51] = [
+static KEYS: [Row; 53] = [
     TOP,
     VERSION,
     DISPARITIES,
@@ -299,6 +307,8 @@ static KEYS: [Row; 51] = [
     CELL,
     GRID_COLS,
     GRID_ROWS,
+    KEEP,
+    BRIDGE,
     REGIONS,
     REGION,
     REGION_NAME,
