@@ -1,3 +1,4 @@
+pub mod Grounds
 pub mod Making
 pub mod Passing
 pub mod Pointing

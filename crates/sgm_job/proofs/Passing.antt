@@ -1,6 +1,6 @@
 -- What a pair without a fault keeps.
-use Rattle.std.proofs.Common.{◌≡◌, ℤ, List, Bor, Bool, true, false, not, ◌&&◌, if◌then◌else◌, ◌==◌, Option, Some, None, Ok, Err, refl, sym, ap, ◌∙◌, subst}
-use Rattle.std.specs.Prelude.{All, IfSome, option_map}
+use Rattle.std.proofs.Common.{◌≡◌, List, Bool, true, false, not, ◌&&◌, if◌then◌else◌, ◌==◌, Option, Some, None, Ok, Err, refl, sym, ap, ◌∙◌}
+use Rattle.std.specs.Prelude.{option_map}
 use Rattle.std.specs.Option.{option_or}
 use Rattle.std.proofs.lemmas.Bool.{eqb-true}
 use Rattle.sgm_base.specs.Picture.{Picture}
@@ -12,20 +12,16 @@ use Rattle.sgm_rectify.specs.Rectified.{rectified_values, sides_of}
 use Rattle.sgm_census.specs.Codes.{Codes}
 use Rattle.sgm_census.specs.Windows.{WindowSides}
 use Rattle.sgm_census.specs.declared.rule.CostRule.{CostRule}
-use Rattle.sgm_calib.specs.Calibration.{Calibration, IsCalibration}
+use Rattle.sgm_calib.specs.Calibration.{Calibration}
 use Rattle.sgm_job.specs.Matching.{IsMade}
 use Rattle.sgm_job.specs.declared.job.SurveyFault.{SurveyFault}
 use Rattle.sgm_job.specs.declared.job.SurveyFault.TheVariants as fault
 use Rattle.sgm_base.specs.declared.side.Side.TheVariants.{Left, Right}
 use Rattle.sgm_base.specs.Values.{Values}
-use Rattle.sgm_height.specs.declared.camera.Camera.{Camera}
-use Rattle.sgm_grid.specs.declared.grid_spec.GridSpec.{GridSpec}
 use Rattle.sgm_grid.specs.Cells.{Cells}
-use Rattle.sgm_report.specs.Areas.{Area, IsArea}
 use Rattle.sgm_report.specs.declared.volumes.RegionTally.{RegionTally}
-use Rattle.sgm_job.specs.Heights.{grid_of, highest, points_of}
 use Rattle.sgm_refine.specs.Refining.{Refining}
-use Rattle.sgm_job.specs.Survey.{final, tallies_of, cells_of, is_too_large, pair_fault, Prepared, prepared, prepared_of, same_sides, side_fault, Survey, survey_of, surveyed, unless}
+use Rattle.sgm_job.specs.Survey.{final, ground, tallies, cells_of, is_too_large, pair_fault, Prepared, prepared, prepared_of, same_sides, side_fault, Survey, survey_of, surveyed, unless}
 
 -- the sides are the same, and neither warp has a fault
 pub record Passes (left right : Sides) (calib : Calibration) : Type 0 where
@@ -128,40 +124,10 @@ same_width left right a b calib ea eb pass = ap (λ (s : Sides). s.width) (sym e
 pub same_height : (left right : Picture) (a b : Sides) (calib : Calibration) → a ≡ sides_of left → b ≡ sides_of right → Passes a b calib → left.height ≡ right.height
 same_height left right a b calib ea eb pass = ap (λ (s : Sides). s.height) (sym ea ∙ pass.same ∙ eb)
 
-grid_ranges : (camera : Option Camera) (spec : Option GridSpec) (first : ℤ) (map : Values) (grid : Cells) → Some grid ≡ grid_of camera spec first map → Some grid.spec ≡ spec
-unfolding highest
-grid_ranges None spec first map grid e = absurd (cc)
-grid_ranges (Some camera) None first map grid e = absurd (cc)
-grid_ranges (Some camera) (Some spec) first map grid e =
-    let same : grid ≡ highest spec (points_of camera first map) = cc in ap (λ (g : Cells). Some g.spec) same
-
-regions_in : (grid : Option Cells) (spec : Option GridSpec) (areas : Option (List Area)) → ((g : Cells) → grid ≡ Some g → spec ≡ Some g.spec)
-    → IfSome spec (λ s. IfSome areas (λ xs. All (IsArea s) xs)) → IfSome grid (λ g. IfSome areas (λ xs. All (IsArea g.spec) xs))
-regions_in None spec areas same kept = tt
-regions_in (Some g) spec areas same kept = subst (λ (o : Option GridSpec). IfSome o (λ s. IfSome areas (λ xs. All (IsArea s) xs))) (same g refl) kept
-
--- the regions of a calibration lie in the grid of its survey
-pub regions_inside : (calib : Calibration) (camera : Option Camera) (spec : Option GridSpec) (first : ℤ) (map : Values) (grid : Option Cells) → IsCalibration calib → spec ≡ calib.grid → grid ≡ grid_of camera spec first map
-    → IfSome grid (λ g. IfSome calib.regions (λ xs. All (IsArea g.spec) xs))
-regions_inside calib camera spec first map grid kept es eg =
-    regions_in grid calib.grid calib.regions (λ g e. sym es ∙ sym (grid_ranges camera spec first map g (sym e ∙ eg))) kept.regions_inside
-
--- from references to what they point at
-pub at_references : (grid : Option (Bor Cells)) (regions : Option (Bor (List Area)))
-    → IfSome (option_map (λ g. g.now) grid) (λ g. IfSome (option_map (λ r. r.now) regions) (λ xs. All (IsArea g.spec) xs))
-    → IfSome grid (λ g. IfSome regions (λ r. All (IsArea g.now.spec) r.now))
-at_references None regions h = tt
-at_references (Some g) None h = tt
-at_references (Some g) (Some r) h = h
-
-pub survey_is : (left right : Picture) (calib : Calibration) (refine : Refining) (disp : Values) (grid : Option Cells) (tallies : Option (List RegionTally)) → disp ≡ final left right calib refine
-    → grid ≡ grid_of calib.camera calib.grid calib.span.first disp → tallies ≡ tallies_of grid calib.regions
-    → (let survey : Survey = record { disp = disp; grid = grid; tallies = tallies } in survey) ≡ survey_of left right calib refine
-survey_is left right calib refine disp grid tallies ed eg et =
+pub survey_is : (left right : Picture) (calib : Calibration) (refine : Refining) (disp : Values) (grid : Option Cells) (found : Option (List RegionTally)) → disp ≡ final left right calib refine
+    → grid ≡ ground calib disp → found ≡ tallies calib disp
+    → (let survey : Survey = record { disp = disp; grid = grid; tallies = found } in survey) ≡ survey_of left right calib refine
+survey_is left right calib refine disp grid found ed eg et =
     ap (λ t. let survey : Survey = record { disp = disp; grid = grid; tallies = t } in survey) et
-    ∙ ap (λ g. let survey : Survey = record { disp = disp; grid = g; tallies = tallies_of g calib.regions } in survey) eg
-    ∙ ap (λ d. let survey : Survey = record { disp = d; grid = grid_of calib.camera calib.grid calib.span.first d; tallies = tallies_of (grid_of calib.camera calib.grid calib.span.first d) calib.regions } in survey) ed
-
-pub grid_same : (camera other : Option Camera) (spec wanted : Option GridSpec) (first start : ℤ) (map : Values) → camera ≡ other → spec ≡ wanted → first ≡ start → grid_of camera spec first map ≡ grid_of other wanted start map
-grid_same camera other spec wanted first start map ec es ef =
-    ap (λ c. grid_of c spec first map) ec ∙ ap (λ s. grid_of other s first map) es ∙ ap (λ f. grid_of other wanted f map) ef
+    ∙ ap (λ g. let survey : Survey = record { disp = disp; grid = g; tallies = tallies calib disp } in survey) eg
+    ∙ ap (λ d. let survey : Survey = record { disp = d; grid = ground calib d; tallies = tallies calib d } in survey) ed

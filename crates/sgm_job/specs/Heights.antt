@@ -1,14 +1,15 @@
--- The points that a map of disparities shows, and the grid of the greatest heights among them.
+-- The points that a map of disparities shows, and the grid that they make.
 use Rattle.std.specs.Prelude.{ℕ, ℤ, pos, ◌+ℤ◌, ◌*ℤ◌, List, filter_map, Option, Some, None, option_and_then}
 use Rattle.std.specs.List.{flat_map, range_with_len}
 use Rattle.sgm_base.specs.Values.{Values}
 use Rattle.sgm_base.specs.declared.point.Point.{Point}
-use Rattle.sgm_base.specs.Values.{row_by_row, value_at}
+use Rattle.sgm_base.specs.Values.{value_at}
 use Rattle.sgm_height.specs.declared.camera.Camera.{Camera}
 use Rattle.sgm_height.specs.Camera.{point_of}
 use Rattle.sgm_grid.specs.declared.grid_spec.GridSpec.{GridSpec}
-use Rattle.sgm_grid.specs.Cells.{Cells, cells_of}
-use Rattle.sgm_grid.specs.Points.{cell_after}
+use Rattle.sgm_grid.specs.declared.keep.Keep.{Keep}
+use Rattle.sgm_grid.specs.Cells.{Cells}
+use Rattle.sgm_grid.specs.Keeping.{gridded}
 
 -- the point that a pixel shows at a disparity; the value is in sixteenths, and 0 is that of the first disparity
 abbrev pub point_at : Camera → ℤ → ℕ → ℕ → ℕ → Option Point
@@ -23,11 +24,7 @@ points_of_row camera first map y =
 unfoldable pub points_of : Camera → ℤ → Values → List Point
 points_of camera first map = flat_map (points_of_row camera first map) (range_with_len 0 map.height)
 
--- the grid in which each cell holds the greatest height of the points that fall into it, or is empty
-unfoldable pub highest : GridSpec → List Point → Cells
-highest spec points = cells_of spec (row_by_row spec.cols spec.rows (cell_after spec points))
-
--- the grid of a map, where there is a camera and a grid is asked for
-abbrev pub grid_of : Option Camera → Option GridSpec → ℤ → Values → Option Cells
-grid_of (Some camera) (Some spec) first map = Some (highest spec (points_of camera first map))
-grid_of _ _ first map = None
+-- the grid of a map, of what each cell keeps of its points, where there is a camera and a grid is asked for
+abbrev pub grid_of : Option Camera → Option GridSpec → Keep → ℤ → Values → Option Cells
+grid_of (Some camera) (Some spec) keep first map = Some (gridded keep spec (points_of camera first map))
+grid_of _ _ keep first map = None

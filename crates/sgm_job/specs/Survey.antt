@@ -20,6 +20,7 @@ use Rattle.sgm_refine.specs.Refined.{refined}
 use Rattle.sgm_rectify.specs.declared.warp.Warp.{Warp}
 use Rattle.sgm_rectify.specs.Faults.{warp_fault}
 use Rattle.sgm_rectify.specs.Rectified.{rectified_values, sides_of}
+use Rattle.sgm_grid.specs.Bridges.{bridged}
 use Rattle.sgm_grid.specs.Cells.{Cells}
 use Rattle.sgm_report.specs.Areas.{Area}
 use Rattle.sgm_report.specs.Tallies.{tally_of}
@@ -76,23 +77,37 @@ prepared_of left right calib =
 
 -- ---- what a survey answers
 
--- the refined disparities, their grid where one is asked for, and its tallies where regions are
+-- the refined disparities, their grid with its bridges where one is asked for, and its tallies where regions are
 pub record Survey : Type 0 where
   pub disp : Values
   pub grid : Option Cells
   pub tallies : Option (List RegionTally)
 
--- the tallies of the regions, where there is a grid and regions are asked for
-abbrev pub tallies_of : Option Cells → Option (List Area) → Option (List RegionTally)
-tallies_of (Some grid) (Some areas) = Some (map (tally_of grid) areas)
-tallies_of _ _ = None
+-- the grid of the points that a map shows, where one is asked for
+abbrev pub measured : Calibration → Values → Option Cells
+measured calib disp = grid_of calib.camera calib.grid calib.gridding.keep calib.span.first disp
+
+-- the same with its bridges
+abbrev pub ground : Calibration → Values → Option Cells
+ground calib disp = option_map (bridged calib.gridding.bridge) (measured calib disp)
+
+-- the tallies of regions over a grid with its bridges, each over at most so many cells to each side
+abbrev pub region_tallies : ℕ → Cells → List Area → List RegionTally
+region_tallies most grid areas = map (tally_of (bridged most grid) grid) areas
+
+-- where there is a grid and regions are asked for
+abbrev pub tallies_of : ℕ → Option Cells → Option (List Area) → Option (List RegionTally)
+tallies_of most (Some grid) (Some areas) = Some (region_tallies most grid areas)
+tallies_of most _ _ = None
+
+abbrev pub tallies : Calibration → Values → Option (List RegionTally)
+tallies calib disp = tallies_of calib.gridding.bridge (measured calib disp) calib.regions
 
 -- the survey of two images, with the disparities refined
 abbrev pub survey_of : Picture → Picture → Calibration → Refining → Survey
 survey_of left right calib refine =
     let disp = final left right calib refine in
-    let grid = grid_of calib.camera calib.grid calib.span.first disp in
-    record { disp = disp; grid = grid; tallies = tallies_of grid calib.regions }
+    record { disp = disp; grid = ground calib disp; tallies = tallies calib disp }
 
 -- ---- why a pair is refused
 

@@ -1,18 +1,19 @@
 //! From the disparities to the grid of heights.
 
-ghost use Rattle.std.specs.Prelude.{◌≡◌, ◌≤◌, ◌<◌, ◌^◌, pos, ◌+ℤ◌, ◌*ℤ◌, IfOk, IfSome, fold, length, Option, option_and_then, slice_index_or, None};
+ghost use Rattle.std.specs.Prelude.{◌≡◌, ℕ, ◌+◌, ◌*◌, ◌≤◌, ◌<◌, ◌^◌, pos, ◌+ℤ◌, ◌*ℤ◌, IfOk, IfSome, fold, length, Option, option_and_then, slice_index_or, None};
 ghost use Rattle.std.specs.List.{filter_map, range_with_len};
 ghost use Rattle.sgm_height.specs.Camera.{IsCamera};
 ghost use Rattle.sgm_base.specs.Ranges.{Within};
 ghost use Rattle.sgm_grid.specs.Cells.{IsGridSpec};
-ghost use Rattle.sgm_grid.specs.Points.{added};
+ghost use Rattle.sgm_grid.specs.Binning.{HasRoom, with_point};
+ghost use Rattle.sgm_grid.specs.Keeping.{gridded};
 ghost use Rattle.sgm_base.specs.Disparities.{IsFirst};
 ghost use Rattle.sgm_base.specs.Values.{AtMost};
 ghost use Rattle.sgm_base.specs.declared.limits.TheConstants.{MAX_DISPARITY, MAX_SIDE};
-ghost use Rattle.sgm_job.specs.Heights.{point_at, points_of, grid_of};
+ghost use Rattle.sgm_job.specs.Heights.{point_at, points_of};
 
 use sgm_base::{DispMap, Point, Span};
-use sgm_grid::{Grid, GridSpec};
+use sgm_grid::{Bins, Grid, GridSpec, Keep};
 use sgm_height::{Camera, point};
 use std::alloc::{AllocError, Global};
 
@@ -45,49 +46,54 @@ fn pixel_point(camera: &Camera, first: i32, x: u32, y: u32, value: Option<u16>) 
 }
 
 /// Adds the points of a row of disparities, each in sixteenths from the first disparity of the span on.
-fn add_row(camera: &Camera, span: Span, y: u32, row: &[Option<u16>], grid: &mut Grid)
+fn add_row(camera: &Camera, span: Span, y: u32, row: &[Option<u16>], bins: &mut Bins)
     requires camera { IsCamera camera.now }
     requires y { y < MAX_SIDE }
     requires width { length row.now ≤ MAX_SIDE }
     requires values { AtMost MAX_DISPARITY row.now }
-    ensures { grid.new ≡ fold added grid.old (filter_map (λ x. option_and_then (point_at camera.now span.first x y) (slice_index_or row.now x None)) (range_with_len 0 (length row.now))) }
+    requires room { HasRoom bins.old (length row.now) }
+    ensures value { bins.new ≡ fold with_point bins.old
+        (filter_map (λ x. option_and_then (point_at camera.now span.first x y) (slice_index_or row.now x None))
+        (range_with_len 0 (length row.now))) }
+    ensures room { (more : ℕ) → HasRoom bins.old (more + length row.now) → HasRoom bins.new more }
 {
     for x in 0..row.len() {
         if let Some(found) = pixel_point(camera, span.first, x as u32, y, row[x]) {
-            grid.add(found);
+            bins.add(found);
         }
     }
 }
 
 /// Adds the points of a map of disparities.
 #[tactic(auto, unfolding(crate::specs::Heights::points_of))]
-fn add_points(camera: &Camera, span: Span, map: &DispMap, grid: &mut Grid)
+fn add_points(camera: &Camera, span: Span, map: &DispMap, bins: &mut Bins)
     requires camera { IsCamera camera.now }
     requires values { AtMost MAX_DISPARITY map.now.entries }
-    ensures { grid.new ≡ fold added grid.old (points_of camera.now span.first map.now) }
+    requires room { HasRoom bins.old (map.now.height * map.now.width) }
+    ensures { bins.new ≡ fold with_point bins.old (points_of camera.now span.first map.now) }
 {
     for y in 0..map.size().height {
-        add_row(camera, span, y, map.row(y), grid);
+        add_row(camera, span, y, map.row(y), bins);
     }
 }
 
-/// The grid of a map of disparities, where there is a camera and a grid is asked for.
+/// The grid of a map of disparities: of each cell what it keeps of the points that fall into it.
 pub(crate) fn heights(
     alloc: Global,
-    camera: Option<Camera>,
-    spec: Option<GridSpec>,
+    camera: &Camera,
+    spec: GridSpec,
+    keep: Keep,
     span: Span,
     map: &DispMap,
-) -> Result<Option<Grid>, AllocError>
-    requires camera { IfSome camera IsCamera }
-    requires spec { IfSome spec IsGridSpec }
+) -> Result<Grid, AllocError>
+    requires camera { IsCamera camera.now }
+    requires spec { IsGridSpec spec }
     requires values { AtMost MAX_DISPARITY map.now.entries }
-    ensures { IfOk result (λ grid. grid ≡ grid_of camera spec span.first map.now) }
+    ensures { IfOk result (λ grid. grid ≡ gridded keep spec (points_of camera.now span.first map.now)) }
 {
-    let (Some(camera), Some(spec)) = (camera, spec) else {
-        return Ok(None);
-    };
-    let mut grid = Grid::make(alloc, spec)?;
-    add_points(&camera, span, map, &mut grid);
-    Ok(Some(grid))
+    // Known from here on: that it has at most 4096 x 4096 pixels.
+    let _size = map.size();
+    let mut bins = Bins::make(alloc, spec, keep)?;
+    add_points(camera, span, map, &mut bins);
+    bins.grid(alloc)
 }

@@ -10,12 +10,11 @@ ghost use Rattle.sgm_job.specs.Survey.{is_too_large, pair_fault, prepared, refin
 ghost use Rattle.sgm_job.specs.Answers.{Answers, Prepares};
 
 use crate::fining::finer_map;
-use crate::heights::heights;
+use crate::ground::ground_of;
 use crate::matching::complete_parcels;
 use crate::planes::{Coded, guided_scene, prepare_both, prepare_each};
 use crate::refining::refined_map;
 use crate::selecting::select_all;
-use crate::tallies::tallies;
 use sgm_base::{DispMap, Image, MAX_VOLUME, Plane, Side, Size};
 use sgm_calib::Calib;
 use sgm_census::CostRule;
@@ -71,7 +70,7 @@ impl From<AllocError> for SurveyError {
 pub struct Surveyed {
     /// The disparity of each pixel of the left image, less the first, in sixteenths, refined.
     pub disp: DispMap,
-    /// The greatest height of each cell, where the calibration has a grid.
+    /// The height of each cell, bridges among them, where the calibration has a grid.
     pub grid: Option<Grid>,
     /// The tally of each region, where the calibration has regions.
     pub tallies: Option<Vec<RegionTally>>,
@@ -202,7 +201,8 @@ fn disparity_map<R: Threads + Sync, G: Gate + Sync>(
 
 /// Surveys a pair of images: rectifies them, matches them, and gives for each pixel of the left one its
 /// disparity, less the first, in sixteenths, or None where the match isn't the same from the right or a pixel is
-/// void; the grid of the greatest heights where the calibration has one; and the tally of each region where it has
+/// void; the grid of heights where the calibration has one, of what each cell keeps of its
+/// points and of what is bridged; and the tally of each region where it has
 /// regions. Faults are seen to before memory is taken, in the order of [`SurveyFault`]. The image is cut into
 /// `strips`, or as many as it has rows, and the work is shared among so many `workers`, each in a thread of its
 /// own where one can be made; neither they nor the strips change the answer. The workers come to the gate as
@@ -252,7 +252,6 @@ pub fn survey_refined<R: Threads + Sync, G: Gate + Sync>(
     if let Some(fault) = pair_fault(left.size(), right.size(), calib) {
         return Err(SurveyError::Fault(fault));
     }
-    let span = calib.span();
     let maxval = left.maxval();
     // Known from here on: that no sample of the left image is above it.
     let _samples = left.samples();
@@ -260,12 +259,11 @@ pub fn survey_refined<R: Threads + Sync, G: Gate + Sync>(
     let disp = disparity_map(
         rt, alloc, left, right, calib, maxval, strips, workers, refine, gate,
     )?;
-    let grid = heights(alloc, calib.camera(), calib.grid(), span, &disp)?;
-    let tallies = tallies(alloc, grid.as_ref(), calib.regions())?;
+    let ground = ground_of(alloc, calib, &disp)?;
     Ok(Surveyed {
         disp,
-        grid,
-        tallies,
+        grid: ground.grid,
+        tallies: ground.tallies,
     })
 }
 

@@ -3,6 +3,7 @@
 #![tactic(auto)]
 
 mod fining;
+mod ground;
 mod heights;
 mod job;
 pub mod laws;
@@ -11,6 +12,5 @@ mod planes;
 mod refining;
 mod selecting;
 mod sharing;
-mod tallies;
 
 pub use job::{SurveyError, SurveyFault, Surveyed, prepare, survey, survey_refined};

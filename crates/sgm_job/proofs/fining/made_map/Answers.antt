@@ -1,6 +1,5 @@
-use Rattle.std.proofs.Common.{◌≡◌, ◌∙◌, map, subst, sym, ap, arith, length}
+use Rattle.std.proofs.Common.{◌≡◌, ◌∙◌, map, subst, sym, ap, arith}
 use Rattle.std.proofs.lemmas.List.{with_items_is}
-use Rattle.sgm_base.specs.Values.{Values}
 use Rattle.sgm_select.specs.Strips.{AreRowsOf}
 use Rattle.sgm_strip.specs.Cuts.{CutParts, IsCut}
 use Rattle.sgm_job.specs.Fining.{made}

@@ -1,4 +1,4 @@
-use Rattle.std.proofs.Common.{◌≡◌, ◌+◌, ◌*◌, ◌<◌, ◌∙◌, ◌++◌, sym, ap, arith, drop, get_or, length, None}
+use Rattle.std.proofs.Common.{◌≡◌, ◌+◌, ◌*◌, ◌∙◌, ◌++◌, sym, ap, arith, drop, get_or, length, None}
 use Rattle.sgm_base.specs.Sides.{Sides}
 use Rattle.sgm_select.proofs.Selected.{entries_more}
 use Rattle.sgm_job.specs.Fining.{made_at}

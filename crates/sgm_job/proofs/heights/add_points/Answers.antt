@@ -1,13 +1,29 @@
-use Rattle.std.proofs.Common.{◌≡◌, ◌∙◌, ap, arith}
+use Rattle.std.proofs.Common.{◌≡◌, ℕ, ◌+◌, ◌*◌, ◌∙◌, ap, subst, arith, length}
 use Rattle.std.specs.Prelude.{fold}
 use Rattle.sgm_base.specs.Sides.{Sides}
-use Rattle.sgm_grid.specs.Points.{added}
+use Rattle.sgm_grid.specs.Binning.{HasRoom, with_point}
 use Rattle.sgm_job.specs.Heights.{points_of_row}
-use Rattle.sgm_job.proofs.Pointing.{rows_more, row_points}
+use Rattle.sgm_job.proofs.Pointing.{row_fits, row_points, rows_more}
+use Rattle.sgm_grid.proofs.Room.{room_for_fewer}
 use Rattle.sgm_job.proofs.heights.add_points.Goals as goal
 
 pub loop-y-preserved : goal.loop-y-preserved
 loop-y-preserved c =
     let high : c.size-2.inside.height ≡ c.args.map.now.height = ap (λ (s : Sides). s.height) c.size-2.view_is ∙ c.size.ensures.height in
-    rows_more (points_of_row c.args.camera.now c.args.span.first c.args.map.now) c.loop-y.y c.args.grid.now c.loop-y.grid c.add_row.new.grid c.loop-y.invariant
-    (c.add_row.ensures ∙ ap (fold added c.loop-y.grid) (row_points c.args.camera.now c.args.span.first c.args.map.now c.loop-y.y _ c.row.result.now (omega (arith, high)) c.row.ensures.value c.row.ensures.whole))
+    let width = c.args.map.now.width in
+    let wide : length c.row.result.now ≡ width = c.row.ensures.whole in
+    record {
+      value = rows_more (points_of_row c.args.camera.now c.args.span.first c.args.map.now) c.loop-y.y c.args.bins.now c.loop-y.bins c.add_row.new.bins c.loop-y.invariant.value
+          (c.add_row.ensures.value ∙ ap (fold with_point c.loop-y.bins) (row_points c.args.camera.now c.args.span.first c.args.map.now c.loop-y.y _ c.row.result.now (omega (arith, high)) c.row.ensures.value wide));
+      room = λ more room.
+          let next : more + (c.loop-y.y + 1) * width ≡ (more + length c.row.result.now) + c.loop-y.y * width = omega (arith, wide) in
+          c.add_row.ensures.room more (c.loop-y.invariant.room (more + length c.row.result.now) (subst (λ (n : ℕ). HasRoom c.args.bins.now n) next room));
+    }
+
+pub add_row-requires-clause-room : goal.add_row-requires-clause-room
+add_row-requires-clause-room c =
+    let high : c.size-2.inside.height ≡ c.args.map.now.height = ap (λ (s : Sides). s.height) c.size-2.view_is ∙ c.size.ensures.height in
+    let width = c.args.map.now.width in
+    let wide : length c.row.result.now ≡ width = c.row.ensures.whole in
+    let fits = row_fits c.loop-y.y c.args.map.now.height width (omega (arith, high)) in
+    c.loop-y.invariant.room (length c.row.result.now) (room_for_fewer c.args.bins.now (c.args.map.now.height * width) (length c.row.result.now + c.loop-y.y * width) (omega (arith, fits, wide)) c.requires.room)

@@ -1,18 +1,25 @@
-use Rattle.std.proofs.Common.{◌≡◌, ◌<◌, ◌∙◌, Some, Option, ap, subst, arith}
-use Rattle.std.specs.Prelude.{IfSome}
-use Rattle.sgm_grid.specs.declared.grid_spec.GridSpec.{GridSpec}
+use Rattle.std.proofs.Common.{◌*◌, ◌≤◌, ◌∙◌, ap, arith}
 use Rattle.std.specs.Prelude.{fold}
-use Rattle.sgm_grid.specs.Points.{added}
-use Rattle.sgm_grid.specs.Cells.{Cells, IsGridSpec}
+use Rattle.std.proofs.lemmas.Nat.{mul-le}
+use Rattle.sgm_grid.specs.Binning.{Binned, grid_in, most_points, with_point}
+use Rattle.sgm_grid.proofs.Kept.{points_are_kept}
 use Rattle.sgm_job.specs.Heights.{points_of}
-use Rattle.sgm_job.proofs.Pointing.{highest_is}
+use Rattle.sgm_job.proofs.Making.{if_ok}
+use Rattle.sgm_grid.proofs.Room.{room_for_fewer}
 use Rattle.sgm_job.proofs.heights.heights.Goals as goal
+
+pub add_points-requires-clause-room : goal.add_points-requires-clause-room
+add_points-requires-clause-room c =
+    let map = c.args.map.now in
+    let few : map.height * map.width ≤ 4096 * 4096 =
+    mul-le map.height map.width 4096 4096 (omega (arith, c.size-size.ensures.kept.height_in_range.1)) (omega (arith, c.size-size.ensures.kept.width_in_range.1)) in
+    room_for_fewer c.in_ok-bins.bins most_points (map.height * map.width) (omega (arith, few)) c.in_ok-bins.ensures.room
 
 pub returns : goal.returns
 returns c =
-    let points = points_of c.in-Some-Some.camera c.args.span.first c.args.map.now in
-    let is : c.add_points.new.grid ≡ fold added c.in_ok-grid.grid points = c.add_points.ensures in
-    let ranges : IsGridSpec c.in-Some-Some.spec = subst (λ (o : Option GridSpec). IfSome o IsGridSpec) c.in-Some-Some.is-1 c.requires.spec in
-    let some : 0 < c.in-Some-Some.spec.cols = omega (arith, ranges.cols_in_range.0) in
-    rw (c.in-Some-Some.is-0, c.in-Some-Some.is-1)
-    (ap (λ (g : Cells). Some g) (is ∙ ap (λ (g : Cells). fold added g points) c.in_ok-grid.ensures ∙ highest_is c.in-Some-Some.spec points some))
+    let points = points_of c.args.camera.now c.args.span.first c.args.map.now in
+    if_ok c.grid.result
+    (λ g e. e
+    ∙ ap grid_in (c.add_points.ensures ∙ ap (λ (b : Binned). fold with_point b points) c.in_ok-bins.ensures.value)
+    ∙ points_are_kept c.args.keep c.args.spec points c.requires.spec)
+    c.grid.ensures

@@ -2,13 +2,13 @@ use Rattle.std.proofs.Common.{[], ◌∷◌, ◌++◌, ◌∙◌, List, map, tak
 use Rattle.std.proofs.lemmas.List.{map_more}
 use Rattle.sgm_report.specs.declared.volumes.RegionTally.{RegionTally}
 use Rattle.sgm_report.specs.Tallies.{tally_of}
-use Rattle.sgm_job.proofs.tallies.tally_all.Goals as goal
+use Rattle.sgm_job.proofs.ground.tally_all.Goals as goal
 
 pub loop-region-preserved : goal.loop-region-preserved
 loop-region-preserved c =
     let regions = c.args.regions.now in
     let place = c.loop-region.region-index in
-    let tallied = tally_of c.args.grid.now in
+    let tallied = tally_of c.args.grid.now c.args.measured.now in
     c.in_ok-push.ensures.items
     ∙ ap (λ (all : List RegionTally). all ++ c.tally.result ∷ []) c.loop-region.invariant
     ∙ ap (λ (t : RegionTally). map tallied (take place regions) ++ t ∷ []) (c.tally.ensures ∙ ap tallied c.region-item.is)
