@@ -6,6 +6,7 @@ use Rattle.sgm_pgm.specs.Write.{text_of}
 use Rattle.sgm_grid.specs.Text.{grid_text}
 use Rattle.sgm_report.specs.Areas.{Area}
 use Rattle.sgm_report.specs.Table.{table_text}
+use Rattle.sgm_report.specs.declared.table.Columns.{Columns}
 use Rattle.sgm_report.specs.declared.volumes.RegionTally.{RegionTally}
 use Rattle.sgm_calib.specs.Calibration.{Calibration}
 use Rattle.sgm_job.specs.Survey.{Survey}
@@ -31,9 +32,9 @@ unfoldable pub demo_text : Values → List ℕ
 demo_text disparities = summary_text disparities ++ (codes "sum " ++ decimal (sum (samples_of disparities)) ++ codes "\n")
 
 -- the report of these regions, where there are some and they have their tallies
-abbrev pub report_text : Option (List Area) → Option (List RegionTally) → Option (List ℕ)
-report_text (Some areas) (Some tallies) = Some (table_text areas tallies)
-report_text _ _ = None
+abbrev pub report_text : Columns → Option (List Area) → Option (List RegionTally) → Option (List ℕ)
+report_text columns (Some areas) (Some tallies) = Some (table_text columns areas tallies)
+report_text columns _ _ = None
 
 -- all texts of a survey, under no names yet
 pub record Texts : Type 0 where
@@ -47,6 +48,6 @@ abbrev pub texts_of : Calibration → Survey → Texts
 texts_of calib survey = record {
   disparity = disparity_text survey.disp;
   heights = option_map grid_text survey.grid;
-  report = report_text calib.regions survey.tallies;
+  report = report_text calib.columns calib.regions survey.tallies;
   summary = summary_text survey.disp;
 }

@@ -4,7 +4,6 @@ ghost use Rattle.sgm_base.specs.Values.{AtMost};
 ghost use Rattle.sgm_grid.specs.Text.{grid_text};
 ghost use Rattle.sgm_report.specs.Areas.{IsRegionName};
 ghost use Rattle.sgm_report.specs.Table.{table_text};
-ghost use Rattle.sgm_job.specs.Survey.{tallies_of};
 ghost use Rattle.sgm_job.specs.Answers.{seen};
 ghost use Rattle.sgm_app.specs.Made.{texts_in};
 ghost use Rattle.sgm_app.specs.Texts.{sample_of, disparity_text, summary_text, demo_text, report_text, texts_of};
@@ -14,7 +13,7 @@ use sgm_calib::Calib;
 use sgm_grid::Grid;
 use sgm_job::Surveyed;
 use sgm_pgm::write16;
-use sgm_report::{Region, RegionTally, write_report};
+use sgm_report::{Columns, Region, RegionTally, write_report};
 use std::alloc::{AllocError, Global};
 
 /// All texts of a survey, under no names yet: the disparity image, the heights where the calibration has a
@@ -31,12 +30,13 @@ impl MadeTexts {
     /// The texts of a survey under this calibration.
     pub fn of(alloc: Global, calib: &Calib, survey: &Surveyed) -> Result<MadeTexts, AllocError>
         requires bound { AtMost MAX_DISPARITY survey.now.disp.entries }
-        requires tallies { (seen survey.now).tallies ≡ tallies_of survey.now.grid calib.now.regions }
+        requires tallies { IfSome calib.now.regions
+            (λ r. IfSome (seen survey.now).tallies (λ t. length t ≡ length r)) }
         ensures { IfOk result (λ made. texts_in made ≡ texts_of calib.now (seen survey.now)) }
     {
         let disparity = disparity(alloc, &survey.disp)?;
         let heights = heights(alloc, &survey.grid)?;
-        let report = report(alloc, calib.regions(), &survey.tallies)?;
+        let report = report(alloc, calib.columns(), calib.regions(), &survey.tallies)?;
         let summary = summary(alloc, &survey.disp)?.into_bytes();
         Ok(MadeTexts {
             disparity,
@@ -99,18 +99,19 @@ fn heights(alloc: Global, grid: &Option<Grid>) -> Result<Option<Vec<u8>>, AllocE
 // The report, where there are regions.
 fn report(
     alloc: Global,
+    columns: Columns,
     regions: Option<&[Region]>,
     tallies: &Option<Vec<RegionTally>>,
 ) -> Result<Option<Vec<u8>>, AllocError>
     requires lengths { IfSome regions (λ r. IfSome tallies.now (λ t. length t.items ≡ length r.now)) }
     requires names { IfSome regions (λ r. All (λ area. IsRegionName area.name) r.now) }
     ensures { IfOk result (λ made. option_map (λ text. text.items) made
-        ≡ report_text (option_map (λ r. r.now) regions.entry) (option_map (λ t. t.items) tallies.now)) }
+        ≡ report_text columns (option_map (λ r. r.now) regions.entry) (option_map (λ t. t.items) tallies.now)) }
 {
     match (regions, tallies) {
         (Some(regions), Some(tallies)) => {
             let mut text = Vec::new(alloc);
-            write_report(regions, tallies, &mut text)?;
+            write_report(regions, tallies, columns, &mut text)?;
             Ok(Some(text))
         }
         _ => Ok(None),

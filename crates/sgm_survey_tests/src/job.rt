@@ -71,6 +71,7 @@ const HEIGHT: Option<i32> = Some(50_000);
 const TALLIES: [RegionTally; 2] = [
     RegionTally {
         cells: 9,
+        bridged: 0,
         empty: 3,
         fill: 90_000_000_000,
         cut: 0,
@@ -79,6 +80,7 @@ const TALLIES: [RegionTally; 2] = [
     },
     RegionTally {
         cells: 0,
+        bridged: 0,
         empty: 1,
         fill: 0,
         cut: 0,

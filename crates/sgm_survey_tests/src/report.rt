@@ -4,7 +4,7 @@ ghost use Rattle.std.specs.Prelude.{IsTrue};
 ghost use Rattle.sgm_report.specs.Areas.{IsBase, LiesIn};
 
 use crate::fixtures::grid_of;
-use sgm_grid::{Grid, GridSpec, MAX_HEIGHT};
+use sgm_grid::{Grid, GridSpec, MAX_HEIGHT, bridge};
 use sgm_report::{Region, RegionTally, is_region_name, tally};
 use std::alloc::{AllocError, Global};
 use std::process::Abort;
@@ -17,6 +17,10 @@ const ROW: &[u8] =
 /// Two columns and three rows of cells with a side of 1.
 const ROWS: &[u8] =
     b"ncols 2 nrows 3 xllcorner 0 yllcorner 0 cellsize 1 nodata_value -2147483648 10 20 30 -2147483648 50 60";
+
+/// One row of four cells with a side of 4, two of them empty.
+const GAP: &[u8] =
+    b"ncols 4 nrows 1 xllcorner 0 yllcorner 0 cellsize 4 nodata_value -2147483648 0 -2147483648 -2147483648 10";
 
 /// A region of the name r.
 fn region(
@@ -50,10 +54,22 @@ fn is_base(base: i64) -> bool
     -MAX_HEIGHT <= base && base <= MAX_HEIGHT
 }
 
-/// The tally of a region that lies in the grid.
+/// The tally of a region that lies in the grid, in which nothing is bridged.
 fn tally_in(rt: &impl Abort, grid: &Grid, region: &Region) -> RegionTally {
     assert!(rt; lies_in(grid.spec(), region) && is_base(region.base));
-    tally(grid, region)
+    tally(grid, grid, region)
+}
+
+/// The tally of a region that lies in the grid, once it is bridged over two cells.
+fn bridged_tally(
+    rt: &impl Abort,
+    alloc: Global,
+    measured: &Grid,
+    region: &Region,
+) -> Result<RegionTally, AllocError> {
+    let grid = bridge(alloc, measured, 2)?;
+    assert!(rt; lies_in(grid.spec(), region) && is_base(region.base));
+    Ok(tally(&grid, measured, region))
 }
 
 /// Cells, empty ones, fill, cut, and the lowest and the highest height.
@@ -75,6 +91,7 @@ fn counted(counts: Counts) -> RegionTally {
     let (cells, empty, fill, cut, ends) = counts;
     RegionTally {
         cells,
+        bridged: 0,
         empty,
         fill,
         cut,
@@ -110,6 +127,18 @@ fn rows_count_from_the_north(rt: HostRuntime) -> Result<(), Fail> {
         ((0, 0), (1, 3), 30, (3, 0, 20, 20, Some((10, 50)))),
     ];
     assert_tallies(&rt, rt.alloc(), &grid, table)
+}
+
+/// Two of four cells are bridges; with them the heights are 0, 3, 7 and 10.
+#[test]
+fn bridges_are_counted(rt: HostRuntime) -> Result<(), Fail> {
+    let alloc = rt.alloc();
+    let measured = grid_of(alloc, GAP)?;
+    let whole = region(alloc, (0, 0), (4, 1), 5)?;
+    let found = bridged_tally(&rt, alloc, &measured, &whole)?;
+    assert!(rt; (found.cells, found.bridged, found.empty) == (4, 2, 0));
+    assert!(rt; (found.fill, found.cut) == (112, 112));
+    Ok(())
 }
 
 #[test]
