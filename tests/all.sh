@@ -35,6 +35,7 @@ broken_pages        -           tests/test_pages.py
 shellcheck          shellcheck  shellcheck -x sgm sgm_series .ci/run $(cd "$top" && echo tests/*.sh tools/*.sh packaging/*.sh packaging/*.bash)
 reference           -           tests/test_reference.py
 reference_fine      -           tests/test_reference_fine.py
+reference_cells     -           tests/test_reference_cells.py
 reference_lists     -           tests/test_reference_lists.py
 reference_series    -           tests/test_reference_series.py
 quick_reference     pictures    tests/test_quick_reference.py
@@ -42,9 +43,10 @@ stored_runs         -           tests/stored_runs.py
 least_energies      -           tests/least_energies.py --check
 kernels             -           tests/kernels.py
 fine_cases          -           tests/fine_cases.py --check
+cells_cases         -           tests/cells_cases.py --check
 large_pair          -           tests/large_pair.py
 edits_apply         -           tests/edits.py --apply
-cubic_metres        -           tools/test_cubic_metres.py
+cubic_metres        pictures    tools/test_cubic_metres.py
 sgm_files           pictures    tools/test_sgm_files.py
 stretch             pictures    tools/test_stretch.py
 heights_picture     pictures    tools/test_heights_picture.py

@@ -17,7 +17,7 @@ import os
 import sys
 
 import reference_inputs
-from reference_inputs import RANGES
+from reference_inputs import LATER, RANGES
 
 MISSING = object()
 WRONG_TYPES = itertools.cycle([1.5, "1", None, True, [1], {"a": 1}, 1.0])
@@ -57,7 +57,8 @@ ENDS = {
     "regions.1.base": RANGES["region.base"],
 }
 SECTIONS = ("disparities", "census", "penalties", "camera", "grid")
-PATHS = [path for path in RANGES if path.startswith(SECTIONS)] + [path for path in ENDS if path.startswith("regions")]
+PATHS = [path for path in RANGES if path.startswith(SECTIONS) and path not in LATER]
+PATHS += [path for path in ENDS if path.startswith("regions")]
 NUMBERS = [(path, *ENDS.get(path, RANGES.get(path))) for path in PATHS]
 # Where the first value outside is another key's fault, or that of the one before, it stands here.
 OUTSIDE = {
@@ -97,7 +98,8 @@ def second(*changes):
 
 def third(*changes):
     """The same in version 3, with its keys."""
-    return second(("version", 3), ("disparities.fine", False), *changes)
+    cells = (("grid.keep", "highest"), ("grid.bridge", 0))
+    return second(("version", 3), ("disparities.fine", False), *cells, *changes)
 
 
 def printed(path):
@@ -136,10 +138,11 @@ def version_faults():
     yield "version", third(("census.fine", False)), "census has an unknown name"
     yield "version", third(("penalties.fine", False)), "penalties has an unknown name"
     yield "version", third(("disparities.adapt", False)), "disparities has an unknown name"
-    # Names that no version has.
-    for made in (first, second, third):
-        for name, value in (("keep", "highest"), ("keep", "mean"), ("bridge", 0)):
-            yield "version", made((f"grid.{name}", value)), "grid has an unknown name"
+    # Names that belong elsewhere.
+    for name, value in (("keep", "mean"), ("bridge", 0)):
+        yield "version", third((name, value)), "top has an unknown name"
+        yield "version", third((f"camera.{name}", value)), "camera has an unknown name"
+        yield "version", third((f"regions.0.{name}", value)), "regions[0] has an unknown name"
 
 
 def adapt_faults():
@@ -221,6 +224,49 @@ def fine_faults():
     yield "fine", third(("camera.a", 0)), "camera has an unknown name"
     yield "fine", third(("grid.rows", MISSING)), "grid.rows is missing"
     yield "fine", third(("regions.1.base", 0.5)), "regions[1].base has the wrong type"
+
+
+def cells_faults():
+    """The two keys that say how points become cells."""
+    unknown, later = "grid has an unknown name", (("regions", 0), ("regions.1", 0), ("regions", MISSING))
+    for name, wrong_types, outside in [
+        ("keep", (0, 1.5, True, None, ["mean"], {"keep": "mean"}), ("", "Mean", "HIGHEST", "highest ", "lowest", "means", "mea")),
+        ("bridge", (0.0, "0", "", False, None, [1], {}), (-1, 9, 256, -(2**32), 2**32, 2**32 + 1)),
+    ]:
+        path = f"grid.{name}"
+        yield "cells", third((path, MISSING)), f"{path} is missing"
+        for wrong in wrong_types:
+            yield "cells", third((path, wrong)), f"{path} has the wrong type"
+        for wrong in outside:
+            yield "cells", third((path, wrong)), f"{path} is out of range"
+        # They come before the regions and behind all else of the grid.
+        for more in later:
+            yield "cells", third((path, MISSING), more), f"{path} is missing"
+            yield "cells", third((path, wrong_types[0]), more), f"{path} has the wrong type"
+            yield "cells", third((path, outside[0]), more), f"{path} is out of range"
+        for wrong in (MISSING, wrong_types[0], outside[0]):
+            yield "cells", third((path, wrong), ("grid.rows", MISSING)), "grid.rows is missing"
+            yield "cells", third((path, wrong), ("grid.rows", 0)), "grid.rows is out of range"
+            yield "cells", third((path, wrong), ("grid.west", "0")), "grid.west has the wrong type"
+            yield "cells", third((path, wrong), ("camera.far", 0)), "camera.far is out of range"
+        yield "cells", third((path + "s", 0)), unknown
+        for made in (first, second):
+            for value in ("highest", "mean", 0, 8, None):
+                yield "cells", made((path, value)), unknown
+    # `keep` comes before `bridge`.
+    for wrong in (MISSING, 0.5, -1, 9):
+        yield "cells", third(("grid.keep", MISSING), ("grid.bridge", wrong)), "grid.keep is missing"
+        yield "cells", third(("grid.keep", 0), ("grid.bridge", wrong)), "grid.keep has the wrong type"
+        yield "cells", third(("grid.keep", "most"), ("grid.bridge", wrong)), "grid.keep is out of range"
+    yield "cells", third(("grid.Keep", "mean"), ("grid.keep", MISSING)), unknown
+    yield "cells", third(("version", 2), ("disparities.fine", MISSING)), unknown
+    yield "cells", third(("version", 2), ("disparities.fine", MISSING), ("grid.keep", MISSING)), unknown
+    yield "cells", third(("grid", {})), "grid.west is missing"
+    yield "cells", third(("grid", {"keep": "mean", "bridge": 2})), "grid.west is missing"
+    yield "cells", third(("grid", "mean")), "grid has the wrong type"
+    # A grid that isn't there has none.
+    yield "cells", third(("grid", MISSING)), "grid is missing"
+    yield "cells", third(("grid.keep", MISSING), ("camera", MISSING)), "camera is missing"
 
 
 def warp_faults():
@@ -314,7 +360,8 @@ def order_faults():
 
 def faults():
     """Triples of a name, a calibration and its line."""
-    parts = (version_faults, adapt_faults, fine_faults, warp_faults, section_faults, number_faults, region_faults, order_faults)
+    parts = (version_faults, adapt_faults, fine_faults, cells_faults, warp_faults, section_faults)
+    parts += (number_faults, region_faults, order_faults)
     numbered = {}
     for name, made, line in itertools.chain.from_iterable(part() for part in parts):
         name = name.replace(".", "-")
@@ -344,6 +391,11 @@ def bounds():
         yield f"bound-third-span-{first_one}", third(("disparities.first", first_one), ("disparities.count", count))
     for width, height in ((3, 3), (9, 7), (3, 7), (9, 3)):
         yield f"bound-third-window-{width}-{height}", third(("census.width", width), ("census.height", height))
+    for keep in ("highest", "mean"):
+        for bridge in (0, 1, 2, 8):
+            cells = (("grid.keep", keep), ("grid.bridge", bridge))
+            yield f"bound-cells-{keep}-{bridge}", third(*cells)
+            yield f"bound-cells-{keep}-{bridge}-alone", third(*cells, ("regions", MISSING))
     yield "bound-near-and-far", changed(WHOLE, ("camera.near", 2000000000), ("camera.far", 2000000000))
     yield "bound-grid-long", changed(WHOLE, ("grid.cols", 4096))
     yield "bound-grid-one", changed(WHOLE, ("grid.cols", 1), ("grid.rows", 1), ("regions", MISSING))

@@ -71,6 +71,11 @@ def third(is_adaptive, **more):
     return {**made, "version": 3, "disparities": {**made["disparities"], "fine": False}}
 
 
+def with_cells(settings, keep="highest", bridge=0):
+    """Settings with a grid of version 3, whose cells keep that of their points and are bridged so far."""
+    return {**settings, "grid": {**settings["grid"], "keep": keep, "bridge": bridge}}
+
+
 def finer(settings):
     """Settings of version 3 with finer disparities."""
     return {**settings, "disparities": {**settings["disparities"], "fine": True}}
@@ -128,7 +133,7 @@ def cases():
         yield good("third-version-" + name, width, height, 255, settings, "fill=1", deepest=2)
         if reference_inputs.TAKES_FINE:
             yield good("finer-" + name, width, height, 255, finer(settings), "fill=1", deepest=2)
-    versions = {**second_versions(), **third_versions(), **finer_versions()}
+    versions = {**second_versions(), **third_versions(), **finer_versions(), **celled()}
     for name, (maxval, seed, settings, options) in versions.items():
         yield good(name, 40, 30, maxval, settings, options, make=shapes, deepest=8, seed=seed)
     yield from refusals(left, right)
@@ -295,7 +300,12 @@ def third_versions():
     warps = {"left": tilted(40, 30, 6, 9), "right": shifted(40, 30, 256)}
     last = {"left": shifted(-300, 256 * 20, 256), "right": {"kind": "identity"}}
     made = {
-        "third-version-everything": (255, 50, {**everything(), **third(True, first=2, penalties=(10, 500))}, "peak=6 fill=1 strips=3"),
+        "third-version-everything": (
+            255,
+            50,
+            with_cells({**everything(), **third(True, first=2, penalties=(10, 500))}, "mean", 2),
+            "peak=6 fill=1 strips=3",
+        ),
         "third-version-negative-first": (255, 51, third(False, first=-6, count=12, penalties=(25, 100)), "strips=64 workers=16"),
         "third-version-without-left": (255, 52, third(False, warp={**last, "left": shifted(256 * 40, 0, 1)}), "fill=1"),
         "third-version-beside-voids": (255, 53, third(True, penalties=(2, 50), warp=last), "fill=1 peak=3"),
@@ -308,6 +318,28 @@ def third_versions():
             made[f"third-version-{width}-{height}"] = (255, 60 + width + height, settings, "strips=2 workers=2")
     for number, maxval in enumerate((1, 7, 255, 256, 4095, 65535)):
         made[f"third-version-of-{maxval}"] = (maxval, 80 + number, third(True, penalties=(5, 90)), "peak=4")
+    return made
+
+
+def celled():
+    """Surveys of version 3 by what a cell keeps and over how many cells heights are bridged."""
+    regions = [region("all", 0, 0, 40, 32, 5000000), region("middle", 12, 10, 18, 14, -1), region("corner", 39, 0, 1, 1, 0)]
+    sections = {"camera": camera(), "grid": grid(cell=500000, cols=40, rows=32), "regions": regions}
+    made = {}
+    for keep in ("highest", "mean"):
+        for bridge in range(9):
+            settings = {**third(True, first=2, window=(3, 3), penalties=(10, 500)), **sections}
+            options = "peak=6 strips=3" if bridge % 2 else "workers=4"
+            made[f"cells-{keep}-{bridge}"] = (255, 90 + bridge, with_cells(finer(settings), keep, bridge), options)
+    for name, more in {
+        "no-points": {"west": 2000000000},
+        "large-cell": {"cell": 1000000000},
+        "one-row": {"rows": 1, "south": -2000000},
+        "one-column": {"cols": 1, "west": 0},
+        "small-cells": {"cell": 200001, "cols": 150, "rows": 100},
+    }.items():
+        settings = {**third(False, window=(3, 3)), "camera": camera(), "grid": grid(**more)}
+        made["cells-" + name] = (255, 100, with_cells(settings, "mean", 3), "")
     return made
 
 

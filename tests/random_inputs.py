@@ -215,7 +215,7 @@ ODD_VALUES = [
 ODD_NUMBERS = [*map(str, [2**63 - 1, 2**63, -(2**63), -(2**63) - 1]), "1.0", "-0", "1e0", "0.0"]
 # The names of all keys, and some that are none.
 NAMES = sorted({name for path in reference_inputs.RANGES for name in path.split(".")})
-NAMES += "adapt fine keep bridge warp left right kind matrix nodes regions name top x".split()
+NAMES += "adapt fine keep warp left right kind matrix nodes regions name top x".split()
 
 
 def settings(draw, first, count, versions=(1, 2, 3), **sections):
@@ -236,8 +236,15 @@ def settings(draw, first, count, versions=(1, 2, 3), **sections):
     made.put("penalties", completed(draw, "penalties", [("p1", p1), ("p2", p2), *adapt]))
     for name, section in sections.items():
         if section is not None:
-            made.put(name, section)
+            more = cells_of(draw) if name == "grid" and version == 3 else []
+            made.put(name, Pairs([*section, *more]) if more else section)
     return made
+
+
+def cells_of(draw):
+    """How points become cells: mostly by their means, and with bridges."""
+    keep = draw.of(["highest", "mean", "mean"])
+    return [("keep", keep), ("bridge", draw.of([0, 1, 2, 2, 8, draw.between(0, 8)]))]
 
 
 def warp_of(draw, width, height):
@@ -416,17 +423,25 @@ def tighten(draw, whole):
         holder[:] = [(key, end if key == name else value) for key, value in holder]
 
 
+# What is put in for the keys that only some versions have, where that isn't true or false.
+LATER_VALUES = {
+    "grid.keep": ["highest", "mean", "mean", "Mean", "means", "", 0, Raw("null"), Raw('"m\\u0065an"')],
+    "grid.bridge": [0, 1, 8, 8, 9, -1, "2", True, Raw("null"), Raw("2.0")],
+}
+
+
 def exchange(draw, whole):
     """Says another version, or puts in, changes or takes out a key that only some versions have."""
     if draw.chance(40):
         whole[:] = [(key, draw.below(5) if key == "version" else value) for key, value in whole]
         return
-    section, _, name = draw.of(list(reference_inputs.FLAGS)).partition(".")
+    path = draw.of(list(reference_inputs.LATER))
+    section, _, name = path.partition(".")
     holder = part_of(whole, section)
     if isinstance(holder, Pairs):
         holder[:] = [(key, value) for key, value in holder if key != name]
         if draw.chance(75):
-            holder.put(name, draw.of([True, True, False, False, 0, Raw("null")]))
+            holder.put(name, draw.of(LATER_VALUES.get(path, [True, True, False, False, 0, Raw("null")])))
 
 
 def change(draw, whole):
@@ -764,6 +779,35 @@ def scene_case(draw):
     return words, files_of(pair, json_text(draw, whole, False).encode())
 
 
+def cells_below(draw, width, height, middle):
+    """A camera, and a grid of about the ground that such a picture shows at the disparity `middle`."""
+    baseline = draw.between(300000, 1200000)
+    numbers = [("baseline", baseline), ("focal", draw.between(4000, 9000)), ("doffs", draw.of([0, 0, 0, 77]))]
+    numbers += [(name, draw.between(-600, 600)) for name in ("cx", "cy")]
+    numbers += [("mount", 15000000), ("near", 1), ("far", 2000000000)]
+    # Points that lie side by side in the picture are so far apart; cells are smaller or larger.
+    apart = baseline // middle
+    side = apart * draw.of([3, 5, 7, 10, 10, 14, 22]) // 10
+    corner = [("west", draw.between(-2 * side, side)), ("south", draw.between(-height, 2 - height) * apart)]
+    sides = [("cols", min(30, 1 + width * apart // side)), ("rows", min(30, 1 + height * apart // side))]
+    return completed(draw, "camera", numbers), completed(draw, "grid", [*corner, ("cell", side), *sides])
+
+
+def cells_case(draw):
+    """A survey of version 3 in whose grid most cells have several points, or lie between others that
+    have some."""
+    width, height = draw.between(12, 28), draw.between(8, 18)
+    first, count = draw.between(1, 4), draw.between(3, 8)
+    maxval = draw.of([255, 255, 1023])
+    pair = [pgm(draw, width, height, maxval, samples) for samples in layered(draw, width, height, maxval, first, count)]
+    camera, grid = cells_below(draw, width, height, first + count // 2)
+    sections = {"camera": camera, "grid": grid, "regions": regions_of(draw, grid)}
+    whole = settings(draw, first, count, versions=(3,), **sections)
+    small = Pairs([("width", 3), ("height", 3)])
+    whole[:] = [(name, small if name == "census" else value) for name, value in whole]
+    return GOOD_WORDS + options(draw), files_of(pair, json_text(draw, whole, False).encode())
+
+
 def trace_case(draw):
     """A certificate: of a picture of shapes or of noise, with voids by warps, and penalties that follow the picture."""
     if draw.chance(50):
@@ -871,6 +915,7 @@ def place_case(draw):
 KINDS = {
     "surveys": survey_case,
     "scenes": scene_case,
+    "cells": cells_case,
     "traces": trace_case,
     "changes": change_case,
     "calibrations": calibration_case,
@@ -878,8 +923,8 @@ KINDS = {
     "words": words_case,
     "places": place_case,
 }
-TURNS = "surveys calibrations words traces scenes changes pictures surveys calibrations traces".split()
-TURNS += "places changes words scenes traces pictures calibrations changes scenes surveys".split()
+TURNS = "surveys calibrations words traces scenes changes pictures cells surveys calibrations traces".split()
+TURNS += "places changes words scenes traces cells pictures calibrations changes scenes surveys".split()
 
 
 def case_of(seed, number):

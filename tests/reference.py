@@ -58,8 +58,9 @@ def grid_text(grid, cells, empty=EMPTY):
     return "".join(line + "\n" for line in lines).encode()
 
 
-def table_text(regions, tallies):
-    lines = ["region,cells,empty,fill,cut,lowest,highest"]
+def table_text(regions, tallies, version=1):
+    bridged = "bridged," if version > 2 else ""
+    lines = [f"region,cells,{bridged}empty,fill,cut,lowest,highest"]
     lines += [",".join(map(str, [region["name"], *row])) for region, row in zip(regions, tallies)]
     return "".join(line + "\n" for line in lines).encode()
 
@@ -147,7 +148,8 @@ def match_texts(left, right, calibration, **refine):
     if cells is not None:
         outputs.append((".asc", grid_text(calibration.grid, cells), "heights"))
     if tallies is not None:
-        outputs.append((".csv", table_text(calibration.regions, tallies), "report"))
+        table = table_text(calibration.regions, tallies, calibration.version)
+        outputs.append((".csv", table, "report"))
     return outputs, summary_text(found)
 
 

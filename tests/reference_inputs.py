@@ -191,6 +191,7 @@ RANGES = {
     "grid.cell": (1, 1000000000),
     "grid.cols": (1, 4096),
     "grid.rows": (1, 4096),
+    "grid.bridge": (0, 8),
     "region.col": (0, 4095),
     "region.row": (0, 4095),
     "region.cols": (1, 4096),
@@ -200,20 +201,27 @@ RANGES = {
 # A number whose least value is that of another key of its object, and the numbers that have to be odd.
 LEAST = {"penalties.p2": "p1", "camera.far": "near"}
 ODD = ("census.width", "census.height")
-# The keys that are true or false, each with the versions that have it. They are checked last in
-# their object, and their names aren't known in other versions.
-FLAGS = {"disparities.fine": (3,), "penalties.adapt": (2, 3)}
+# The texts, each with those that it may be.
+CHOICES = {"grid.keep": ("highest", "mean")}
+# The keys that only some versions have, with these versions. They are checked last in their object,
+# in this order, and their names aren't known in other versions. Those that are neither a whole
+# number nor a text are true or false.
+LATER = {"disparities.fine": (3,), "penalties.adapt": (2, 3), "grid.keep": (3,), "grid.bridge": (3,)}
+
+
+def names_in(section, paths):
+    """The names of an object's keys among these."""
+    return [path.partition(".")[2] for path in paths if path.startswith(section + ".")]
 
 
 def keys_of(section):
-    """The names of an object's whole numbers, in the order of their checks."""
-    return [path.partition(".")[2] for path in RANGES if path.startswith(section + ".")]
+    """The names of an object's whole numbers in every version, in the order of their checks."""
+    return names_in(section, [path for path in RANGES if path not in LATER])
 
 
-def flags_of(section, version):
-    """The names of an object's keys that are true or false."""
-    known = [path for path, versions in FLAGS.items() if version in versions]
-    return [path.partition(".")[2] for path in known if path.startswith(section + ".")]
+def later_of(section, version):
+    """The names of what else an object has in this version."""
+    return names_in(section, [path for path, versions in LATER.items() if version in versions])
 
 
 def may_be_true(path):
@@ -229,6 +237,7 @@ class Calibration:
     window = (9, 7)
     p1, p2 = 10, 120
     is_adaptive = is_fine = False
+    keep, bridge = "highest", 0
     left = right = {"kind": "identity"}
     camera = grid = regions = None
 
@@ -316,15 +325,25 @@ def read_calibration(data):
             in_range(key not in ODD or made[name] % 2 == 1, f"{path}.{name}")
         return made
 
+    def flag(parent, path):
+        value = get(parent, path, bool)
+        in_range(may_be_true(path) or not value, path)
+        return value
+
+    def choice(parent, path):
+        value = get(parent, path, str)
+        in_range(value in CHOICES[path], path)
+        return value
+
     def section(parent, name, version):
-        """An object of whole numbers and, behind them, of what is true or false in this version."""
-        flags = flags_of(name, version)
-        it = known(get(parent, name, dict), name, " ".join([*keys_of(name), *flags]))
+        """An object of whole numbers and, behind them, of what else it has in this version."""
+        later = later_of(name, version)
+        it = known(get(parent, name, dict), name, " ".join([*keys_of(name), *later]))
         made = numbers(it, name, name)
-        for flag in flags:
-            path = f"{name}.{flag}"
-            made[flag] = get(it, path, bool)
-            in_range(may_be_true(path) or not made[flag], path)
+        for path in [f"{name}.{key}" for key in later]:
+            read = choice if path in CHOICES else flag
+            value = whole(it, path, *RANGES[path]) if path in RANGES else read(it, path)
+            made[path.partition(".")[2]] = value
         return made
 
     def warp(parent, path):
@@ -379,6 +398,8 @@ def read_calibration(data):
         made.camera = section(top, "camera", version)
     if "grid" in top or "regions" in top:
         made.grid = section(top, "grid", version)
+        made.keep = made.grid.pop("keep", made.keep)
+        made.bridge = made.grid.pop("bridge", made.bridge)
     if "regions" in top:
         regions = get(top, "regions", list)
         in_range(len(regions) <= 1000, "regions")

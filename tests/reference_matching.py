@@ -527,27 +527,85 @@ def point(camera, x, y, sixteenths):
     return across, up, camera["mount"] - depth
 
 
-def heights(points, grid):
-    """The cells of the grid, rows from the north: the highest point of each, or None."""
-    cells = [[None] * grid["cols"] for _ in range(grid["rows"])]
+def mean_height(some):
+    return rounded(sum(some), len(some)) if some else None
+
+
+# What a cell keeps of the heights that fall into it.
+KEPT = {"highest": lambda some: max(some, default=None), "mean": mean_height}
+
+
+def heights(points, grid, keep="highest"):
+    """The cells of the grid, rows from the north: what each keeps of its points, or None."""
+    cells = [[[] for _ in range(grid["cols"])] for _ in range(grid["rows"])]
     for across, up, height in points:
         col = (across - grid["west"]) // grid["cell"]
         row = grid["rows"] - 1 - (up - grid["south"]) // grid["cell"]
         if 0 <= col < grid["cols"] and 0 <= row < grid["rows"]:
-            if cells[row][col] is None or height > cells[row][col]:
-                cells[row][col] = height
-    return cells
+            cells[row][col].append(height)
+    return [[KEPT[keep](some) for some in row] for row in cells]
+
+
+def met_along(line, at, step, most):
+    """Of a line of cells the first height from `at` on to one side, and behind how many cells it
+    comes; None where none of the first `most` cells that are there has one."""
+    for away in range(1, most + 1):
+        place = at + step * away
+        if not 0 <= place < len(line):
+            return None
+        if line[place] is not None:
+            return away, line[place]
+    return None
+
+
+def spanned(line, at, side, most):
+    """What a line of cells gives for its cell `at`, or None."""
+    before, behind = met_along(line, at, -1, most), met_along(line, at, 1, most)
+    if before is None or behind is None:
+        return None
+    (n, a), (k, b) = before, behind
+    return rounded(a * k + b * n, n + k) if abs(a - b) <= (n + k) * side else None
+
+
+def bridged(cells, side, most):
+    """The cells with a height in each empty one that can be bridged, from its row and its column."""
+    columns = list(zip(*cells))
+
+    def height(row, col):
+        if cells[row][col] is not None:
+            return cells[row][col]
+        both = spanned(cells[row], col, side, most), spanned(columns[col], row, side, most)
+        return mean_height([it for it in both if it is not None])
+
+    return [[height(row, col) for col in range(len(columns))] for row in range(len(cells))]
+
+
+def inside(cells, region):
+    """The cells of a region, one after the other."""
+    rows = cells[region["row"] : region["row"] + region["rows"]]
+    return [height for row in rows for height in row[region["col"] : region["col"] + region["cols"]]]
 
 
 def tally(cells, cell, region):
     """cells, empty, fill, cut, lowest, highest of a region; fill and cut in cubic micrometres."""
-    rows = cells[region["row"] : region["row"] + region["rows"]]
-    inside = [height for row in rows for height in row[region["col"] : region["col"] + region["cols"]]]
-    filled = [height for height in inside if height is not None]
+    within = inside(cells, region)
+    filled = [height for height in within if height is not None]
     fill = sum(max(0, height - region["base"]) for height in filled) * cell * cell
     cut = sum(max(0, region["base"] - height) for height in filled) * cell * cell
     lowest, highest = (min(filled), max(filled)) if filled else ("", "")
-    return len(filled), len(inside) - len(filled), fill, cut, lowest, highest
+    return len(filled), len(within) - len(filled), fill, cut, lowest, highest
+
+
+def bridges_in(before, after, region):
+    """How many cells of a region have a height only since they were bridged."""
+    pairs = zip(inside(before, region), inside(after, region))
+    return sum(old is None and new is not None for old, new in pairs)
+
+
+def tally_with_bridges(before, after, cell, region):
+    """The same, with `bridged` behind the cells."""
+    filled, *others = tally(after, cell, region)
+    return filled, bridges_in(before, after, region), *others
 
 
 # The certificate of one pixel
@@ -659,7 +717,11 @@ def survey(left_image, right_image, calibration, peak=0, fill=0, match=match_pla
         for x, value in enumerate(row)
         if value is not None
     ]
-    cells = heights([it for it in points if it is not None], calibration.grid)
+    side = calibration.grid["cell"]
+    before = heights([it for it in points if it is not None], calibration.grid, calibration.keep)
+    cells = bridged(before, side, calibration.bridge)
     if calibration.regions is None:
         return found, cells, None
-    return found, cells, [tally(cells, calibration.grid["cell"], region) for region in calibration.regions]
+    if calibration.version < 3:
+        return found, cells, [tally(cells, side, region) for region in calibration.regions]
+    return found, cells, [tally_with_bridges(before, cells, side, it) for it in calibration.regions]

@@ -302,6 +302,24 @@ def try_warnings(driver, check, folder):
     check.has("another report", found, "heap: OUT.csv says something else than the cells of OUT.asc")
 
 
+def try_bridged(driver, check, folder):
+    """The regions' table has the bridged cells where the report has them."""
+    region = region_of("heap", 20, 30)
+    out, calibration, _ = write_survey(folder, "bridged", numpy.full((20, 30), 1000), [region])
+    shown = lambda page, of: [it.text for it in page.driver.find_elements("css selector", f"#regions {of}") if it.is_displayed()]
+    page = page_of(driver, out, calibration)
+    both = shown(page, "th"), shown(page, "td")
+    check.equal("columns", (both[0][:3], both[1][:3]), (["region", "cells", "empty"], ["heap", "600", "0"]))
+    lines = [line.split(",") for line in sgm_files.read_bytes(out + ".csv").decode().splitlines()]
+    with open(out + ".csv", "w") as file:
+        for word, line in zip(("bridged", "17"), lines):
+            file.write(",".join([*line[:2], word, *line[2:]]) + "\n")
+    page = page_of(driver, out, calibration)
+    columns = ["region", "cells", "bridged", "empty"]
+    check.equal("bridged", (shown(page, "th"), shown(page, "td")), (columns + both[0][3:], ["heap", "600", "17", "0"] + both[1][3:]))
+    check.equal("warnings with bridges", len(page.warnings()), 1)
+
+
 def try_large_numbers(driver, check, folder):
     """The highest and the lowest that can be, in cells of half a metre: sums far above 2^53."""
     heights = numpy.full((40, 50), 1999999999)
@@ -413,6 +431,7 @@ def run(screenshot, folder):
         try_keys(page, check, grid)
         check.equal("fetched", page.fetched(), [])
         try_warnings(driver, check, folder)
+        try_bridged(driver, check, folder)
         try_large_numbers(driver, check, folder)
         try_reduced(driver, check, folder)
         try_change(driver, check, folder)

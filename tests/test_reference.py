@@ -32,6 +32,7 @@ PLAIN = "{" + members("version", "disparities", "census", "penalties")
 SECOND = PLAIN.replace('"version":1', '"version":2')
 THIRD = PLAIN.replace('"version":1', '"version":3').replace('"count":2', '"count":2,"fine":false')
 CAMERA, GRID, REGIONS = ("," + members(name) for name in ("camera", "grid", "regions"))
+THIRD_GRID = GRID.replace('"rows":3', '"rows":3,"keep":"mean","bridge":2')
 WORKED = {
     "l.pgm": b"P5\n5 3\n255\n" + 3 * bytes([90, 10, 50, 20, 40]),
     "r.pgm": b"P5\n5 3\n255\n" + 3 * bytes([10, 50, 20, 40, 30]),
@@ -516,6 +517,11 @@ class Calibrations(unittest.TestCase):
             (THIRD.replace('"version":3', '"version":2') + "}", "disparities has an unknown name"),
             (THIRD.replace('"version":3', '"version":1') + "}", "disparities has an unknown name"),
             (THIRD + "}", "penalties.adapt is missing"),
+            (with_fine("false") + CAMERA + GRID + "}", "grid.keep is missing"),
+            (with_fine("false") + CAMERA + THIRD_GRID.replace(',"bridge":2', "") + REGIONS + "}", "grid.bridge is missing"),
+            (with_fine("false") + CAMERA + THIRD_GRID.replace("2}", "9}") + ',"regions":0}', "grid.bridge is out of range"),
+            (with_fine("false") + CAMERA + THIRD_GRID.replace("mean", "most") + "}", "grid.keep is out of range"),
+            (with_adapt("true") + CAMERA + THIRD_GRID + "}", "grid has an unknown name"),
             (with_fine("false").replace('"adapt":false', '"adapt":0') + "}", "penalties.adapt has the wrong type"),
             ('{"version":2.0}', "version has the wrong type"),
             (SECOND + "}", "penalties.adapt is missing"),

@@ -10,9 +10,13 @@ The scenes have 480 x 360 pixels and 64 disparities from 0 on. Each is matched w
     fine_adapt    P1 25, P2 1200, which follows the image, and `fine` true;
     fine_filled   as fine, with peak=100 and fill=1 (poles alone).
 
+The pair of examples/stockpile is matched as with `fine`, over cells of so many millimetres, with
+that `keep` and that `bridge`: 125_mean_2, 125_highest_0, 50_mean_2, 50_mean_8 and 250_mean_0.
+
 The valid pixels, the sum of the samples of OUT.pgm and the first 16 digits of its SHA-256 have to
-be those below. Three writings of the definitions, in plain Python, C and Rust, worked them out
-before the program had the version. Whatever differs is printed, and the status is 1.
+be those below, of the heap also those of OUT.asc and the lines of OUT.csv. Three writings of the
+definitions, in plain Python, C and Rust, worked them out before the program had the version.
+Whatever differs is printed, and the status is 1.
 
 The program is the one that the variable SGM names (./sgm of this repository without it). With
 --separate it is the separate implementation, tests/quick_reference.py, which takes some seconds for
@@ -38,7 +42,7 @@ import reference_inputs
 import sgm_files
 from sgm_files import Wrong
 
-PIXELS = 480 * 360
+STOCKPILE = os.path.join(HERE, "..", "examples", "stockpile")
 # Of each of the settings P1, P2, whether it follows the image, `fine`, and the options.
 SETTINGS = {
     "whole": (25, 100, False, False, []),
@@ -85,9 +89,49 @@ FIGURES = {
         "poles": (172800, 24864594, "6a07b5ea5d05de1f"),
     },
 }
+SCENES = [*FIGURES["whole"], "stockpile"]
+# Columns and rows of the heap's grid by the cell in millimetres; of each region its column and row,
+# and how many it has.
+GRIDS = {
+    50: ((288, 240), {"pile": (38, 46, 192, 192), "ground": (238, 60, 42, 120)}),
+    125: ((115, 96), {"pile": (15, 18, 77, 78), "ground": (95, 24, 17, 48)}),
+    250: ((58, 48), {"pile": (7, 9, 39, 39), "ground": (48, 12, 8, 24)}),
+}
+# The beginning of the digest of OUT.asc, and what the lines of OUT.csv have behind the names.
+HEAPS = {
+    "125_mean_2": (
+        "b5d0758a646299ea",
+        "6006,0,0,74360803015625000000,95624906250000000,-31373,3417644",
+        "816,0,0,58861750000000000,35120500000000000,-31373,31128",
+    ),
+    "125_highest_0": (
+        "947d6f7c5e8f7bf0",
+        "6006,0,0,76725967828125000000,34248453125000000,-31373,3443826",
+        "816,0,0,102562609375000000,13455328125000000,-31373,31128",
+    ),
+    "50_mean_2": (
+        "40ed3851da4391c0",
+        "36827,6086,37,74323801550000000000,89489025000000000,-31373,3440018",
+        "5033,506,7,57589820000000000,35788102500000000,-31373,31128",
+    ),
+    "50_mean_8": (
+        "f994fd9aef6c2eba",
+        "36864,6123,0,74326201400000000000,88984092500000000,-31373,3440018",
+        "5040,513,0,57516775000000000,35627632500000000,-31373,31128",
+    ),
+    "250_mean_0": (
+        "a9387b7a66b7a8e0",
+        "1521,0,0,74399329187500000000,80380375000000000,-20895,3392553",
+        "192,0,0,46332437500000000,23474875000000000,-16913,23642",
+    ),
+}
+for heap, (digest, pile, ground) in HEAPS.items():
+    SETTINGS[heap] = SETTINGS["fine"]
+    table = "region,cells,bridged,empty,fill,cut,lowest,highest", f"pile,{pile}", f"ground,{ground}"
+    FIGURES[heap] = {"stockpile": (68974, 8949015, "a7084e1303759782", digest, *table)}
 
 
-def calibration_text(name):
+def calibration_of(name):
     p1, p2, is_adaptive, is_fine, _ = SETTINGS[name]
     made = {
         "version": 3,
@@ -95,7 +139,21 @@ def calibration_text(name):
         "census": {"width": 9, "height": 7},
         "penalties": {"p1": p1, "p2": p2, "adapt": is_adaptive},
     }
-    return json.dumps(made)
+    return heap_calibration(made, name) if name in HEAPS else made
+
+
+def heap_calibration(settings, name):
+    """The example's calibration with these settings, and with the cells that the name says."""
+    with open(os.path.join(STOCKPILE, "calibration.json"), encoding="utf-8") as file:
+        whole = json.load(file)
+    cell, keep, bridge = name.split("_")
+    (cols, rows), places = GRIDS[int(cell)]
+    size = {"cell": 1000 * int(cell), "cols": cols, "rows": rows}
+    grid = {**whole["grid"], **size, "keep": keep, "bridge": int(bridge)}
+    keys = ("col", "row", "cols", "rows")
+    regions = [{**region, **dict(zip(keys, places[region["name"]]))} for region in whole["regions"]]
+    span = {**whole["disparities"], "fine": settings["disparities"]["fine"]}
+    return {**whole, **settings, "disparities": span, "grid": grid, "regions": regions}
 
 
 def run_program(words):
@@ -112,41 +170,57 @@ def run_separate(words):
     return status, *(stream.decode() for stream in streams)
 
 
+def digest_of(path):
+    return hashlib.sha256(sgm_files.read_bytes(path)).hexdigest()[:16]
+
+
 def found_by(run, pair, folder, name):
-    """The valid pixels as they are printed, the sum of the samples, and the digest's beginning."""
+    """The valid pixels as they are printed, the sum of the samples, and the digest's beginning; of a
+    heap also that of its grid, and the lines of its table."""
     calib, out = os.path.join(folder, f"{name}.json"), os.path.join(folder, name)
     with open(calib, "w", encoding="utf-8") as file:
-        file.write(calibration_text(name))
+        json.dump(calibration_of(name), file)
     status, printed, fault = run(["match", *pair, calib, out, *SETTINGS[name][-1]])
     if status:
         raise Wrong(f"{' '.join(pair)}: {fault.strip() or f'status {status}'}")
-    words = printed.split()
-    if len(words) != 4 or printed != f"valid {words[1]} of {PIXELS}\n":
+    words, (samples, _) = printed.split(), sgm_files.read_pgm(out + ".pgm")
+    if len(words) != 4 or printed != f"valid {words[1]} of {samples.size}\n":
         raise Wrong(f"{' '.join(pair)}: the summary is {printed!r}")
-    samples, _ = sgm_files.read_pgm(out + ".pgm")
-    digest = hashlib.sha256(sgm_files.read_bytes(out + ".pgm")).hexdigest()
-    return int(words[1]), int(samples.sum(dtype="int64")), digest[:16]
+    found = int(words[1]), int(samples.sum(dtype="int64")), digest_of(out + ".pgm")
+    if name not in HEAPS:
+        return found
+    table = sgm_files.read_bytes(out + ".csv").decode().splitlines()
+    return *found, digest_of(out + ".asc"), *table
+
+
+def pair_of(scene, folder):
+    if scene == "stockpile":
+        return [os.path.join(STOCKPILE, name) for name in ("left.pgm", "right.pgm")]
+    return accuracy.write_pair(folder, accuracy.scene_of(scene))
+
+
+def told(found):
+    valid, total, digest, *heap = found
+    return f"{valid} valid, sum {total}, digest {digest}" + "".join(f"; {part}" for part in heap)
 
 
 def differing(run, scene, names):
     """How many of a scene's matches there are, and lines on those that differ."""
     names, lines = [name for name in names if scene in FIGURES[name]], []
     with tempfile.TemporaryDirectory(prefix="sgm-version3_figures.") as folder:
-        pair = accuracy.write_pair(folder, accuracy.scene_of(scene))
+        pair = pair_of(scene, folder)
         for name in names:
             sgm_files.progress(f"matching {scene}, {name}")
             found, wanted = found_by(run, pair, folder, name), FIGURES[name][scene]
             if found != wanted:
-                both = ["{} valid, sum {}, digest {}".format(*them) for them in (found, wanted)]
-                lines.append(f"{scene}, {name}: {both[0]}, where there have to be {both[1]}")
+                lines.append(f"{scene}, {name}: {told(found)}, where there have to be {told(wanted)}")
     return len(names), lines
 
 
 def main():
     epilog = "Example: tests/version3_figures.py --only wall poles"
     parser = argparse.ArgumentParser(description=__doc__.split("\n\n")[0], epilog=epilog)
-    scenes = FIGURES["whole"]
-    for word, values, metavar in (("--only", scenes, "SCENE"), ("--settings", SETTINGS, "NAME")):
+    for word, values, metavar in (("--only", SCENES, "SCENE"), ("--settings", SETTINGS, "NAME")):
         text = f"some of them: {', '.join(values)}"
         parser.add_argument(word, nargs="+", choices=values, metavar=metavar, help=text)
     separate = "by the separate implementation in place of the program"
@@ -157,7 +231,7 @@ def main():
     names = [name for name in words.settings or SETTINGS if takes_fine or not SETTINGS[name][3]]
     run = run_separate if words.separate else run_program
     number = differ = 0
-    for scene in words.only or scenes:
+    for scene in words.only or SCENES:
         matched, lines = differing(run, scene, names)
         number, differ = number + matched, differ + len(lines)
         sgm_files.progress("")

@@ -1,17 +1,17 @@
 //! `calib TEXT`: the calibration that the text is, or its first fault.
 //!
 //! The answer is `ok`, the least disparity and their number, the window's sides, `smoothed` where costs are
-//! made so, the penalties, `adapt` where they follow the image, and then each warp, the camera, the grid and
-//! the regions with their names and numbers, where they are there, the camera and the grid field by field; or
-//! the fault with its key's number, index and path. Of more than eight nodes or regions the last alone stands
-//! there, after their number.
+//! made so, the penalties, `adapt` where they follow the image, and then each warp, the camera, the grid with
+//! what its cells keep and how far heights are bridged, and the regions with their names and numbers, where
+//! they are there, the camera and the grid field by field; or the fault with its key's number, index and path.
+//! Of more than eight nodes or regions the last alone stands there, after their number.
 
 use crate::escapes;
 use sgm_base::Span;
 use sgm_calib::{Calib, CalibError, CalibFault, Key, read};
 use sgm_census::{CostRule, Window};
 use sgm_energy::Pen;
-use sgm_grid::GridSpec;
+use sgm_grid::{GridSpec, Gridding, Keep};
 use sgm_height::Camera;
 use sgm_rectify::Warp;
 use sgm_report::Region;
@@ -127,6 +127,15 @@ fn push_grid(text: &mut String, grid: GridSpec) -> Result<(), AllocError> {
     write!(text, " {grid:?}")
 }
 
+fn push_gridding(text: &mut String, gridding: Gridding) -> Result<(), AllocError> {
+    let keep = match gridding.keep {
+        Keep::Highest => "highest",
+        Keep::Mean => "mean",
+    };
+    let bridge = gridding.bridge;
+    write!(text, " keep {keep} bridge {bridge}")
+}
+
 /// Adds what the calibration has of the ground.
 fn push_ground(text: &mut String, calib: &Calib) -> Result<(), AllocError> {
     if let Some(camera) = calib.camera() {
@@ -134,6 +143,7 @@ fn push_ground(text: &mut String, calib: &Calib) -> Result<(), AllocError> {
     }
     if let Some(grid) = calib.grid() {
         push_grid(text, grid)?;
+        push_gridding(text, calib.gridding())?;
     }
     match calib.regions() {
         Some(regions) => push_regions(text, regions),

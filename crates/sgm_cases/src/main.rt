@@ -7,6 +7,7 @@
 
 mod asc;
 mod calib;
+mod cells;
 mod escapes;
 mod example;
 mod fine;
@@ -33,6 +34,7 @@ fn answer<R: Threads + Sync>(
     match kind {
         "asc" => asc::answer(alloc, rest),
         "calib" => calib::answer(alloc, rest),
+        "cells" => cells::answer(alloc, rest),
         "fine" => fine::answer(alloc, rest),
         "kernel" => kernel::answer(alloc, rest),
         "mean" => mean::answer(alloc, rest),

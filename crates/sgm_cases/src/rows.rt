@@ -3,7 +3,7 @@
 use crate::parts::cut;
 use sgm_base::{DispMap, Plane, Size};
 use std::alloc::{AllocError, Global};
-use std::fmt::Write;
+use std::fmt::{Display, Write};
 
 /// What stands before the first ` | `, and what behind it.
 pub fn cut_rows(text: &str) -> (&str, &str) {
@@ -58,7 +58,7 @@ pub fn map_of(alloc: Global, size: Size, text: &str) -> Result<Option<DispMap>, 
 }
 
 /// Adds the values.
-pub fn push_values(text: &mut String, values: &[Option<u16>]) -> Result<(), AllocError> {
+pub fn push_values<T: Display>(text: &mut String, values: &[Option<T>]) -> Result<(), AllocError> {
     for (at, value) in values.iter().enumerate() {
         if at > 0 {
             text.push_str(" ")?;
