@@ -5,8 +5,9 @@
 
 Reads OUT.pgm and OUT.asc. Columns count from the west and rows from the north, both from 0, as on the page of
 tools/survey_page.py. Each line has a pixel, its disparity in pixels and its point: metres to the east and to
-the north of the left camera, and the height. The first line's height is the cell's, since a cell keeps the
-highest; without --all no more than ten are shown. tools/explain_pixel.py shows why a pixel has its disparity.
+the north of the left camera, and the height. Where a cell keeps the highest, the first line's height is the
+cell's, and where it keeps the mean (`keep` of version 3), that of all lines; a height that no pixel has made is
+a bridge. Without --all no more than ten are shown. tools/explain_pixel.py shows why a pixel has its disparity.
 Needs numpy.
 """
 
@@ -64,6 +65,26 @@ def pixels_in(values, filled, points, grid, col, row):
     return sorted((tuple(map(int, it)) for it in found), key=lambda it: (-it[0], it[2], it[1]))
 
 
+def keeps_mean(calibration):
+    """Whether cells keep the mean of their points; without the key they keep the highest."""
+    keep = calibration["grid"].get("keep", "highest")
+    if keep not in ("highest", "mean"):
+        raise Wrong("the calibration's grid.keep is neither highest nor mean")
+    return keep == "mean"
+
+
+def told(height, found, is_mean, is_bridged):
+    """What a cell of that height is, by its pixels; None where they can't have made it."""
+    if not found:
+        if height is None:
+            return "empty"
+        return f"{decimal(height, 6)} m, a bridge from cells around it" if is_bridged else None
+    heights = [it[0] for it in found]
+    if height != (rounded(sum(heights), len(heights)) if is_mean else heights[0]):
+        return None
+    return f"{decimal(height, 6)} m, {'the mean of' if is_mean else 'from'} {len(found)} pixels"
+
+
 def sixteenths(value, first):
     """A disparity in pixels, as text."""
     return decimal((16 * first + value) * 10000 // 16, 4)
@@ -85,17 +106,20 @@ def main():
     parser.add_argument("--all", action="store_true", help=f"all pixels, not the {SHOWN} highest alone")
     words = parser.parse_args()
     sgm_files.need(numpy=numpy)
-    points = Points(sgm_files.read_json(words.calib))
+    calibration = sgm_files.read_json(words.calib)
+    points = Points(calibration)
     grid = sgm_files.read_grid(words.survey + ".asc")
+    sgm_files.check_grid(calibration, grid)
     rows, cols = grid.heights.shape
     if words.col >= cols or words.row >= rows:
         raise Wrong(f"no cell {words.col} {words.row}: the grid has {cols} columns and {rows} rows")
     values, filled = sgm_files.read_disparities(words.survey + ".pgm")
     found = pixels_in(values, filled, points, grid, words.col, words.row)
     height = int(grid.heights[words.row, words.col]) if grid.filled[words.row, words.col] else None
-    if (found[0][0] if found else None) != height:
+    is_bridged = calibration["grid"].get("bridge", 0) != 0
+    what = told(height, found, keeps_mean(calibration), is_bridged)
+    if what is None:
         raise Wrong(f"{words.survey}.pgm and {words.survey}.asc aren't of one survey by {words.calib}")
-    what = f"{decimal(height, 6)} m, from {len(found)} pixels" if found else "empty"
     print(f"cell {words.col} {words.row}: {what}")
     for high, x, y, value, east, north in found[: None if words.all else SHOWN]:
         where = ", ".join(decimal(it, 6) for it in (east, north))

@@ -2,7 +2,7 @@
 """Turns the report (OUT.csv) into a table in metres and cubic metres, exactly, and says the volume above the ground.
 Reads the volumes of `sgm change` too.
 
-    tools/cubic_metres.py OUT.csv [--ground NAME --calibration CALIB.json] [--out FILE.csv] [--digits N]
+    tools/cubic_metres.py OUT.csv [--ground NAME --calibration CALIB.json [--heights OUT.asc]] [--out FILE.csv] [--digits N]
 
 The report has whole micrometres and cubic micrometres. Fill and cut pass 2^63 at 9.22 cubic metres, and
 2^53, up to which a sheet keeps whole numbers, at 0.009, so most programs round or refuse them. Here the
@@ -10,22 +10,30 @@ point is set by moving it, and no number is ever taken for a floating point one.
 
     region,cells,empty,fill_m3,cut_m3,net_m3,lowest_m,highest_m
 
-where net is fill less cut. With --ground NAME a region of flat ground says from which height the others are
-to be measured, and each line has two words more, `ground_m,above_m3`:
+where net is fill less cut; a report of version 3 has `bridged` behind the cells, and so has its table. With
+--ground NAME a region of flat ground says from which height the others are to be measured, and each line has two
+words more, `ground_m,above_m3`:
 
 - ground_m is the mean height of the ground's cells, its base + (fill - cut) / (cells * cell * cell), to the
-  nearest micrometre, halves up. A cell keeps the highest of its points, so level ground is measured too high
+  nearest micrometre, halves up. Where a cell keeps the highest of its points, level ground is measured too high
   by its noise; the cells of the heap are too, and a base that is measured takes the error out of both.
 - above_m3 is the region's net volume above that height (below it, where it is negative): net moves by
   cells * cell * cell for each micrometre by which the base moves. It is exactly the fill less the cut of a
   survey whose base for the region is ground_m. The ground's own line has none.
+
+With --heights OUT.asc, the heights of that survey, there is a third word, `plus_minus_m3`, by how much above_m3
+may be off: cells * cell * cell * (2 s + 3 D) / 6, where s is what a sixteenth of a pixel is in height on the
+ground, 16 Z Z / (focal * baseline) at the distance Z = mount - ground, and D the mean of how far the ground's
+cells lie from their mean height, each to the nearest micrometre. It is meant for surveys in version 3 with
+`fine` true and cells that keep the mean and are bridged; what it covers and what it doesn't is said on standard
+error. Of 144 volumes of drawn heaps, at eight heights of the camera, all were within it.
 
 The volumes of a change become `both,come,gone,empty,fill_m3,cut_m3,net_m3`; they have no regions and no ground
 (tools/change_volumes.py has those).
 
 Base and cell come from the calibration of the survey. Without --digits every digit stays and zeros at the end
 fall away; with it the numbers are rounded to so many decimals, halves away from 0. The table goes to standard
-output where --out isn't given. Needs Python alone.
+output where --out isn't given. Needs Python alone, and numpy for --heights.
 """
 
 import argparse
@@ -36,8 +44,14 @@ import sys
 import sgm_files
 from sgm_files import Wrong
 
-NEW_HEAD = ["region", "cells", "empty", "fill_m3", "cut_m3", "net_m3", "lowest_m", "highest_m"]
+COUNTS = ("cells", "bridged", "empty")
+NEW_HEAD = ["fill_m3", "cut_m3", "net_m3", "lowest_m", "highest_m"]
 ABOVE_HEAD = ["ground_m", "above_m3"]
+PLUS_MINUS_HEAD = ["plus_minus_m3"]
+COVERED = (
+    "plus_minus_m3 covers noise and how finely the pictures were matched, and neither a wrong calibration"
+    " nor upright sides"
+)
 NEW_CHANGE_HEAD = ["both", "come", "gone", "empty", "fill_m3", "cut_m3", "net_m3"]
 
 
@@ -71,12 +85,16 @@ def change_table(volumes, digits):
     return [NEW_CHANGE_HEAD, [*counts, *(moved(volume, 18, digits) for volume in (fill, cut, fill - cut))]]
 
 
-def table(regions, digits):
-    """The lines of the table in metres and cubic metres."""
-    for name, cells, empty, fill, cut, lowest, highest in regions:
+def table(names, lines, digits):
+    """The table in metres and cubic metres, of a report with these names."""
+    counts = [name for name in COUNTS if name in names]
+    yield ["region", *counts, *NEW_HEAD]
+    for line in lines:
+        fill, cut = line["fill"], line["cut"]
         volumes = [moved(volume, 18, digits) for volume in (fill, cut, fill - cut)]
-        heights = ["" if height is None else moved(height, 6, digits) for height in (lowest, highest)]
-        yield [name, cells, empty, *volumes, *heights]
+        heights = [line["lowest"], line["highest"]]
+        heights = ["" if height is None else moved(height, 6, digits) for height in heights]
+        yield [line["region"], *(line[name] for name in counts), *volumes, *heights]
 
 
 class Survey:
@@ -85,7 +103,7 @@ class Survey:
     def __init__(self, name):
         complaint = f"{name}: not a calibration of sgm with regions"
         try:
-            top = json.loads(sgm_files.read_bytes(name).decode("utf-8", "replace"))
+            self.whole = top = json.loads(sgm_files.read_bytes(name).decode("utf-8", "replace"))
             self.cell, areas = top["grid"]["cell"], top["regions"]
             self.names = [area["name"] for area in areas]
             self.sizes = [area["cols"] * area["rows"] for area in areas]
@@ -116,18 +134,87 @@ def net_above(region, base, cell, height):
     return fill - cut + (base - height) * cells * cell * cell
 
 
-def above_ground(regions, survey, name, digits):
-    """For each region the two words more."""
+def ground_in(regions, name):
+    """Which of the regions is the ground."""
     grounds = [number for number, region in enumerate(regions) if region[0] == name]
     if len(grounds) != 1:
         raise Wrong(f"{len(grounds) or 'no'} regions have the name {name}, one is needed")
-    ground = grounds[0]
-    if regions[ground][1] == 0:
+    if regions[grounds[0]][1] == 0:
         raise Wrong(f"the region {name} has no cell with a height")
+    return grounds[0]
+
+
+def above_ground(regions, survey, ground, digits):
+    """For each region the two words more."""
     height = mean_height(regions[ground], survey.bases[ground], survey.cell)
     for number, (region, base) in enumerate(zip(regions, survey.bases)):
         volume = "" if number == ground else moved(net_above(region, base, survey.cell, height), 18, digits)
         yield [moved(height, 6, digits), volume]
+
+
+def rounded(a, b):
+    """a / b to the nearest whole number, halves up."""
+    return (2 * a + b) // (2 * b)
+
+
+def plus_minus(cells, cell, sixteenth, spread):
+    """By how much a volume above the ground may be off, in cubic micrometres: `sixteenth` is what a sixteenth of
+    a pixel is in height there, and `spread` how far the ground's cells lie from their mean height."""
+    return rounded(cells * cell * cell * (2 * sixteenth + 3 * spread), 6)
+
+
+def heights_of(grid, areas):
+    """The heights of each region's cells that have one."""
+    for area in areas:
+        col, row, cols, rows = (sgm_files.whole(area, key) for key in ("col", "row", "cols", "rows"))
+        at = (slice(row, row + rows), slice(col, col + cols))
+        yield grid.heights[at][grid.filled[at]]
+
+
+def is_of_heights(region, base, cell, found):
+    """Whether a region's line can be one of these heights."""
+    name, cells, _, fill, cut, _, _ = region
+    above = int(found.sum()) - base * cells
+    return (cells, fill - cut) == (found.size, above * cell * cell)
+
+
+def uncertain(regions, survey, ground, words):
+    """For each region the third word."""
+    try:
+        grid = sgm_files.read_grid(words.heights)
+        sgm_files.check_grid(survey.whole, grid)
+        found = list(heights_of(grid, sgm_files.regions_in(survey.whole)))
+        each = zip(regions, survey.bases, found)
+        if not all(is_of_heights(region, base, survey.cell, it) for region, base, it in each):
+            raise Wrong(f"not the heights of which {words.file} tells")
+    except Wrong as error:
+        text = str(error)
+        raise Wrong(text if text.startswith(words.heights) else f"{words.heights}: {text}") from None
+    focal, baseline, mount = (
+        sgm_files.whole(survey.whole, "camera", key) for key in ("focal", "baseline", "mount")
+    )
+    if focal < 1 or baseline < 1:
+        raise Wrong(f"{words.calibration}: not a calibration of sgm with a camera")
+    height = rounded(int(found[ground].sum()), found[ground].size)
+    spread = rounded(int(abs(found[ground] - height).sum()), found[ground].size)
+    sixteenth = rounded(16 * (mount - height) ** 2, focal * baseline)
+    for number, region in enumerate(regions):
+        volume = plus_minus(region[1], survey.cell, sixteenth, spread)
+        yield ["" if number == ground else moved(volume, 18, words.digits)]
+
+
+def columns_above(regions, words):
+    """The columns that --ground asks for, each line with its words, the head first."""
+    survey = Survey(words.calibration)
+    try:
+        if not survey.is_of(regions):
+            raise Wrong(f"not the report of a survey by {words.calibration}")
+        ground = ground_in(regions, words.ground)
+    except Wrong as error:
+        raise Wrong(f"{words.file}: {error}")
+    yield [ABOVE_HEAD, *above_ground(regions, survey, ground, words.digits)]
+    if words.heights is not None:
+        yield [PLUS_MINUS_HEAD, *uncertain(regions, survey, ground, words)]
 
 
 def made(words):
@@ -136,18 +223,13 @@ def made(words):
         if words.ground is not None:
             raise Wrong(f"{words.file}: the volumes of a change have no ground")
         return change_table(sgm_files.read_volumes(words.file), words.digits)
-    regions = [list(line.values()) for line in sgm_files.read_report(words.file)]
-    lines = [NEW_HEAD, *table(regions, words.digits)]
-    if words.ground is None:
-        return lines
-    survey = Survey(words.calibration)
-    try:
-        if not survey.is_of(regions):
-            raise Wrong(f"not the report of a survey by {words.calibration}")
-        more = [ABOVE_HEAD, *above_ground(regions, survey, words.ground, words.digits)]
-    except Wrong as error:
-        raise Wrong(f"{words.file}: {error}")
-    return [[*line, *words_more] for line, words_more in zip(lines, more)]
+    text = sgm_files.read_bytes(words.file).decode("ascii", "replace")
+    lines = sgm_files.read_report(words.file)
+    blocks = [list(table(sgm_files.names_in_report(text, words.file), lines, words.digits))]
+    if words.ground is not None:
+        regions = [[line[name] for name in sgm_files.REPORT_NAMES] for line in lines]
+        blocks += columns_above(regions, words)
+    return [[word for part in parts for word in part] for parts in zip(*blocks)]
 
 
 def main():
@@ -156,14 +238,22 @@ def main():
     parser.add_argument("file", metavar="OUT.csv", help="the report, or the volumes, that sgm has written")
     parser.add_argument("--ground", metavar="NAME", help="the region of flat ground above which others are measured")
     parser.add_argument("--calibration", metavar="CALIB.json", help="the calibration of the survey; --ground needs it")
+    heights = "the heights of the survey: --ground says by how much its volumes may be off"
+    parser.add_argument("--heights", metavar="OUT.asc", help=heights)
     parser.add_argument("--out", metavar="FILE.csv", help="the new table (standard output if not given)")
     digits = "decimals, 0 to 18 (all if not given)"
     parser.add_argument("--digits", type=int, choices=range(19), metavar="N", help=digits)
     words = parser.parse_args()
     if (words.ground is None) != (words.calibration is None):
         parser.error("--ground and --calibration need each other")
+    if words.heights is not None:
+        if words.ground is None:
+            parser.error("--heights needs --ground")
+        sgm_files.need(numpy=sgm_files.numpy)
     lines = made(words)
     sgm_files.progress("")
+    if words.heights is not None:
+        print(f"cubic_metres: {COVERED}", file=sys.stderr)
     if words.out is None:
         csv.writer(sys.stdout, lineterminator="\n").writerows(lines)
     else:

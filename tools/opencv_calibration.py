@@ -18,7 +18,8 @@ disparities are those of the distances from near to far, where --first and --cou
 With --adapt the penalty P2 follows the image: that is a calibration of version 2. With --version 3 it is one of version 3,
 whose costs hold where texture is faint or the picture noisy, with the penalties that are recommended for it: 25 and 100, or
 with --adapt 25 and 1200, for other windows than 9 x 7 in proportion. Its disparities are made finer by the grey values; with
---no-fine they aren't, and then it is no calibration for volumes.
+--no-fine they aren't, and then it is no calibration for volumes. The cells of its grid keep the mean of their points, or
+with --keep highest the highest one, and heights are bridged over two cells, or over as many as --bridge says.
 
 Needs numpy, and OpenCV's package (cv2) for YAML, for XML, and where a rectification has to be computed.
 """
@@ -64,6 +65,8 @@ BASE = (-2000000000, 2000000000)
 PENALTIES, ADAPTED_PENALTIES = (10, 120), (10, 400)
 # The same of version 3, for a window of 9 x 7.
 THIRD_PENALTIES, THIRD_ADAPTED = (25, 100), (25, 1200)
+# What cells keep and over how many is bridged where --keep and --bridge don't say it: so volumes are best.
+KEEP, BRIDGE = "mean", 2
 MOST_REGIONS = 1000
 # Meshes: the steps that are tried, how close one has to be to the map in pixels, the range of a node's
 # numbers, and how long a calibration may be in bytes.
@@ -333,6 +336,15 @@ def in_proportion(penalty, neighbours):
     return max(1, (penalty * neighbours + 31) // 62)
 
 
+def grid_of(words):
+    """The grid's numbers, and in version 3 how points become its cells."""
+    grid = dict(zip(("west", "south", "cell", "cols", "rows"), words.grid))
+    if words.version != 3:
+        return grid
+    keep, bridge = words.keep or KEEP, BRIDGE if words.bridge is None else words.bridge
+    return {**grid, "keep": keep, "bridge": bridge}
+
+
 def region_of(values):
     return dict(zip(("name", "col", "row", "cols", "rows", "base"), values))
 
@@ -354,7 +366,7 @@ def calibration(parts, words):
         "camera": camera,
     }
     if words.grid is not None:
-        whole["grid"] = dict(zip(("west", "south", "cell", "cols", "rows"), words.grid))
+        whole["grid"] = grid_of(words)
     if words.region:
         whole["regions"] = [region_of(values) for values in words.region]
     line = (
@@ -470,6 +482,10 @@ def words_of():
     region = "a rectangle of the grid's cells, counted from the upper left one; may come many times"
     numbers = ("NAME", "COL", "ROW", "COLS", "ROWS", "BASE")
     option("--region", nargs=6, action="append", default=[], metavar=numbers, help=region)
+    keep = f"with --version 3 and --grid: what a cell keeps of its points ({KEEP})"
+    option("--keep", choices=("highest", "mean"), help=keep)
+    bridge = f"with --version 3 and --grid: over how many cells heights are bridged, 0 to 8 ({BRIDGE})"
+    option("--bridge", type=whole_word(0, 8), metavar="CELLS", help=bridge)
     option("--step", type=whole_word(2, 1024), metavar="PIXELS", help="of the meshes; chosen if not given")
     option("--centred", action="store_true", help="each picture about its own middle; doffs says by how much these differ")
     option("--alpha", type=part_word, help="of cv2.stereoRectify: 0 fills the picture, 1 loses nothing")
@@ -480,6 +496,9 @@ def words_of():
         parser.error("--penalties: P1 is above P2")
     if words.no_fine and words.version != 3:
         parser.error("--no-fine: needs --version 3")
+    for name in ("keep", "bridge"):
+        if getattr(words, name) is not None and (words.version != 3 or words.grid is None):
+            parser.error(f"--{name}: needs --version 3 and --grid")
     for (name, (low, high)), value in zip(GRID.items(), words.grid or ()):
         if not low <= value <= high:
             parser.error(f"--grid: {name} {value} isn't from {low} to {high}")

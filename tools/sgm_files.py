@@ -251,14 +251,23 @@ def hundredths(values):
 
 
 REPORT_NAMES = ("region", "cells", "empty", "fill", "cut", "lowest", "highest")
+# Those of a report of version 3, which counts the cells that are bridged.
+BRIDGED_NAMES = ("region", "cells", "bridged", "empty", "fill", "cut", "lowest", "highest")
+
+
+def names_in_report(text, name):
+    """The names in the head of a report's text."""
+    first = tuple(text.partition("\n")[0].rstrip("\r").split(","))
+    if first not in (REPORT_NAMES, BRIDGED_NAMES):
+        raise Wrong(f"{name}: not a report of sgm")
+    return first
 
 
 def read_report(name):
-    """OUT.csv: a dict for each region, its numbers Python's own, lowest and highest None where it has no cells."""
+    """OUT.csv: a dict for each region by the names of its head, which has `bridged` or hasn't; its
+    numbers are Python's own, lowest and highest None where it has no cells."""
     text = read_bytes(name).decode("ascii", "replace")
-    first = text.partition("\n")[0].rstrip("\r").split(",")
-    if tuple(first) != REPORT_NAMES:
-        raise Wrong(f"{name}: not a report of sgm")
+    names_in_report(text, name)
     try:
         lines = list(csv.DictReader(io.StringIO(text)))
     except csv.Error as error:
@@ -271,7 +280,7 @@ def report_line(line, complaint):
     # What is more than the head has names for stands under None.
     if None in line:
         raise Wrong(complaint)
-    for key in REPORT_NAMES[1:]:
+    for key in list(line)[1:]:
         word = line[key]
         may_be_empty = key in ("lowest", "highest")
         if word is None or not re.fullmatch("-?[0-9]+" + ("|" if may_be_empty else ""), word):

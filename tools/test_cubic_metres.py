@@ -9,6 +9,7 @@ import subprocess
 import sys
 import tempfile
 import unittest
+from fractions import Fraction
 
 HERE = os.path.dirname(os.path.abspath(__file__))
 TOOL = os.path.join(HERE, "cubic_metres.py")
@@ -17,21 +18,25 @@ sys.path.insert(0, os.path.join(HERE, "..", "tests"))
 import cubic_metres as tool
 import reference
 import reference_matching as matching
+import sgm_files
 from cubic_metres import moved
 
 HEAD = "region,cells,empty,fill,cut,lowest,highest\n"
 NEW_HEAD = "region,cells,empty,fill_m3,cut_m3,net_m3,lowest_m,highest_m\n"
 
 
-def run(text, *options, calibration=None):
+def setUpModule():
+    sgm_files.need_for_tests(numpy=sgm_files.numpy)
+
+
+def run(text, *options, calibration=None, heights=None):
     """What the tool makes of a report: its status, both streams, and the file of --out if there is one."""
     with tempfile.TemporaryDirectory() as folder:
         name = os.path.join(folder, "o.csv")
-        with open(name, "w") as file:
-            file.write(text)
-        if calibration is not None:
-            with open(os.path.join(folder, "c.json"), "w") as file:
-                file.write(calibration)
+        for other, given in (("o.csv", text), ("c.json", calibration), ("o.asc", heights)):
+            if given is not None:
+                with open(os.path.join(folder, other), "w") as file:
+                    file.write(given)
         done = subprocess.run([sys.executable, TOOL, name, *options], cwd=folder, capture_output=True, text=True)
         made, written = os.path.join(folder, "m.csv"), None
         if os.path.exists(made):
@@ -104,6 +109,20 @@ class Tables(unittest.TestCase):
 
     def test_head_alone(self):
         self.assertEqual(run(HEAD), (0, NEW_HEAD, "", None))
+        bridged = [text.replace("cells,", "cells,bridged,") for text in (HEAD, NEW_HEAD)]
+        self.assertEqual(run(bridged[0]), (0, bridged[1], "", None))
+
+    def test_bridged(self):
+        report = HEAD.replace("cells,", "cells,bridged,") + "all,9,2,3,90000000000,0,50000,50000\neast,0,0,1,0,0,,\n"
+        made = NEW_HEAD.replace("cells,", "cells,bridged,") + (
+            "all,9,2,3,0.00000009,0,0.00000009,0.05,0.05\neast,0,0,1,0,0,0,,\n"
+        )
+        self.assertEqual(run(report), (0, made, "", None))
+        areas = (("all", 4, 3, 40000), ("east", 1, 1, 0))
+        words = ("--ground", "all", "--calibration", "c.json")
+        made = made.replace("_m\n", "_m,ground_m,above_m3\n").replace("0.05\n", "0.05,0.05,\n")
+        made = made.replace(",,\n", ",,,0.05,0\n")
+        self.assertEqual(run(report, *words, calibration=calibration(1000, *areas)), (0, made, "", None))
 
     def test_refused(self):
         for text, line in [
@@ -112,6 +131,9 @@ class Tables(unittest.TestCase):
             (HEAD + "a,1,0,5,0,5\n", "line 2 isn't one of a report"),
             (HEAD + "a,1,0,5,0,5,5\nb,1,0,5.0,0,5,5\n", "line 3 isn't one of a report"),
             (HEAD + "a,1,0,5,0,5,x\n", "line 2 isn't one of a report"),
+            (HEAD + "a,1,0,0,5,0,5,5\n", "line 2 isn't one of a report"),
+            (HEAD.replace("cells,", "cells,bridged,") + "a,1,0,5,0,5,5\n", "line 2 isn't one of a report"),
+            (HEAD.replace("cells,", "bridged,cells,"), "not a report of sgm"),
             ("\u00ff" + HEAD, "not a report of sgm"),
         ]:
             self.assertEqual(run(text), (1, "", f"cubic_metres: o.csv: {line}\n", None))
@@ -236,10 +258,97 @@ class Ground(unittest.TestCase):
             self.assertEqual(run(report, *words, calibration=text), (1, "", f"cubic_metres: {line}\n", None), line)
 
     def test_words_that_take_each_other(self):
-        for words in (self.WORDS[:2], self.WORDS[2:]):
+        both = "--ground and --calibration need each other"
+        for words, line in [
+            (self.WORDS[:2], both),
+            (self.WORDS[2:], both),
+            (("--heights", "o.asc"), "--heights needs --ground"),
+        ]:
             status, out, err, _ = run(self.REPORT, *words, calibration=calibration(1000, *self.AREAS))
             self.assertEqual((status, out), (2, ""))
-            self.assertTrue(err.endswith("cubic_metres.py: error: --ground and --calibration need each other\n"), err)
+            self.assertTrue(err.endswith(f"cubic_metres.py: error: {line}\n"), err)
+
+
+class PlusMinus(unittest.TestCase):
+    """The ground of the report above: heights of 98, 100, 103 and 107 um, which lie 4, 2, 1 and 5 from their mean, so 3
+    on average. From 40 mm a sixteenth of a pixel is 16 * 40000 * 40000 / (25600 * 1000) = 1000 um there. The pile has
+    three cells of 1000 * 1000 um, so it may be off by 3000000 * (2 * 1000 + 3 * 3) / 6 = 1004500000."""
+
+    GRID = {"west": 0, "south": 0, "cell": 1000, "cols": 4, "rows": 4}
+    CAMERA = {"focal": 25600, "baseline": 1000, "mount": 40102}
+    AREAS = [("ground", 0, 1, 2, 2, 100), ("pile", 0, 0, 4, 1, 0), ("hole", 2, 1, 1, 2, 7)]
+    HEIGHTS = (
+        "ncols 4\nnrows 4\nxllcorner 0\nyllcorner 0\ncellsize 1000\nNODATA_value -1\n"
+        "200 300 400 -1\n98 100 -1 -1\n103 107 -1 -1\n5 5 5 5\n"
+    ).replace("-1", "-2147483648")
+    WORDS = (*Ground.WORDS, "--heights", "o.asc")
+    SAID = f"cubic_metres: {tool.COVERED}\n"
+
+    def calibration(self, **more):
+        regions = [dict(zip(("name", "col", "row", "cols", "rows", "base"), area)) for area in self.AREAS]
+        return json.dumps({"camera": self.CAMERA, "grid": self.GRID, "regions": regions, **more})
+
+    def test_by_hand(self):
+        head = NEW_HEAD.replace("\n", ",ground_m,above_m3,plus_minus_m3\n")
+        made = head + (
+            "ground,4,0,0.00000000001,0.000000000002,0.000000000008,0.000098,0.000107,0.000102,,\n"
+            "pile,3,1,0.0000000009,0,0.0000000009,0.0002,0.0004,0.000102,0.000000000594,0.0000000010045\n"
+            "hole,0,2,0,0,0,,,0.000102,0,0\n"
+        )
+        ended = run(Ground.REPORT, *self.WORDS, calibration=self.calibration(), heights=self.HEIGHTS)
+        self.assertEqual(ended, (0, made, self.SAID, None))
+        words = (*self.WORDS, "--digits", "12", "--out", "m.csv")
+        status, out, err, made = run(Ground.REPORT, *words, calibration=self.calibration(), heights=self.HEIGHTS)
+        self.assertEqual((status, out, err), (0, "", self.SAID))
+        self.assertTrue(made.splitlines()[2].endswith(",0.000102000000,0.000000000594,0.000000001005"), made)
+
+    def test_rounded(self):
+        # 1 * 1 * (2 s + 3 D) / 6, halves up.
+        for sixteenth, spread, volume in [(0, 0, 0), (1, 0, 0), (0, 1, 1), (1, 1, 1), (2, 0, 1), (2, 1, 1), (3, 1, 2)]:
+            self.assertEqual(tool.plus_minus(1, 1, sixteenth, spread), volume)
+        # Cells of a kilometre, and numbers far above 64 bits.
+        self.assertEqual(tool.plus_minus(16777216, 10**9, 3 * 10**9, 10**9), 16777216 * 10**18 * 15 * 10**8)
+
+    def test_another_surface(self):
+        """The same definition on heights drawn at random, in fractions."""
+        draw = random.Random(26)
+        for _ in range(12):
+            heights = [draw.randrange(-900, 900) for _ in range(16)]
+            area = {"row": 0, "rows": 4, "col": 0, "cols": 4, "base": 0}
+            rows = [heights[at : at + 4] for at in range(0, 16, 4)]
+            line = matching.tally(rows, 1000, area)
+            report = HEAD + "".join(f"{name},{','.join(map(str, line))}\n" for name in ("ground", "other"))
+            regions = [{"name": name, **area} for name in ("ground", "other")]
+            text = self.HEIGHTS.splitlines()[:6] + [" ".join(map(str, row)) for row in rows]
+            given = {"calibration": self.calibration(regions=regions), "heights": "\n".join(text) + "\n"}
+            status, out, _, _ = run(report, *self.WORDS, **given)
+            self.assertEqual(status, 0)
+            near = lambda it: (it + Fraction(1, 2)).__floor__()
+            mean = near(Fraction(sum(heights), 16))
+            spread = near(Fraction(sum(abs(it - mean) for it in heights), 16))
+            away = self.CAMERA["mount"] - mean
+            sixteenth = near(Fraction(16 * away**2, self.CAMERA["focal"] * self.CAMERA["baseline"]))
+            volume = near(Fraction(16 * 1000**2 * (2 * sixteenth + 3 * spread), 6))
+            self.assertEqual(out.splitlines()[2].split(",")[-1], moved(volume, 18, None))
+
+    def test_refused(self):
+        good, away = self.calibration(), "o.asc: not the heights of which o.csv tells"
+        fitting = "o.asc: the calibration's grid isn't that of the heights: is it the calibration of this survey?"
+        for text, heights, line in [
+            (good, None, "o.asc: No such file or directory"),
+            (good, "ncols", "o.asc: not a height grid of sgm"),
+            (good, self.HEIGHTS.replace("cellsize 1000", "cellsize 1001"), fitting),
+            (good, self.HEIGHTS.replace("200", "201"), away),
+            (good, self.HEIGHTS.replace("98 100 -2147483648", "98 100 0"), away),
+            (self.calibration(camera={}), self.HEIGHTS, "the calibration has no whole number at camera.focal"),
+            (
+                self.calibration(camera={**self.CAMERA, "focal": 0}),
+                self.HEIGHTS,
+                "c.json: not a calibration of sgm with a camera",
+            ),
+        ]:
+            ended = run(Ground.REPORT, *self.WORDS, calibration=text, heights=heights)
+            self.assertEqual(ended, (1, "", f"cubic_metres: {line}\n", None), line)
 
 
 if __name__ == "__main__":

@@ -337,6 +337,48 @@ class Cells(Tool):
         status, _, err = self.run_tool("cell_pixels.py", "o", "1", "1", "--calib", "c.json")
         self.assertEqual((status, err), (1, "cell_pixels: o.pgm and o.asc aren't of one survey by c.json\n"))
 
+    def test_third_version(self):
+        """The pair has the disparity 0 at the columns 1 to 4: over cells of 500 every second column and row is bridged
+        or empty, and a cell of 2000 has two columns of two rows."""
+        camera = b'"camera":{"focal":25600,"baseline":1000,"cx":0,"cy":0,"doffs":256,"mount":150000,"near":1,"far":1000000}'
+        fine = b',"grid":{"west":1000,"south":-2000,"cell":500,"cols":7,"rows":5,"keep":"mean","bridge":1}}'
+        wide = fine.replace(b"500,", b"2000,").replace(b":7", b":2").replace(b":5,", b":2,")
+        pixels = [f"pixel {x} {y}: disparity 0, at 0.00{x}, {f'-0.00{y}' if y else '0'}, height 0.05 m\n" for y in (1, 2) for x in (1, 2)]
+        files = {name: b"P5\n5 3\n255\n" + THIRD[name] for name in ("l.pgm", "r.pgm")}
+        for grid, place, wanted in [
+            (fine, "0 0", "cell 0 0: 0.05 m, the mean of 1 pixels\npixel 1 0: disparity 0, at 0.001, 0, height 0.05 m\n"),
+            (fine, "1 0", "cell 1 0: 0.05 m, a bridge from cells around it\n"),
+            (fine, "0 1", "cell 0 1: 0.05 m, a bridge from cells around it\n"),
+            (fine, "1 1", "cell 1 1: empty\n"),
+            (wide, "0 1", "cell 0 1: 0.05 m, the mean of 4 pixels\n" + "".join(pixels)),
+        ]:
+            calibration = THIRD["c.json"].strip()[:-1] + b"," + camera + grid
+            for name, data in {**files, "c.json": calibration}.items():
+                with open(self.path(name), "wb") as file:
+                    file.write(data)
+            words = [REFERENCE, "match", "l.pgm", "r.pgm", "c.json", "o"]
+            done = subprocess.run(words, cwd=self.folder, capture_output=True)
+            self.assertEqual((done.returncode, done.stderr), (0, b""))
+            found = self.run_tool("cell_pixels.py", "o", *place.split(), "--calib", "c.json")
+            self.assertEqual(found, (0, wanted, ""))
+
+    def test_told(self):
+        pixels = [(7,), (5,), (-3,)]
+        for height, found, is_mean, is_bridged, told in [
+            (7, pixels, False, False, "0.000007 m, from 3 pixels"),
+            (3, pixels, True, False, "0.000003 m, the mean of 3 pixels"),
+            (6, pixels[:2], True, True, "0.000006 m, the mean of 2 pixels"),
+            # Halves go up.
+            (0, [(3,), (-4,)], True, False, "0 m, the mean of 2 pixels"),
+            (-1, [(3,), (-4,)], True, False, None),
+            (3, pixels, False, True, None),
+            (None, pixels, False, False, None),
+            (None, [], True, True, "empty"),
+            (4, [], True, True, "0.000004 m, a bridge from cells around it"),
+            (4, [], True, False, None),
+        ]:
+            self.assertEqual(cell_pixels.told(height, found, is_mean, is_bridged), told)
+
     def test_heap(self):
         """Every hundredth cell of the example: the highest point is the cell, and each point lies in it."""
         heap = os.path.join(TOP, "examples", "stockpile")

@@ -152,6 +152,22 @@ class WithoutDistortion(unittest.TestCase):
                 self.assertEqual(whole[key], first[key])
             self.assertEqual({**first["disparities"], "fine": True}, whole["disparities"])
 
+    def test_cells_of_the_third_version(self):
+        grid = " --grid -1000000 -500000 50000 40 20"
+        for options, keep, bridge in [
+            ("", "mean", 2),
+            (" --keep mean", "mean", 2),
+            (" --keep highest", "highest", 2),
+            (" --bridge 0", "mean", 0),
+            (" --keep highest --bridge 8", "highest", 8),
+        ]:
+            whole = json.loads(run(PLAIN, LIMITS + grid + " --version 3" + options)[2])
+            first = json.loads(run(PLAIN, LIMITS + grid)[2])
+            self.assertEqual(whole["grid"], {**first["grid"], "keep": keep, "bridge": bridge})
+            made = made_from(PLAIN, LIMITS + grid + " --version 3 --region a 0 0 40 20 0" + options)
+            self.assertEqual((made.keep, made.bridge), (keep, bridge))
+        self.assertNotIn("grid", json.loads(run(PLAIN, LIMITS + " --version 3")[2]))
+
     def test_given_rectification(self):
         one = [[1, 0, 0], [0, 1, 0], [0, 0, 1]]
         p1 = [[64, 0, 40, 0], [0, 64, 20, 0], [0, 0, 1, 0]]
@@ -264,6 +280,10 @@ class WithoutDistortion(unittest.TestCase):
             ("--census 4x4", "argument --census: 4x4 isn't a width x height in range"),
             ("--penalties 5 4", "--penalties: P1 is above P2"),
             ("--no-fine", "--no-fine: needs --version 3"),
+            (ten + " --keep mean", "--keep: needs --version 3 and --grid"),
+            ("--version 3 --bridge 0", "--bridge: needs --version 3 and --grid"),
+            (ten + " --version 3 --bridge 9", "argument --bridge: 9 isn't a whole number from 0 to 8"),
+            (ten + " --version 3 --bridge -1", "argument --bridge: -1 isn't a whole number from 0 to 8"),
             ("--adapt --penalties 401 400", "--penalties: P1 is above P2"),
             ("--penalties 5 4001", "argument --penalties: 4001 isn't a whole number from 1 to 4000"),
             ("--first 1025", "argument --first: 1025 isn't a whole number from -1024 to 1024"),

@@ -118,6 +118,15 @@ class Reports(Files):
         self.assertEqual(report[0], dict(zip(sgm_files.REPORT_NAMES, ("a b", 9, 3, 10**30, 0, -5, 7))))
         self.assertEqual(report[1], dict(zip(sgm_files.REPORT_NAMES, ("c", 0, 1, 0, 0, None, None))))
 
+    def test_bridged(self):
+        head = self.HEAD.replace(b"cells,", b"cells,bridged,")
+        report = sgm_files.read_report(self.given(head + b"a b,9,2,3,%d,0,-5,7\nc,0,0,1,0,0,,\n" % 10**30))
+        self.assertEqual(report[0], dict(zip(sgm_files.BRIDGED_NAMES, ("a b", 9, 2, 3, 10**30, 0, -5, 7))))
+        self.assertEqual(report[1], dict(zip(sgm_files.BRIDGED_NAMES, ("c", 0, 0, 1, 0, 0, None, None))))
+        self.assertEqual(list(report[0]), list(sgm_files.BRIDGED_NAMES))
+        for line in (b"a,1,0,5,0,5,5\n", b"a,1,,0,5,0,5,5\n", b"a,1,x,0,5,0,5,5\n"):
+            self.assertEqual(self.refused(sgm_files.read_report, head + line), "line 2 isn't one of a report")
+
     def test_refused(self):
         for text in (b"region,cells\n", self.HEAD.replace(b"\n", b",more\n")):
             self.assertEqual(self.refused(sgm_files.read_report, text), "not a report of sgm")

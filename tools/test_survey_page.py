@@ -76,6 +76,21 @@ class Pages(Heap):
             self.assertEqual(region["report"], {**line, "fill": str(line["fill"]), "cut": str(line["cut"])})
         self.assertEqual(known["block"], 1)
 
+    def test_bridged(self):
+        """The table of version 3."""
+        self.assertNotIn('"bridged":', self.run_tool()[3])
+        with open(self.path("o.csv")) as file:
+            lines = file.read().splitlines()
+        words = [line.split(",") for line in lines]
+        with open(self.path("o.csv"), "w") as file:
+            for bridged, line in zip(("bridged", 7, 0), words):
+                file.write(",".join([*line[:2], str(bridged), *line[2:]]) + "\n")
+        status, _, err, page = self.run_tool()
+        self.assertEqual((status, err), (0, ""))
+        known = json.loads(re.search('id="survey">(.*?)</script>', page, re.S)[1])
+        self.assertEqual([region["report"]["bridged"] for region in known["regions"]], [7, 0])
+        self.assertEqual([str(region["report"]["empty"]) for region in known["regions"]], [line[2] for line in words[1:]])
+
     def test_no_network(self):
         """No address stands in the page but the name of SVG's own kind, and nothing is loaded from elsewhere."""
         page = self.run_tool("--left", os.path.abspath(os.path.join(HEAP, "left.pgm")))[3]
