@@ -121,6 +121,11 @@ DIRECTIONS = "Right Left Down DownRight DownLeft Up UpRight UpLeft"
 # The module of the rules of cost, and the rule of each version of the calibration.
 RULES = "sgm_census.specs.declared.rule.CostRule.TheVariants"
 RULE_OF = {1: "Plain", 2: "Plain", 3: "Smoothed"}
+# The module of what cells keep, with its names; and the columns of a report, by their whole names, as one of them is that
+# of a rule too.
+KEEPS = {"sgm_grid.specs.declared.keep.Keep.TheVariants": "Highest Mean"}
+COLUMNS = "use Rattle.sgm_report.specs.declared.table.Columns.TheVariants as columns\n"
+COLUMNS_OF = {1: "columns.Plain", 2: "columns.Plain", 3: "columns.Bridged"}
 
 
 def penalties_of(p1, p2, is_adaptive):
@@ -519,7 +524,16 @@ def cells_of(grid, cells):
 
 
 def grids(draw):
-    page = Page("grids", {"sgm_grid.Cells": "cells_of", "sgm_grid.Points": "cell_after", "sgm_grid.Text": "grid_text"})
+    page = Page(
+        "grids",
+        {
+            **KEEPS,
+            "sgm_grid.Cells": "cells_of",
+            "sgm_grid.Keeping": "cell_after",
+            "sgm_grid.Bridges": "bridged",
+            "sgm_grid.Text": "grid_text",
+        },
+    )
     for cols, rows, cell in [(3, 2, 3), (1, 1, 1), (2, 4, 10)]:
         grid = dict(west=draw.randrange(-9, 9), south=draw.randrange(-9, 9), cell=cell, cols=cols, rows=rows)
 
@@ -529,11 +543,18 @@ def grids(draw):
             return x, y, draw.choice([-2000000000, 7, -7, 2000000000])
 
         some = [some_point() for _ in range(12)]
-        cells = matching.heights(some, grid)
-        for row, col in itertools.product(range(rows), range(cols)):
-            height = option(cells[row][col], whole)
-            page.holds(f"cell_after {spec_of(grid)} {listed(some, point_of)} {col} {row}", height)
-        page.holds(f"grid_text {cells_of(grid, cells)}", text(reference.grid_text(grid, cells)))
+        for keep in ("highest", "mean"):
+            cells = matching.heights(some, grid, keep)
+            for row, col in itertools.product(range(rows), range(cols)):
+                height = option(cells[row][col], whole)
+                given = f"{keep.capitalize()} {spec_of(grid)} {listed(some, point_of)}"
+                page.holds(f"cell_after {given} {col} {row}", height)
+            page.holds(f"grid_text {cells_of(grid, cells)}", text(reference.grid_text(grid, cells)))
+    grid = dict(west=0, south=0, cell=4, cols=5, rows=4)
+    for most in (0, 1, 2, 3, 8):
+        cells = [[draw.choice([None, None, 0, 3, -5, 9]) for _ in range(5)] for _ in range(4)]
+        made = matching.bridged(cells, 4, most)
+        page.holds(f"bridged {most} {cells_of(grid, cells)}", cells_of(grid, made))
     return page
 
 
@@ -605,8 +626,10 @@ def area_of(region):
 
 
 def tally_of(row):
-    lowest, highest = (option(None if end == "" else end, whole) for end in row[4:])
-    return record(cells=row[0], empty=row[1], fill=row[2], cut=row[3], lowest=lowest, highest=highest)
+    """The tally of a line of a report, whose cells are followed by those that are bridged in version 3 alone."""
+    cells, bridged, empty, fill, cut, *ends = row if len(row) == 7 else (row[0], 0, *row[1:])
+    lowest, highest = (option(None if end == "" else end, whole) for end in ends)
+    return record(cells=cells, bridged=bridged, empty=empty, fill=fill, cut=cut, lowest=lowest, highest=highest)
 
 
 def reports(draw):
@@ -618,6 +641,7 @@ def reports(draw):
             "sgm_report.Tallies": "tally_of",
             "sgm_report.Table": "table_text",
         },
+        COLUMNS,
     )
     grid = dict(west=0, south=0, cell=1000, cols=4, rows=3)
     for _ in range(6):
@@ -627,11 +651,16 @@ def reports(draw):
             col, row, base = draw.randrange(4), draw.randrange(3), draw.choice([6, -3, 2000000000])
             cols, rows = draw.randrange(1, 5 - col), draw.randrange(1, 4 - row)
             regions.append(dict(name=name, col=col, row=row, cols=cols, rows=rows, base=base))
-        tallies = [matching.tally(cells, grid["cell"], region) for region in regions]
-        for region, row in zip(regions, tallies):
-            page.holds(f"tally_of {cells_of(grid, cells)} {area_of(region)}", tally_of(row))
-        table = f"table_text {listed(regions, area_of)} {listed(tallies, tally_of)}"
-        page.holds(table, text(reference.table_text(regions, tallies)))
+        made = [[5 if height is None and draw.randrange(2) else height for height in row] for row in cells]
+        tallies = {
+            1: [matching.tally(made, grid["cell"], region) for region in regions],
+            3: [matching.tally_with_bridges(cells, made, grid["cell"], region) for region in regions],
+        }
+        for region, row in zip(regions, tallies[3]):
+            page.holds(f"tally_of {cells_of(grid, made)} {cells_of(grid, cells)} {area_of(region)}", tally_of(row))
+        for version, rows in tallies.items():
+            table = f"table_text {COLUMNS_OF[version]} {listed(regions, area_of)} {listed(rows, tally_of)}"
+            page.holds(table, text(reference.table_text(regions, rows, version)))
     for name in ["", "a", "A z_-.09", "a,b", 'a"b', "a/b", "é", "x" * 64, "x" * 65, " ", "a\nb", *"@[`{:"]:
         is_name = re.fullmatch("[A-Za-z0-9 _.-]{1,64}", name) is not None
         page.holds(f"is_region_name {listed(name.encode())}", truth(is_name))
@@ -639,19 +668,21 @@ def reports(draw):
 
 
 def settings_of(calibration):
-    return " ".join([
-        "(Ok (settings",
-        record(first=whole(calibration.first), count=calibration.count),
-        record(width=calibration.window[0], height=calibration.window[1]),
-        RULE_OF[calibration.version],
-        penalties_of(calibration.p1, calibration.p2, calibration.is_adaptive),
-        warp_of(calibration.left),
-        warp_of(calibration.right),
-        option(calibration.camera, camera_of),
-        option(calibration.grid, spec_of),
-        option(calibration.regions, lambda regions: listed(regions, area_of)),
-        "))",
-    ])
+    made = record(
+        span=record(first=whole(calibration.first), count=calibration.count),
+        fine=truth(calibration.is_fine),
+        window=record(width=calibration.window[0], height=calibration.window[1]),
+        rule=RULE_OF[calibration.version],
+        penalties=penalties_of(calibration.p1, calibration.p2, calibration.is_adaptive),
+        left=warp_of(calibration.left),
+        right=warp_of(calibration.right),
+        camera=option(calibration.camera, camera_of),
+        grid=option(calibration.grid, spec_of),
+        gridding=record(keep=calibration.keep.capitalize(), bridge=calibration.bridge),
+        columns=COLUMNS_OF[calibration.version],
+        regions=option(calibration.regions, lambda regions: listed(regions, area_of)),
+    )
+    return f"(Ok {made})"
 
 
 DATA = "unsigned negative float null boolean number string array object no_items item no_members member"
@@ -686,7 +717,8 @@ def calibrations(draw):
             "sgm_rectify.specs.declared.warp.Warp.TheVariants": "Identity Projective Mesh",
             "sgm_calib.specs.declared.keys.CalibFault": "CalibFault",
             "sgm_calib.Paths": "",
-            "sgm_calib.Calibration": "Calibration settings",
+            **KEEPS,
+            "sgm_calib.Calibration": "Calibration",
             "sgm_calib.Checks": "",
             "sgm_calib.Numbers": "",
             "sgm_calib.Rows": "",
@@ -696,7 +728,7 @@ def calibrations(draw):
             "sgm_calib.Judge": "",
             "sgm_outcome.Lines": "calib_line",
         },
-        "abbrev with_line : Result Calibration CalibFault → Result Calibration (List ℕ)\n"
+        COLUMNS + "abbrev with_line : Result Calibration CalibFault → Result Calibration (List ℕ)\n"
         "with_line (Ok calib) = Ok calib\n"
         "with_line (Err fault) = Err (calib_line fault)\n",
         given="real",
@@ -819,11 +851,15 @@ def surveys(draw):
             "sgm_refine.Segments": "",
             "sgm_refine.Filling": "",
             "sgm_refine.Refined": "",
+            **KEEPS,
             "sgm_grid.Cells": "cells_of",
-            "sgm_calib.Calibration": "settings",
+            "sgm_grid.Keeping": "",
+            "sgm_grid.Bridges": "",
+            "sgm_fine.Making": "",
             "sgm_job.Heights": "",
             "sgm_job.Survey": "survey_of",
         },
+        COLUMNS,
     )
     calibration = inputs.read_calibration(WORKED["c.json"])
     pairs = [[inputs.read_pgm(WORKED[name], name) for name in ("l.pgm", "r.pgm")]]
@@ -834,6 +870,7 @@ def surveys(draw):
     cases = [(pair, kinds[0]) for pair in pairs] + [(pairs[1], kind) for kind in kinds[1:]]
     for (left, right), (version, is_adaptive, peak, fill) in cases:
         calibration.version, calibration.is_adaptive = version, is_adaptive
+        calibration.keep, calibration.bridge = ("mean", 2) if version == 3 else ("highest", 0)
         settings = settings_of(calibration)[len("(Ok ") : -len(")")]
         found, cells, tallies = matching.survey(left, right, calibration, peak=peak, fill=fill)
         answer = record(
@@ -870,7 +907,7 @@ def calls(draw):
             "sgm_grid.Words": "",
             "sgm_grid.Asc": "asc_reading",
             "sgm_change.Changes": "",
-            "sgm_calib.Calibration": "settings",
+            **KEEPS,
             "sgm_job.Survey": "",
             "sgm_outcome.specs.declared.outcome.Refusal": "Refusal",
             "sgm_outcome.Lines": "refusal_line",
@@ -878,7 +915,7 @@ def calls(draw):
             "sgm_app.Certificates": "certificate_for",
             "sgm_app.Changing": "GridTexts change_for",
         },
-        "abbrev with_line : {X : Type 0} → Result X Refusal → Result X (List ℕ)\n"
+        COLUMNS + "abbrev with_line : {X : Type 0} → Result X Refusal → Result X (List ℕ)\n"
         "with_line (Ok made) = Ok made\n"
         "with_line (Err refusal) = Err (refusal_line refusal)\n",
     )

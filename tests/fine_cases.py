@@ -175,6 +175,7 @@ def kinds_of_scores(own, e, value, count):
     yield f"change {c}"
     alike = [other for other in scores if scores[other] == best]
     yield from some(tie_of_both_signs=c < 0 and -c in alike, tie_with_0=c == 0 and len(alike) > 1)
+    yield from some(tie_beside_0=c == -1 and 1 in alike)
     yield from some(to_the_least=value + c == 0, to_the_greatest=value + c == 16 * (count - 1))
     beyond = {c: matching.score(*both) for c, both in matching.judged(own, e, 2048, 256).items()}
     is_better = [c for c in beyond if beyond[c] > best]
@@ -193,7 +194,7 @@ KINDS += ["slope of 64", "nothing beside", "nothing above", "mean rounded up", "
 KINDS += ["left void", "left outside", "right void", "right outside"]
 KINDS += ["some B too small", "all B too small", "no A above 0", "greatest A B and V"]
 KINDS += ["less than a third", "just below a third", "exactly a third", "just above a third"]
-KINDS += ["tie of both signs", "tie with 0", "to the least", "to the greatest"]
+KINDS += ["tie of both signs", "tie beside 0", "tie with 0", "to the least", "to the greatest"]
 KINDS += ["better below the span", "better above the span", "one disparity", "the value 4080"]
 KINDS += ["one row", "one column", "four by four"]
 KINDS += ["least first", "greatest first", "negative first"]
@@ -202,6 +203,27 @@ KINDS += [f"not {name}" for name in NEIGHBOURS]
 
 # Cases
 
+# Turned by half about their middles, (4, 2) and (3, 2), both windows are the same; the best changes are
+# -1 and 1.
+NEAREST_TIE = Case(
+    left=[
+        [42, 51, 76, 52, 24, 50, 77, 56, 17],
+        [107, 90, 34, 34, 69, 85, 84, 44, 81],
+        [17, 20, 43, 85, 107, 85, 43, 31, 56],
+        [14, 30, 84, 85, 69, 34, 34, 83, 67],
+        [62, 66, 77, 50, 24, 52, 76, 56, 56],
+    ],
+    right=[
+        [42, 92, 54, 8, 51, 89, 62, 6, 15],
+        [107, 15, 28, 78, 82, 105, 14, 91, 114],
+        [17, 37, 90, 117, 90, 37, 17, 78, 23],
+        [14, 105, 82, 78, 28, 15, 107, 71, 13],
+        [62, 89, 51, 8, 54, 92, 42, 73, 15],
+    ],
+    found=[9 * [16]] * 5,
+    count=3,
+)
+
 
 def worked_cases():
     """A slope, a tie, each reason for which a value stays, and the ends of the span."""
@@ -209,6 +231,7 @@ def worked_cases():
     # Its map has a 60, for which a fifth disparity has to be among those that are tried.
     yield Case(slope.left, slope.right, slope.found, 5)
     yield tie
+    yield NEAREST_TIE
     yield Case(changed(tie.left, (6, 4, None)), tie.right, plain, 3)
     yield Case(tie.left, changed(tie.right, (0, 0, None)), plain, 3)
     yield Case(tie.left, tie.right, [9 * [20]] * 5, 3)

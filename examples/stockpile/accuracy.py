@@ -9,6 +9,8 @@ prints tables in Markdown, all of them where none is named:
     pixels   the error of the disparity on the cone and on the ground;
     cells    the heap's volume above the measured ground, and how many cells are empty, over sizes of cells;
     heights  the same for cells of 100 and 125 mm, from four heights of the cameras;
+    volumes  the heap's volume above the measured ground by calibration_3.json, which has finer disparities, cells by
+             their mean and bridges, from eight heights of the cameras and over sizes of cells;
     settings the error of the disparity on the cone and the heap's volume, over windows and penalties;
     tilt     values that gather at whole disparities, on ground that rises by 1 in 8;
     texture  level ground that has less and less texture.
@@ -20,7 +22,8 @@ is measured twice from the same sums: in sixteenths, as the program does, and in
 be without them. What is true is computed for each pixel from the ray that goes through it. The disparities,
 points and cells are those of the definitions (tests/reference_matching.py); tests/compare.sh shows that the
 program's are the same. These numbers are for people, and use floating point. Takes half a minute to a minute of
-a processor for each pair and setting, of which there are fifteen.
+a processor for each pair and setting, of which there are fifteen; volumes takes some seconds for each of its eight
+pairs, and needs numpy (tests/quick_reference.py).
 """
 
 import argparse
@@ -43,6 +46,8 @@ HEIGHTS = (8_000_000, 8_130_000)
 # Over these the ground's disparity goes through one pixel, by about a quarter each.
 MORE_HEIGHTS = (8_000_000, 8_060_000, 8_130_000, 8_200_000)
 CELLS = (50_000, 100_000, 125_000, 150_000, 250_000)
+ALL_HEIGHTS = (8_000_000, 8_030_000, 8_060_000, 8_090_000, 8_130_000, 8_160_000, 8_200_000, 8_250_000)
+ALL_CELLS = (50_000, 75_000, 100_000, 125_000, 150_000, 250_000)
 METRE = 1_000_000
 # Windows and first penalties beside the example's own. Its second penalty is kept.
 SETTINGS = (((7, 7), 24), ((7, 5), 10), ((7, 5), 17), ((5, 5), 14))
@@ -55,8 +60,8 @@ GROUND = (5_475_000, 7_600_000, -3_000_000, 3_000_000)
 WRONG = 1.5
 
 
-def calibration():
-    with open(os.path.join(HERE, "calibration.json"), "rb") as file:
+def calibration(name="calibration.json"):
+    with open(os.path.join(HERE, name), "rb") as file:
         return inputs.read_calibration(file.read())
 
 
@@ -249,9 +254,8 @@ def regions(grid):
     return pile, region(grid, *up(left, below), *down(right, above))
 
 
-def heap_volume(found, mount, cell):
-    """Empty cells, cells in all, the ground's height, and the errors of the volume above it and above 0."""
-    settings, grid = calibration(), grid_of(cell)
+def points_of(found, settings, mount):
+    """The points that a map of disparities shows from cameras at that height."""
     camera = {**settings.camera, "mount": mount}
     points = [
         matching.point(camera, x, y, 16 * settings.first + value)
@@ -259,7 +263,14 @@ def heap_volume(found, mount, cell):
         for x, value in enumerate(row)
         if value is not None
     ]
-    cells = matching.heights([it for it in points if it is not None], grid)
+    return [it for it in points if it is not None]
+
+
+def heap_volume(found, mount, cell, settings=None):
+    """Empty cells, cells in all, the ground's height, and the errors of the volume above it and above 0."""
+    settings, grid = settings or calibration(), grid_of(cell)
+    cells = matching.heights(points_of(found, settings, mount), grid, settings.keep)
+    cells = matching.bridged(cells, cell, settings.bridge)
     pile, ground = (["", *matching.tally(cells, cell, it)] for it in regions(grid))
     base = cubic_metres.mean_height(ground, 0, cell)
     error = lambda height: cubic_metres.net_above(pile, 0, cell, height) / compare_truth.true_volume() - 1
@@ -293,6 +304,17 @@ def heights():
             lines.append(line)
     kinds = ["whole: ground", "volume", "sixteenths: ground", "volume"]
     print_table(["Cameras", "Ground's disparity", "Cell", *kinds], lines)
+
+
+def volumes():
+    import quick_reference
+
+    settings, lines = calibration("calibration_3.json"), []
+    for mount in ALL_HEIGHTS:
+        found, _ = quick_reference.match_planes(*pictures(Heap(mount)), None, settings)
+        above = [heap_volume(found, mount, cell, settings)[3] for cell in ALL_CELLS]
+        lines.append([f"{mount / METRE:.2f} m", f"{disparity_at(mount):.2f}", *(f"{100 * it:+.2f} %" for it in above)])
+    print_table(["Cameras", "Ground's disparity", *(f"{cell // 1000} mm" for cell in ALL_CELLS)], lines)
 
 
 def is_inner(x, y):
@@ -355,6 +377,7 @@ TABLES = {
     "pixels": pixels,
     "cells": cells,
     "heights": heights,
+    "volumes": volumes,
     "settings": settings,
     "tilt": tilt,
     "texture": texture,
