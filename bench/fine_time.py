@@ -57,7 +57,7 @@ def print_table(name, words, turns):
         more = statistics.median(it[at][1] - it[at][0] for it in turns)
         each = more / turns[0][at][2] * 1e6
         first = first or each
-        print(bench.row(name, str(workers), f"{plain:.3f}", f"{fine:.3f}", f"{more:.3f}", f"{each:.3f}", f"{first / each:.1f}"))
+        bench.row(name, str(workers), *(f"{it:.3f}" for it in (plain, fine, more, each)), f"{first / each:.1f}")
 
 
 def words_of():
@@ -74,7 +74,7 @@ def words_of():
 def main():
     words = words_of()
     os.environ.setdefault("GLIBC_TUNABLES", bench.TUNABLES)
-    programs = [bench.SGM] + [os.path.realpath(words.beside)] * bool(words.beside)
+    programs = [bench.SGM, *([os.path.realpath(words.beside)] if words.beside else [])]
     width, height = (int(side) for side in words.size.split("x"))
     with tempfile.TemporaryDirectory() as folder:
         pair = bench.write_pair(folder, width, height)
@@ -84,8 +84,8 @@ def main():
             for program in programs:
                 turns[program].append(turn(program, pair, settings, words, folder))
     print(f"{words.size}, {words.count} disparities, {words.strips} strips, {words.turns} turns, {bench.processor()}\n")
-    print(bench.row("Program", "Workers", "Plain, s", "Fine, s", "More, s", "More a value, us", "Times as fast"))
-    print(bench.row(*["---"] * 7))
+    bench.row("Program", "Workers", "Plain, s", "Fine, s", "More, s", "More a value, us", "Times as fast")
+    bench.row(*["---"] * 7)
     for program in programs:
         print_table(os.path.basename(program), words, turns[program])
     return 0

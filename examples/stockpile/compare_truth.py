@@ -46,8 +46,10 @@ def read_heights(name):
 
 
 def read_report(name):
+    """The lines of a report, without how many cells are bridged, which version 3 says."""
     with open(name, encoding="ascii", newline="") as file:
-        return list(csv.DictReader(file))
+        lines = list(csv.DictReader(file))
+    return [{key: word for key, word in line.items() if key != "bridged"} for line in lines]
 
 
 def true_height(x, y):
