@@ -1,5 +1,10 @@
+pub mod Backwards
 pub mod Cells
 pub mod Counted
+pub mod Crossings
+pub mod Insides
+pub mod Marks
 pub mod Plain
+pub mod Planes
 pub mod Regions
 pub mod Rows

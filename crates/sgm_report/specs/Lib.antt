@@ -1,3 +1,5 @@
+pub mod Bases
+pub mod Outlines
 pub mod Areas
 pub mod Tallies
 pub mod Sums

@@ -18,9 +18,9 @@ pub enum Columns {
     Bridged,
 }
 
-/// Adds the table of the regions: a line that names the columns, then a line for each region in order,
-/// with commas between the fields. The lowest and the highest height are left empty where no cell has
-/// one. `into` is unchanged on Err.
+/// Adds the table of the regions: a line that names the columns, then a line for each region in
+/// order, with commas between the fields. The lowest and the highest height are left empty where no
+/// cell has one. `into` is unchanged on Err.
 pub fn write_report(
     regions: &[Region],
     tallies: &[RegionTally],

@@ -5,6 +5,6 @@ use Rattle.sgm_report.proofs.volumes.sums_of.Given as goal
 
 abbrev pub invariant-loop-row : goal.invariant-loop-row
 invariant-loop-row l = record {
-  value : l.sums ≡ sums_over l.region.base (first_rows l.grid l.region (l.row - l.region.row));
+  value : l.sums ≡ sums_over (first_rows l.layers.grid.now l.layers.measured.now l.region (l.row - l.region.row));
   room : HasRoom l.sums ((l.region.row + l.region.rows - l.row) * l.region.cols);
 }
