@@ -7,8 +7,8 @@ use Rattle.sgm_grid.specs.declared.limits.TheConstants.{MAX_BRIDGE}
 use Rattle.sgm_calib.specs.declared.place.TheConstants.{PLAIN}
 use Rattle.sgm_calib.specs.declared.sort.Sort.{Sort}
 use Rattle.sgm_calib.specs.Rows.{Row, IsCount, number_of, count_of, is_since}
-use Rattle.sgm_calib.specs.Checks.{keys_fault}
-use Rattle.sgm_calib.specs.Judge.{sort_of, itself_fault, held_fault, section_fault}
+use Rattle.sgm_calib.specs.Checks.{keys_fault, sort_of}
+use Rattle.sgm_calib.specs.Judge.{itself_fault, held_fault, section_fault}
 use Rattle.sgm_calib.specs.Table as table
 use Rattle.sgm_calib.specs.Table.{given_rows, rows_in}
 use Rattle.sgm_calib.proofs.KeyLemmas.{fault-behind}

@@ -15,9 +15,9 @@ use Rattle.sgm_calib.specs.declared.place.TheConstants.{PLAIN}
 use Rattle.sgm_calib.specs.Rows.{Row, key_at, is_required}
 use Rattle.sgm_calib.specs.Table as table
 use Rattle.sgm_calib.specs.Table.{rows_in}
-use Rattle.sgm_calib.specs.Checks.{typed_in, or_out_of_range, text_in, key_fault, keys_fault}
+use Rattle.sgm_calib.specs.Checks.{typed_in, or_out_of_range, text_in, key_fault, keys_fault, sort_of}
 use Rattle.sgm_calib.specs.WarpKeys.{rows_of_kind, mesh_fault}
-use Rattle.sgm_calib.specs.Judge.{sort_of, itself_fault_of, itself_fault, held_fault, section_fault}
+use Rattle.sgm_calib.specs.Judge.{itself_fault_of, itself_fault, held_fault, section_fault}
 
 -- a key that is wrong is the first fault of it and later keys; one that is right leaves the first fault to those
 pub fault-here : (place : Place) (d : Data) (row : Row) (rows : List Row) (fault : CalibFault)

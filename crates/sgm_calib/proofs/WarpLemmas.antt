@@ -2,11 +2,10 @@
 use Rattle.std.proofs.Common.{◌≡◌, ℕ, ◌+◌, ◌<◌, ℤ, pos, List, [], ◌∷◌, ◌++◌, map, length, get_or, drop, refl, ap, sym, ◌∙◌, append_assoc, append-nil, arith, All, subst, w32, w64, to_z, of_z}
 use Rattle.std.proofs.lemmas.Int.{ints}
 use Rattle.std.proofs.lemmas.List.{length-map, ext_get_or, at_drop_more, length-drop}
-use Rattle.std.proofs.lemmas.List.Elements.{All-same, All-push}
+use Rattle.std.proofs.lemmas.List.Elements.{All-cons, All-drop, All-map}
 use Rattle.serde_json.specs.View.{view}
 use Rattle.serde_json.specs.declared.value.Value.{Value}
-use Rattle.sgm_rectify.specs.Warps.{IsCoordinate, IsNode}
-use Rattle.sgm_calib.specs.WarpKeys.{pairs}
+use Rattle.sgm_calib.specs.WarpKeys.{IsWithin32, pairs}
 use Rattle.sgm_calib.proofs.ListLemmas.{amount}
 
 -- the whole numbers of values
@@ -52,17 +51,21 @@ pairs-kept vs i next u v node places more inside is_next is_u is_v is_node pushe
     ∙ ap (λ ps. places ++ ps) (sym (pairs-more vs i next u v inside is_next is_u is_v))
     ∙ kept
 
--- a coordinate stays itself in 32 bits
-pub narrowed : (a u : ℤ) → a ≡ u → IsCoordinate u → to_z w32 (of_z w32 (to_z w64 (of_z w64 a))) ≡ u
+-- a number of 32 bits stays itself there
+pub narrowed : (a u : ℤ) → a ≡ u → IsWithin32 u → to_z w32 (of_z w32 (to_z w64 (of_z w64 a))) ≡ u
 narrowed a u is (low, high) = omega (arith, ints, is, low, high)
 
-pub nodes-kept : (node : ℤ × ℤ) (places more : List (ℤ × ℤ)) → IsNode node → more ≡ places ++ node ∷ [] → All IsNode places → All IsNode more
-nodes-kept node places more in_range pushed kept = All-same IsNode more (places ++ node ∷ []) pushed (All-push IsNode places node kept in_range)
+-- what holds of all numbers holds of both of each pair
+pub pairs-all : (P : ℤ → Type 0) (zs : List ℤ) → All P zs → All (λ (pair : ℤ × ℤ). P pair.0 × P pair.1) (pairs zs)
+pairs-all P [] each = λ i pair lt. absurd (omega (arith, lt))
+pairs-all P (u ∷ []) each = λ i pair lt. absurd (omega (arith, lt))
+pairs-all P (u ∷ v ∷ more) each =
+    All-cons (λ (pair : ℤ × ℤ). P pair.0 × P pair.1) (u, v) (pairs more) (each 0 u (omega arith), each 1 u (omega arith))
+    (pairs-all P more (All-drop P 2 (u ∷ v ∷ more) each))
 
-pub is_node : (vs : List Value) (i : ℕ) (u v : Value) (node : ℤ × ℤ) → All (λ w. IsCoordinate (amount (view w))) vs
-    → i + 1 < length vs → u ≡ get_or vs i u → v ≡ get_or vs (i + 1) v → node ≡ (amount (view u), amount (view v)) → IsNode node
-is_node vs i u v node in_range inside is_u is_v is_made =
-    subst (λ n. IsNode n) (sym is_made) (
-      subst (λ w. IsCoordinate (amount (view w))) (sym is_u) (in_range i u (omega (arith, inside))),
-      subst (λ w. IsCoordinate (amount (view w))) (sym is_v) (in_range (i + 1) v inside),
-    )
+-- the pairs of values in range
+pub pairs_kept : (P : ℤ → Type 0) (vs : List Value) (places : List (ℤ × ℤ)) → places ≡ pairs (amounts vs)
+    → All (λ w. P (amount (view w))) vs → All (λ (pair : ℤ × ℤ). P pair.0 × P pair.1) places
+pairs_kept P vs places are each =
+    subst (λ (ps : List (ℤ × ℤ)). All (λ (pair : ℤ × ℤ). P pair.0 × P pair.1) ps) (sym are)
+    (pairs-all P (amounts vs) (All-map P (λ v. amount (view v)) vs each))

@@ -1,6 +1,6 @@
--- The checks of one key, of one object and of one list. For a key the order is that it is missing, its type, its range; for
--- an object its type, an unknown name, its keys.
-use Rattle.std.specs.Prelude.{◌≡◌, ⊤, ℕ, ◌==◌, ◌*◌, ℤ, pos, Bool, true, false, ◌&&◌, not, if◌then◌else◌, List, [], ◌∷◌, ◌++◌, length, IsTrue, is_none, is_some, map, Option, Some, None, unwrap_or, Result, Ok, Err}
+-- The checks of one key, of one object and of one list. For a key the order is that it is missing,
+-- its type, its range; for an object its type, an unknown name, its keys.
+use Rattle.std.specs.Prelude.{◌≡◌, ⊤, ℕ, ◌≤◌, ◌==◌, ◌*◌, ◌/◌, ◌%◌, nat_le, ℤ, pos, Bool, true, false, ◌&&◌, not, if◌then◌else◌, List, [], ◌∷◌, ◌++◌, length, IsTrue, is_none, is_some, map, Option, Some, None, unwrap_or, Result, Ok, Err}
 use Rattle.std.specs.List.{list_all}
 use Rattle.std.specs.Option.{option_or}
 use Rattle.std.specs.Result.{result_err}
@@ -13,11 +13,15 @@ use Rattle.sgm_calib.specs.declared.keys.CalibError.{CalibError}
 use Rattle.sgm_calib.specs.declared.keys.CalibError.TheVariants.{Fault, NoMemory}
 use Rattle.sgm_calib.specs.declared.place.Place.{Place}
 use Rattle.sgm_calib.specs.declared.sort.Sort.{Sort}
+use Rattle.sgm_calib.specs.declared.sort.Sort.TheVariants.{Version}
 use Rattle.sgm_calib.specs.Keeps.{is_keep}
 use Rattle.sgm_calib.specs.Kinds.{is_kind}
-use Rattle.sgm_calib.specs.Rows.{Row, Form, object as object_form, warps, kind, name as name_form, keep as keep_form, truth, regions, matrix, nodes, key_at, whole, count_of, is_in_range}
+use Rattle.sgm_calib.specs.Rows.{Row, Form, object as object_form, warps, kind, name as name_form, keep as keep_form, truth, regions, matrix, nodes, key_at, corners, whole, count_of, is_in_range}
+use Rattle.sgm_calib.specs.declared.lists.Amount.{Amount}
+use Rattle.sgm_calib.specs.declared.lists.Amount.TheVariants.{Exactly, Corners}
 use Rattle.sgm_report.specs.Areas.{is_region_name}
-use Rattle.sgm_calib.specs.Table.{is_known, mesh_cols, mesh_rows}
+use Rattle.sgm_report.specs.declared.outline.TheConstants.{MAX_CORNERS, MIN_CORNERS}
+use Rattle.sgm_calib.specs.Table.{is_known, mesh_cols, mesh_rows, version}
 
 -- the first fault of some checks
 abbrev pub first_of : List (Option CalibFault) → Option CalibFault
@@ -68,7 +72,8 @@ abbrev pub members_fault : Key → Row → Sort → Option Members → Option Ca
 members_fault key holder sort None = Some (Type_ key)
 members_fault key holder sort (Some ms) = unknown_fault key (has_only holder sort ms)
 
--- what is wrong with an object itself: its type, or a name that the table doesn't give an object of that sort
+-- what is wrong with an object itself: its type, or a name that the table doesn't give an object of
+-- that sort
 unfoldable pub object_fault : Place → Row → Sort → Data → Option CalibFault
 object_fault place holder sort d = members_fault (key_at place holder) holder sort (as_object d)
 
@@ -98,21 +103,33 @@ numbers d = map (λ e. unwrap_or (whole e) (pos 0)) (elements d)
 abbrev pub is_number_list : Data → Bool
 is_number_list d = is_some (as_array d) && list_all (λ e. is_some (whole e)) (elements d)
 
--- whether a list has so many numbers, all in their range
-abbrev pub is_full : ℕ → (ℤ → Bool) → List ℤ → Bool
-is_full count range zs = (length zs == count) && list_all range zs
+-- whether a list may have so many numbers: exactly those, or two for each corner of an outline
+abbrev pub may_have : Amount → ℕ → Bool
+may_have (Exactly wanted) count = count == wanted
+may_have Corners count =
+    (count % 2 == 0) && nat_le MIN_CORNERS (count / 2) && nat_le (count / 2) MAX_CORNERS
 
-abbrev pub numbers_fault_of : Key → ℕ → (ℤ → Bool) → Option Data → Option CalibFault
-numbers_fault_of key count range None = Some (Missing key)
-numbers_fault_of key count range (Some d) =
+-- a list that may have so many
+abbrev pub Allows : Amount → ℕ → Type 0
+Allows (Exactly wanted) count = count ≡ wanted
+Allows Corners count = (count % 2 ≡ 0) × (MIN_CORNERS ≤ count / 2) × (count / 2 ≤ MAX_CORNERS)
+
+-- whether a list has as many numbers as it may have, all in their range
+abbrev pub is_full : Amount → (ℤ → Bool) → List ℤ → Bool
+is_full amount range zs = may_have amount (length zs) && list_all range zs
+
+abbrev pub numbers_fault_of : Key → Amount → (ℤ → Bool) → Option Data → Option CalibFault
+numbers_fault_of key amount range None = Some (Missing key)
+numbers_fault_of key amount range (Some d) =
     if not (is_number_list d) then Some (Type_ key)
-    else if not (is_full count range (numbers d)) then Some (Range key)
+    else if not (is_full amount range (numbers d)) then Some (Range key)
     else None
 
--- What is wrong with a list of so many whole numbers in its object: it is missing, its type or an element's, its count or an
--- element's range.
-unfoldable pub numbers_fault : Place → Data → Row → ℕ → Option CalibFault
-numbers_fault place holder row count = numbers_fault_of (key_at place row) count (is_in_range row.form place holder) (get row.name holder)
+-- What is wrong with a list of so many whole numbers in its object: it is missing, its type or an
+-- element's, its count or an element's range.
+unfoldable pub numbers_fault : Place → Data → Row → Amount → Option CalibFault
+numbers_fault place holder row amount =
+    numbers_fault_of (key_at place row) amount (is_in_range row.form place holder) (get row.name holder)
 
 -- ---- keys whose values have no keys of their own
 
@@ -132,8 +149,10 @@ key_fault_of kind place holder row = result_err (text_in is_kind place holder ro
 key_fault_of name_form place holder row = result_err (text_in is_region_name place holder row)
 key_fault_of keep_form place holder row = result_err (text_in is_keep place holder row)
 key_fault_of truth place holder row = result_err (typed_in as_bool place holder row)
-key_fault_of (matrix low high) place holder row = numbers_fault place holder row 9
-key_fault_of (nodes low high) place holder row = numbers_fault place holder row (node_numbers holder)
+key_fault_of (matrix low high) place holder row = numbers_fault place holder row (Exactly 9)
+key_fault_of (nodes low high) place holder row =
+    numbers_fault place holder row (Exactly (node_numbers holder))
+key_fault_of (corners low high) place holder row = numbers_fault place holder row Corners
 key_fault_of _ place holder row = result_err (number_in place holder row)
 
 -- what is wrong with a key of an object
@@ -149,6 +168,10 @@ abbrev pub wholes_fault : Place → Data → List Row → Option CalibFault
 wholes_fault place holder rows = first_of (map (λ row. result_err (number_in place holder row)) rows)
 
 -- ---- values
+
+-- the objects of a value go by its version
+unfoldable pub sort_of : Data → Sort
+sort_of top = Version (count_of version top)
 
 -- the value of a key in its object
 abbrev pub value_of : Row → Data → Data

@@ -24,17 +24,13 @@ use Rattle.sgm_calib.specs.Keeps.{keep_named}
 use Rattle.sgm_calib.specs.Table as table
 use Rattle.sgm_calib.specs.Table.{rows_in, span_of, window_of, penalties_of, camera_of, grid_of}
 use Rattle.sgm_calib.specs.Rows.{Row, Form, object, warps, regions, key_at, whole, count_of, truth_of, is_in_range, is_required, is_since}
-use Rattle.sgm_calib.specs.Checks.{first_of, typed_in, or_out_of_range, object_fault, type_fault, keys_fault, value_of, text_of}
+use Rattle.sgm_calib.specs.Checks.{first_of, typed_in, or_out_of_range, object_fault, type_fault, keys_fault, sort_of, value_of, text_of}
 use Rattle.sgm_calib.specs.WarpKeys.{warps_fault, warp_in}
 use Rattle.sgm_calib.specs.RegionKeys.{regions_fault, regions_in}
 
 -- what is wrong with the version: it is missing, its type, or it is none that is known
 unfoldable pub version_fault : Data → Option CalibFault
 version_fault top = result_err (or_out_of_range Version (is_in_range table.version.form PLAIN top) (typed_in whole PLAIN top table.version))
-
--- the objects of a value go by its version
-unfoldable pub sort_of : Data → Sort
-sort_of top = sort.Version (count_of table.version top)
 
 -- the costs of a value go by its version
 unfoldable pub rule_in : Data → CostRule

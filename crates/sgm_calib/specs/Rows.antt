@@ -15,10 +15,12 @@ use Rattle.sgm_calib.specs.declared.table.Form.TheVariants as code
 use Rattle.sgm_calib.specs.declared.table.Presence.{Presence as CodePresence}
 use Rattle.sgm_calib.specs.declared.table.Presence.TheVariants as code_presence
 
--- What the value of a key is, and which numbers are in range: an object; the object of the warps; the name of a kind of warp,
--- or of a region, or what a cell keeps; a truth value; one of which false alone is in range; the list of the regions; a whole number, which is
--- between two, odd and between two, from that of another key of the object on, a column or a row of the grid, or so many of
--- them as are left from another key's on; nine numbers, or two for each node of a mesh, each between two.
+-- What the value of a key is, and which numbers are in range: an object; the object of the warps;
+-- the name of a kind of warp, or of a region, or what a cell keeps; a truth value; the list of the
+-- regions; a whole number, which is between two, odd and between two, from that of another key of
+-- the object on, a column or a row of the grid, or so many of them as are left from another key's
+-- on; nine numbers, two for each node of a mesh, or two for each corner of an outline, each between
+-- two.
 pub data Form : Type 0 where
   object : Form
   warps : Form
@@ -36,18 +38,21 @@ pub data Form : Type 0 where
   lines_from : List ℕ → Form
   matrix : ℤ → ℤ → Form
   nodes : ℤ → ℤ → Form
+  corners : ℤ → ℤ → Form
 
--- whether a key has to be there: always, never, where another key stands in the object, or in the sides of one kind or the
--- objects from one version on, to which alone it is given
+-- whether a key has to be there: always, never, where another key stands in the object, or in the
+-- sides of one kind or the objects from one version on, to which alone it is given, or never there
+-- either
 pub data Presence : Type 0 where
   required : Presence
   optional : Presence
   with : List ℕ → Presence
   of_kind : List ℕ → Presence
   since : ℕ → Presence
+  optional_since : ℕ → Presence
 
--- a key's number, the number of the object that has it, its name there, its path as it is printed (of a region's what
--- follows the place in the list), and what is asked of it
+-- a key's number, the number of the object that has it, its name there, its path as it is printed
+-- (of a region's what follows the place in the list), and what is asked of it
 pub record Row : Type 0 where
   pub number : ℕ
   pub object : ℕ
@@ -73,6 +78,7 @@ form_meant (code.ColumnsFrom key) = columns_from key.now
 form_meant (code.LinesFrom key) = lines_from key.now
 form_meant (code.Matrix low high) = matrix low high
 form_meant (code.Nodes low high) = nodes low high
+form_meant (code.Corners low high) = corners low high
 
 abbrev pub presence_meant : CodePresence → Presence
 presence_meant code_presence.Required = required
@@ -80,6 +86,7 @@ presence_meant code_presence.Optional = optional
 presence_meant (code_presence.With key) = with key.now
 presence_meant (code_presence.OfKind key) = of_kind key.now
 presence_meant (code_presence.Since version) = since version
+presence_meant (code_presence.OptionalSince version) = optional_since version
 
 -- the row that a row of the code is
 abbrev pub meant : CodeRow → Row
@@ -134,6 +141,7 @@ least (odd low high) d = low
 least (from key high) d = whole_at key d
 least (matrix low high) d = low
 least (nodes low high) d = low
+least (corners low high) d = low
 least column d = pos 0
 least line d = pos 0
 least _ d = pos 1
@@ -144,6 +152,7 @@ greatest (odd low high) place d = high
 greatest (from key high) place d = high
 greatest (matrix low high) place d = high
 greatest (nodes low high) place d = high
+greatest (corners low high) place d = high
 greatest column place d = pos place.cols -ℤ pos 1
 greatest line place d = pos place.rows -ℤ pos 1
 greatest (columns_from key) place d = pos place.cols -ℤ whole_at key d
@@ -166,6 +175,7 @@ is_required optional d = false
 is_required (with key) d = is_some (get key d)
 is_required (of_kind key) d = true
 is_required (since version) d = true
+is_required (optional_since version) d = false
 
 abbrev pub is_side_of : List ℕ → Sort → Bool
 is_side_of key (Side side) = bytes_eq key (kind_name side)
@@ -180,4 +190,5 @@ is_since first _ = false
 abbrev pub is_given : Presence → Sort → Bool
 is_given (of_kind key) sort = is_side_of key sort
 is_given (since version) sort = is_since version sort
+is_given (optional_since version) sort = is_since version sort
 is_given _ sort = true

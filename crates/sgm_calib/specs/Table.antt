@@ -1,5 +1,6 @@
--- The key table of calibration files: a row for each key, in the order of the checks. The names of an object, the keys' paths
--- and the order of the checks follow from it. Behind it stands what the keys of an object become that holds no other.
+-- The key table of calibration files: a row for each key, in the order of the checks. The names of
+-- an object, the keys' paths and the order of the checks follow from it. Behind it stands what the
+-- keys of an object become that holds no other.
 use Rattle.std.specs.Prelude.{ℕ, ◌+◌, ◌==◌, ℤ, pos, neg_ℤ, Bool, ◌&&◌, List, [], ◌∷◌, ◌++◌, codes, filter, map}
 use Rattle.std.specs.List.{list_any, range_with_len}
 use Rattle.std.specs.Str.{bytes_eq}
@@ -13,8 +14,9 @@ use Rattle.sgm_grid.specs.declared.grid_spec.GridSpec.{GridSpec}
 use Rattle.sgm_grid.specs.declared.limits.TheConstants.{MAX_BRIDGE, MAX_CELL, MAX_HEIGHT, MAX_PLACE}
 use Rattle.sgm_height.specs.declared.camera.Camera.{Camera}
 use Rattle.sgm_height.specs.declared.limits.TheConstants.{MAX_BASELINE, MAX_DEPTH, MAX_FOCAL, MAX_MOUNT, MAX_OFFSET}
+use Rattle.sgm_report.specs.declared.base.TheConstants.{MAX_RISE}
 use Rattle.sgm_rectify.specs.declared.limits.TheConstants.{MAX_ENTRY, MAX_NODE, MAX_NODE_COUNT, MAX_STEP, MIN_ENTRY, MIN_NODE, MIN_NODE_COUNT, MIN_STEP}
-use Rattle.sgm_calib.specs.Rows.{Form, object, warps, kind, name, keep as keep_form, truth, regions, between, odd, from, column, line, columns_from, lines_from, matrix, nodes, Presence, required, optional, with, of_kind, since, Row, is_given, number_of, count_of, truth_of}
+use Rattle.sgm_calib.specs.Rows.{Form, object, warps, kind, name, keep as keep_form, truth, regions, between, odd, from, column, line, columns_from, lines_from, matrix, nodes, corners, Presence, required, optional, with, of_kind, since, optional_since, Row, is_given, number_of, count_of, truth_of}
 
 -- the row of a key of the value itself, and of a key of an object
 abbrev pub entry : ℕ → List ℕ → Form → Presence → Row
@@ -182,6 +184,16 @@ region_rows = key_of region 48 (codes "rows") (lines_from (codes "row"))
 abbrev pub region_base : Row
 region_base = key_of region 49 (codes "base") (within MAX_HEIGHT)
 
+abbrev pub region_rise_east : Row
+region_rise_east = given region 59 (codes "rise_east") (within MAX_RISE) (since 3)
+
+abbrev pub region_rise_north : Row
+region_rise_north = given region 60 (codes "rise_north") (within MAX_RISE) (since 3)
+
+abbrev pub region_outline : Row
+region_outline =
+    given region 61 (codes "outline") (corners (neg_ℤ MAX_PLACE) MAX_PLACE) (optional_since 3)
+
 -- the keys of each object, of the value itself those after its version
 abbrev pub top_keys : List Row
 top_keys = disparities ∷ census ∷ penalties ∷ warp ∷ camera ∷ grid ∷ region_list ∷ []
@@ -213,6 +225,9 @@ grid_keys = place_keys ++ gridding_keys
 abbrev pub region_keys : List Row
 region_keys = region_name ∷ region_col ∷ region_row ∷ region_cols ∷ region_rows ∷ region_base ∷ []
 
+abbrev pub rise_keys : List Row
+rise_keys = region_rise_east ∷ region_rise_north ∷ []
+
 -- the table
 unfoldable pub keys : List Row
 keys =
@@ -226,11 +241,14 @@ keys =
     ++ (camera ∷ camera_keys)
     ++ (grid ∷ grid_keys)
     ++ (region_list ∷ [])
-    ++ (region ∷ region_keys)
+    ++ (region ∷ region_keys ++ rise_keys ++ region_outline ∷ [])
 
--- their numbers in that order: from 1 to 49, with 51 behind 5, 50 behind 11, and 52 and 53 behind 41
+-- their numbers in that order: from 1 to 49, with 51 behind 5, 50 behind 11, and 52 and 53 behind
+-- 41; then 59 to 61
 abbrev pub order : List ℕ
-order = range_with_len 1 5 ++ 51 ∷ range_with_len 6 6 ++ 50 ∷ range_with_len 12 30 ++ 52 ∷ 53 ∷ range_with_len 42 8
+order =
+    range_with_len 1 5 ++ 51 ∷ range_with_len 6 6 ++ 50 ∷ range_with_len 12 30
+    ++ 52 ∷ 53 ∷ range_with_len 42 8 ++ range_with_len 59 3
 
 -- those of some keys that an object of that sort is given
 abbrev pub given_rows : Sort → List Row → List Row

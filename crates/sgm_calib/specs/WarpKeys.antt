@@ -1,9 +1,10 @@
 -- The keys of the warps: an object with one side each for the left and the right image. A side names its kind, and has the
 -- keys of that kind.
-use Rattle.std.specs.Prelude.{ℕ, ℤ, Bool, false, List, [], ◌∷◌, filter, Option, Some, None, unwrap_or}
+use Rattle.std.specs.Prelude.{ℕ, ℤ, pos, neg_ℤ, Bool, false, List, [], ◌∷◌, filter, Option, Some, None, unwrap_or}
 use Rattle.std.specs.Str.{bytes_eq}
 use Rattle.serde_json.specs.Data.{Data}
 use Rattle.serde_json.specs.Find.{get, as_object}
+use Rattle.sgm_base.specs.Ranges.{IsFromTo}
 use Rattle.sgm_rectify.specs.declared.warp.Warp.{Warp}
 use Rattle.sgm_rectify.specs.declared.warp.Warp.TheVariants as warp
 use Rattle.sgm_calib.specs.declared.kind.Kind.{Kind}
@@ -71,6 +72,10 @@ unfoldable pub warps_fault : Data → Option CalibFault
 warps_fault top = warps_fault_of (get table.warp.name top)
 
 -- ---- the warp that a side without a fault is
+
+-- whether a number fits 32 bits
+abbrev pub IsWithin32 : ℤ → Type 0
+IsWithin32 z = IsFromTo (neg_ℤ (pos 2147483648)) (pos 2147483647) z
 
 -- numbers by twos
 abbrev pub pairs : List ℤ → List (ℤ × ℤ)

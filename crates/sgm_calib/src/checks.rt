@@ -10,8 +10,8 @@ ghost use Rattle.serde_json.specs.Find.{as_bool, as_str, get};
 ghost use Rattle.sgm_calib.specs.Table as table;
 ghost use Rattle.sgm_calib.specs.Table.{is_known};
 ghost use Rattle.sgm_calib.specs.Rows.{key_at, whole, whole_at, number_of, IsCount, least, greatest, has_parity, is_in_range, is_required, is_since, is_given, truth_at, meant, form_meant, presence_meant};
-ghost use Rattle.sgm_calib.specs.Checks.{number_in, typed_in, wholes_fault, object_fault, text_of};
-ghost use Rattle.sgm_calib.specs.Judge.{sort_of, rule_in, columns_in, version_fault, top_fault, itself_fault};
+ghost use Rattle.sgm_calib.specs.Checks.{number_in, typed_in, wholes_fault, object_fault, text_of, sort_of};
+ghost use Rattle.sgm_calib.specs.Judge.{rule_in, columns_in, version_fault, top_fault, itself_fault};
 
 use crate::keys::{CalibFault, Key};
 use crate::place::{PLAIN, Place};
@@ -55,8 +55,11 @@ fn least(row: &Row, object: &Value) -> i64
     ensures { result ≡ least (form_meant row.now.form) (view object.now) }
 {
     match row.form {
-        Form::Between(low, _) | Form::Odd(low, _) | Form::Matrix(low, _) | Form::Nodes(low, _) =>
-            low,
+        Form::Between(low, _)
+        | Form::Odd(low, _)
+        | Form::Matrix(low, _)
+        | Form::Nodes(low, _)
+        | Form::Corners(low, _) => low,
         Form::From(name, _) => number_at(object, name),
         Form::Column | Form::Line => 0,
         _ => 1,
@@ -71,7 +74,8 @@ fn greatest(row: &Row, place: Place, object: &Value) -> i128
         | Form::Odd(_, high)
         | Form::From(_, high)
         | Form::Matrix(_, high)
-        | Form::Nodes(_, high) => i128::from(high),
+        | Form::Nodes(_, high)
+        | Form::Corners(_, high) => i128::from(high),
         Form::Column => i128::from(place.cols) - 1,
         Form::Line => i128::from(place.rows) - 1,
         Form::ColumnsFrom(name) => i128::from(place.cols) - i128::from(number_at(object, name)),
@@ -211,7 +215,7 @@ pub fn is_given(row: &Row, sort: Sort) -> bool
     match (row.presence, sort) {
         (Presence::OfKind(name), Sort::Side(kind)) => name == kind.name(),
         (Presence::OfKind(_), _) => false,
-        (Presence::Since(first), _) => is_since(first, sort),
+        (Presence::Since(first) | Presence::OptionalSince(first), _) => is_since(first, sort),
         _ => true,
     }
 }
@@ -255,7 +259,7 @@ pub fn check_object(value: &Value, object: &Row, place: Place, sort: Sort) -> Re
 }
 
 /// The sort of the objects that a value holds: they go by its version.
-#[tactic(auto, unfolding(crate::specs::Judge::sort_of))]
+#[tactic(auto, unfolding(crate::specs::Checks::sort_of))]
 pub fn sort_of(top: &Value) -> Sort
     ensures { result ≡ sort_of (view top.now) }
 {
@@ -291,7 +295,7 @@ fn is_required(row: &Row, object: &Value) -> bool
     ensures { result ≡ is_required (presence_meant row.now.presence) (view object.now) }
 {
     match row.presence {
-        Presence::Optional => false,
+        Presence::Optional | Presence::OptionalSince(_) => false,
         Presence::With(name) => object.get(name).is_some(),
         _ => true,
     }

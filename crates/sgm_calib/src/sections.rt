@@ -15,9 +15,9 @@ ghost use Rattle.sgm_energy.specs.Pens.{penalties_of as seen};
 ghost use Rattle.sgm_calib.specs.Keeps.{keep_named};
 ghost use Rattle.sgm_calib.specs.Table as table;
 ghost use Rattle.sgm_calib.specs.Rows.{number_of, count_of, truth_of, IsCount, meant, form_meant, presence_meant};
-ghost use Rattle.sgm_calib.specs.Checks.{key_fault, keys_fault, text_of, value_of};
+ghost use Rattle.sgm_calib.specs.Checks.{key_fault, keys_fault, text_of, value_of, sort_of};
 ghost use Rattle.sgm_calib.specs.Table.{given_rows, rows_in, span_of, window_of, penalties_of, camera_of, grid_of};
-ghost use Rattle.sgm_calib.specs.Judge.{section_fault, sort_of, camera_in, grid_in, gridding_in, gridding_of};
+ghost use Rattle.sgm_calib.specs.Judge.{section_fault, camera_in, grid_in, gridding_in, gridding_of};
 
 use crate::checks::{
     check_numbers, count_at, is_given, is_since, key_at, number_at, object_in, odd_or_whole,

@@ -1,6 +1,7 @@
-//! The key table: one row for each key of a calibration file, in the order of the checks. The names of an
-//! object, the keys' paths and the order of the checks follow from it, in code and in the definitions.
-//! Lists of rows are statics: a constant is written out anew at each use, and so is its proof.
+//! The key table: one row for each key of a calibration file, in the order of the checks. The names
+//! of an object, the keys' paths and the order of the checks follow from it, in code and in the
+//! definitions. Lists of rows are statics: a constant is written out anew at each use, and so is
+//! its proof.
 
 ghost use Rattle.std.specs.Prelude.{◌≡◌, map};
 ghost use Rattle.sgm_calib.specs.Rows.{meant};
@@ -15,6 +16,7 @@ use sgm_height::{MAX_BASELINE, MAX_DEPTH, MAX_FOCAL, MAX_MOUNT, MAX_OFFSET};
 use sgm_rectify::{
     MAX_ENTRY, MAX_NODE, MAX_NODE_COUNT, MAX_STEP, MIN_ENTRY, MIN_NODE, MIN_NODE_COUNT, MIN_STEP,
 };
+use sgm_report::MAX_RISE;
 
 /// What the value of a key is, and which numbers are in range.
 #[derive(Clone, Copy)]
@@ -51,6 +53,9 @@ pub enum Form {
     Matrix(i64, i64),
     /// A list of two whole numbers for each node of a mesh, each from the first to the second.
     Nodes(i64, i64),
+    /// A list of two whole numbers for each corner of an outline, each from the first to the
+    /// second.
+    Corners(i64, i64),
 }
 
 /// Whether a key has to be there.
@@ -64,6 +69,8 @@ pub enum Presence {
     OfKind(&'static str),
     /// Required from that version on, and an unknown name in the earlier ones.
     Since(u64),
+    /// Optional from that version on, and an unknown name in the earlier ones.
+    OptionalSince(u64),
 }
 
 /// A row of the table.
@@ -73,14 +80,15 @@ pub struct Row {
     /// The number of the object that has the key; 0 for the value itself.
     pub object: u8,
     pub name: &'static str,
-    /// The name after the path of the object. Of a key of a region it is what follows the region's place.
+    /// The name after the path of the object. Of a key of a region it is what follows the region's
+    /// place.
     pub path: &'static str,
     pub form: Form,
     pub presence: Presence,
 }
 
-/// A row: its number, its object's number and path, its name, its form, and its presence where it isn't
-/// required.
+/// A row: its number, its object's number and path, its name, its form, and its presence where it
+/// isn't required.
 macro_rules! key_row {
     ($number:literal in $object:literal $path:literal $name:literal: $form:expr) => {
         key_row!($number in $object $path $name: $form, Presence::Required)
@@ -120,6 +128,10 @@ const GRID_LINES: Form = Form::Between(1, MAX_GRID_LINES as i64);
 const BRIDGES: Form = Form::Between(0, MAX_BRIDGE as i64);
 
 const BASES: Form = Form::Between(-MAX_HEIGHT, MAX_HEIGHT);
+
+const RISES: Form = Form::Between(-MAX_RISE, MAX_RISE);
+
+const CORNERS: Form = Form::Corners(-MAX_PLACE, MAX_PLACE);
 
 const OF_MATRIX: Presence = Presence::OfKind("projective");
 
@@ -253,7 +265,17 @@ const REGION_ROWS: Row = key_row!(48 in 43 "]." "rows": Form::LinesFrom("row"));
 
 const REGION_BASE: Row = key_row!(49 in 43 "]." "base": BASES);
 
-/// The keys of a region behind its name, in the order of the checks.
+const RISE_EAST: Row = key_row!(59 in 43 "]." "rise_east": RISES, Presence::Since(3));
+
+pub const RISE_NORTH: Row = key_row!(60 in 43 "]." "rise_north": RISES, Presence::Since(3));
+
+pub const OUTLINE: Row = key_row!(61 in 43 "]." "outline": CORNERS, Presence::OptionalSince(3));
+
+/// The rises of a region's base, in the order of the checks.
+pub static RISE_KEYS: [Row; 2] = [RISE_EAST, RISE_NORTH];
+
+/// The keys of a region behind its name, in the order of the checks, but for those of later
+/// versions.
 pub static REGION_NUMBERS: [Row; 5] = [
     REGION_COL,
     REGION_ROW,
@@ -263,7 +285,7 @@ pub static REGION_NUMBERS: [Row; 5] = [
 ];
 
 /// The table, in the order of the checks.
-static KEYS: [Row; 53] = [
+static KEYS: [Row; 56] = [
     TOP,
     VERSION,
     DISPARITIES,
@@ -317,6 +339,9 @@ static KEYS: [Row; 53] = [
     REGION_COLS,
     REGION_ROWS,
     REGION_BASE,
+    RISE_EAST,
+    RISE_NORTH,
+    OUTLINE,
 ];
 
 /// The table, which is that of the definitions.

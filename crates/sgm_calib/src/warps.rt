@@ -5,6 +5,7 @@ ghost use Rattle.serde_json.specs.View.{view};
 ghost use Rattle.sgm_rectify.specs.Warps.{IsWarp, IsEntry, IsNode, IsCoordinate};
 ghost use Rattle.sgm_rectify.specs.declared.limits.TheConstants.{MIN_STEP, MAX_STEP, MIN_NODE_COUNT, MAX_NODE_COUNT};
 ghost use Rattle.sgm_calib.specs.declared.kind.Kind.TheVariants.{Mesh};
+ghost use Rattle.sgm_calib.specs.declared.lists.Amount.TheVariants.{Exactly};
 ghost use Rattle.sgm_calib.specs.Table as table;
 ghost use Rattle.sgm_calib.specs.Rows.{whole, number_of, count_of, IsCount, meant, form_meant, presence_meant};
 ghost use Rattle.sgm_calib.specs.Checks.{first_of, object_fault, key_fault, keys_fault, numbers_fault, value_of, IsFaultOf};
@@ -13,7 +14,7 @@ ghost use Rattle.sgm_calib.specs.WarpKeys.{kind_of, rows_of_kind, shape_keys, me
 use crate::checks::{check_numbers, check_object, count_at, key_at, text};
 use crate::keys::{CalibError, CalibFault};
 use crate::kind::{Kind, kind_named};
-use crate::lists::{number, numbers};
+use crate::lists::{Amount, number, numbers, pairs};
 use crate::place::{PLAIN, Place, RIGHT_SIDE};
 use crate::sort::Sort;
 use crate::table::{KIND, LEFT, MATRIX, NODES, Row, SHAPE_KEYS, SIDES, WARP};
@@ -49,12 +50,14 @@ fn side_kind(side: &Value, place: Place) -> Result<Kind, CalibFault>
 #[tactic(auto, unfolding(crate::specs::WarpKeys::matrix_in))]
 fn matrix(side: &Value, place: Place) -> Result<[i64; 9], CalibFault>
     requires { place.shift ≤ 7 }
-    ensures ok { OnOk result (numbers_fault place (view side.now) table.side_matrix 9 ≡ None) }
+    ensures ok { OnOk result
+        (numbers_fault place (view side.now) table.side_matrix (Exactly 9) ≡ None) }
     ensures value { IfOk result (λ entries. entries ≡ matrix_in (view side.now)) }
     ensures range { IfOk result (λ entries. All IsEntry entries) }
-    ensures fault { IfErr result (λ f. numbers_fault place (view side.now) table.side_matrix 9 ≡ Some f) }
+    ensures fault { IfErr result
+        (λ f. numbers_fault place (view side.now) table.side_matrix (Exactly 9) ≡ Some f) }
 {
-    let items = numbers(side, &MATRIX, place, 9)?;
+    let items = numbers(side, &MATRIX, place, Amount::Exactly(9))?;
     let mut entries = [0; 9];
     for index in 0..9 {
         entries[index] = number(&items[index]);
@@ -95,15 +98,6 @@ fn mesh_shape(side: &Value, place: Place) -> Result<Shape, CalibFault>
     Ok(shape_at(side))
 }
 
-/// The node that two numbers are.
-fn node(u: &Value, v: &Value) -> (i32, i32)
-    requires u { IsCoordinate (unwrap_or (whole (view u.now)) (pos 0)) }
-    requires v { IsCoordinate (unwrap_or (whole (view v.now)) (pos 0)) }
-    ensures { result ≡ (unwrap_or (whole (view u.now)) (pos 0), unwrap_or (whole (view v.now)) (pos 0)) }
-{
-    (number(u) as i32, number(v) as i32)
-}
-
 /// The nodes that numbers are by twos.
 fn nodes(alloc: Global, items: &[Value]) -> Result<Vec<(i32, i32)>, AllocError>
     requires range { All (λ item. IsCoordinate (unwrap_or (whole (view item)) (pos 0))) items.now }
@@ -112,12 +106,7 @@ fn nodes(alloc: Global, items: &[Value]) -> Result<Vec<(i32, i32)>, AllocError>
     ensures count { IfOk result (λ places. length places.items ≡ length items.now / 2) }
     ensures range { IfOk result (λ places. All IsNode places.items) }
 {
-    let count = items.len() / 2;
-    let mut places = Vec::with_capacity(alloc, count)?;
-    for index in 0..count {
-        places.push(node(&items[2 * index], &items[2 * index + 1]))?;
-    }
-    Ok(places)
+    pairs(alloc, items)
 }
 
 /// The mesh that a side is, by its shape and its nodes.
@@ -131,7 +120,7 @@ fn mesh_by_nodes(alloc: Global, side: &Value, place: Place) -> Result<Warp, Cali
 {
     let shape = mesh_shape(side, place)?;
     let count = 2 * shape.cols as usize * shape.rows as usize;
-    let items = numbers(side, &NODES, place, count)?;
+    let items = numbers(side, &NODES, place, Amount::Exactly(count))?;
     let places = nodes(alloc, items)?;
     Ok(Warp::Mesh {
         step: shape.step,

@@ -9,10 +9,10 @@ use borrow.Author.Tests.{ltb-true}
 use Rattle.serde_json.proofs.OnLiterals.{serde_json_on_literals}
 use Rattle.sgm_calib.specs.Read.{value}
 use Rattle.sgm_calib.specs.Table.{keys, rows_in, is_known}
-use Rattle.sgm_calib.specs.Checks.{number_in, text_in, object_fault, elements}
+use Rattle.sgm_calib.specs.Checks.{number_in, text_in, object_fault, elements, sort_of}
 use Rattle.sgm_calib.specs.WarpKeys.{warps_fault, warp_in}
 use Rattle.sgm_calib.specs.RegionKeys.{regions_fault, regions_in}
-use Rattle.sgm_calib.specs.Judge.{sort_of, rule_in, version_fault, itself_fault, section_fault, top_fault, entries_fault, camera_in, grid_in, gridding_in, columns_in, judged}
+use Rattle.sgm_calib.specs.Judge.{rule_in, version_fault, itself_fault, section_fault, top_fault, entries_fault, camera_in, grid_in, gridding_in, columns_in, judged}
 use Rattle.sgm_calib.proofs.laws.plain_text.Goals as goal
 
 abbrev text : List ℕ

@@ -17,9 +17,9 @@ loop-index-preserved c =
     let grown : c.add.new.regions.items ≡ c.loop-index.regions.items ++ c.in_ok-region.region ∷ [] = c.in_ok-add.ensures in
     record {
       value =
-          ap (λ items. items ++ map area_in (map view (drop (i + 1) xs)))
+          ap (λ items. items ++ map (area_in c.args.sort) (map view (drop (i + 1) xs)))
           (grown ∙ ap (λ area. c.loop-index.regions.items ++ area ∷ []) c.in_ok-region.ensures.value)
-          ∙ value-more view area_in _ xs i _ within c.index-items-index.is
+          ∙ value-more view (area_in c.args.sort) _ xs i _ within c.index-items-index.is
           ∙ c.loop-index.invariant.value;
       inside =
           All-same (IsArea c.args.grid) _ _ grown
@@ -65,4 +65,4 @@ returns-clause-ok c =
 pub returns-clause-value : goal.returns-clause-value
 returns-clause-value c =
     let done : length c.args.items.now ≤ c.loop-index.index = omega arith in
-    value-all view area_in c.loop-index.regions.items c.args.items.now c.loop-index.index done c.loop-index.invariant.value
+    value-all view (area_in c.args.sort) c.loop-index.regions.items c.args.items.now c.loop-index.index done c.loop-index.invariant.value

@@ -2,8 +2,8 @@ use Rattle.std.proofs.Common.{subst, sym, ◌∙◌}
 use Rattle.std.proofs.lemmas.Result.{err_from_is_err_and}
 use Rattle.serde_json.specs.View.{view}
 use Rattle.sgm_height.specs.Camera.{IsCamera}
+use Rattle.sgm_calib.specs.Checks.{sort_of}
 use Rattle.sgm_calib.specs.Table as table
-use Rattle.sgm_calib.specs.Judge.{sort_of}
 use Rattle.sgm_calib.proofs.KeyLemmas.{section_fault-held, section_fault-itself}
 use Rattle.sgm_calib.proofs.Numbers.{camera_kept}
 use Rattle.sgm_calib.proofs.Objects.{rows_in-camera}

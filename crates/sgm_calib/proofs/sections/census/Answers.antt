@@ -1,9 +1,9 @@
 use Rattle.std.proofs.Common.{◌≡◌, Option, Some, None, IfErr, OnOk, subst, sym}
 use Rattle.std.proofs.lemmas.Result.{err_from_is_err_and}
 use Rattle.serde_json.specs.View.{view}
+use Rattle.sgm_calib.specs.Checks.{sort_of}
 use Rattle.sgm_calib.specs.declared.keys.CalibFault.{CalibFault}
 use Rattle.sgm_calib.specs.Table as table
-use Rattle.sgm_calib.specs.Judge.{sort_of}
 use Rattle.sgm_calib.proofs.KeyLemmas.{section_fault-held, section_fault-itself}
 use Rattle.sgm_calib.proofs.Objects.{rows_in-census}
 use Rattle.sgm_calib.proofs.sections.census.Goals as goal

@@ -2,9 +2,9 @@ use Rattle.std.proofs.Common.{◌≡◌, true, Some, option_map, ap, subst, sym,
 use Rattle.serde_json.specs.Find.{get}
 use Rattle.serde_json.specs.View.{view}
 use Rattle.sgm_grid.specs.Keeping.{IsGridding}
+use Rattle.sgm_calib.specs.Checks.{sort_of}
 use Rattle.sgm_calib.specs.Table as table
 use Rattle.sgm_calib.specs.Rows.{is_since}
-use Rattle.sgm_calib.specs.Judge.{sort_of}
 use Rattle.sgm_calib.proofs.Gridding.{bridge_counted, bridge_kept}
 use Rattle.sgm_calib.proofs.sections.gridding.Goals as goal
 

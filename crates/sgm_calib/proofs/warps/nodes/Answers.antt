@@ -1,25 +1,11 @@
-use Rattle.std.proofs.Common.{◌+◌, ◌*◌, ◌<◌, length, arith}
-use Rattle.std.proofs.lemmas.Grind.{common_steps}
-use Rattle.sgm_calib.proofs.WarpLemmas.{pairs-kept, pairs-done, nodes-kept, is_node}
+use Rattle.std.proofs.Common.{◌≡◌, All}
+use Rattle.std.proofs.lemmas.Result.{IfOk-weaker}
+use Rattle.sgm_rectify.specs.Warps.{IsCoordinate, IsNode}
+use Rattle.sgm_calib.specs.WarpKeys.{pairs}
+use Rattle.sgm_calib.proofs.WarpLemmas.{amounts, pairs_kept}
 use Rattle.sgm_calib.proofs.warps.nodes.Goals as goal
 
-pub loop-index-preserved : goal.loop-index-preserved
-loop-index-preserved c =
-    let vs = c.args.items.now in
-    let i = 2 * c.loop-index.index in
-    let places = c.loop-index.places.items in
-    let more = c.push.new.self.items in
-    let u = c.index-items-index.result in
-    let v = c.index-items-index-in-loop-index.result in
-    let inside : i + 1 < length vs = omega (arith, c.loop-index-test.true) in (
-      grind (arith, common_steps, c.loop-index.invariant.0, c.in_ok-push.ensures.items),
-      nodes-kept c.node.result places more
-          (is_node vs i u v c.node.result c.requires.range inside c.index-items-index.is c.index-items-index-in-loop-index.is c.node.ensures)
-          c.in_ok-push.ensures.items c.loop-index.invariant.1,
-      pairs-kept vs i (2 * (c.loop-index.index + 1)) u v c.node.result places more inside (omega arith)
-          c.index-items-index.is c.index-items-index-in-loop-index.is c.node.ensures c.in_ok-push.ensures.items c.loop-index.invariant.2,
-    )
-
-pub returns-clause-value : goal.returns-clause-value
-returns-clause-value c =
-    pairs-done c.args.items.now (2 * c.loop-index.index) c.loop-index.places.items (omega (arith, c.loop-index-test.false)) c.loop-index.invariant.2
+pub returns-clause-range : goal.returns-clause-range
+returns-clause-range c =
+    IfOk-weaker c.pairs.result (λ places. places.items ≡ pairs (amounts c.args.items.now)) (λ places. All IsNode places.items)
+    (λ places are. pairs_kept IsCoordinate c.args.items.now places.items are c.requires.range) c.pairs.ensures.value
