@@ -36,7 +36,8 @@ fn tally_all(
 {
     let mut tallies = Vec::with_capacity(alloc, regions.len())?;
     for region in regions {
-        tallies.push(tally(grid, measured, region))?;
+        let found = tally(alloc, grid, measured, region)?;
+        tallies.push(found)?;
     }
     Ok(tallies)
 }

@@ -1,11 +1,18 @@
-//! Tallies of regions, and their names. The table's text is in the tests of `sgm_app`, and in stored runs of `sgm_cases`.
+//! Tallies of regions, and their names. The table's text is in the tests of `sgm_app`, and in
+//! stored runs of `sgm_cases`.
 
-ghost use Rattle.std.specs.Prelude.{IsTrue};
-ghost use Rattle.sgm_report.specs.Areas.{IsBase, LiesIn};
+ghost use Rattle.std.specs.Prelude.{IfSome, IsTrue, neg_ℤ};
+ghost use Rattle.sgm_base.specs.Ranges.{IsFromTo};
+ghost use Rattle.sgm_grid.specs.declared.limits.TheConstants.{MAX_PLACE};
+ghost use Rattle.sgm_report.specs.Areas.{IsArea, LiesIn};
+ghost use Rattle.sgm_report.specs.Bases.{IsBasePlane, IsRise};
+ghost use Rattle.sgm_report.specs.Outlines.{IsOutline};
 
 use crate::fixtures::grid_of;
-use sgm_grid::{Grid, GridSpec, MAX_HEIGHT, bridge};
-use sgm_report::{Region, RegionTally, is_region_name, tally};
+use sgm_grid::{Grid, GridSpec, MAX_HEIGHT, MAX_PLACE, bridge};
+use sgm_report::{
+    BasePlane, MAX_CORNERS, MAX_RISE, MIN_CORNERS, Region, RegionTally, is_region_name, tally,
+};
 use std::alloc::{AllocError, Global};
 use std::process::Abort;
 use std::test::Fail;
@@ -35,7 +42,12 @@ fn region(
         row: corner.1,
         cols: sides.0,
         rows: sides.1,
-        base,
+        base: BasePlane {
+            height: base,
+            rise_east: 0,
+            rise_north: 0,
+        },
+        outline: None,
     })
 }
 
@@ -48,16 +60,64 @@ fn lies_in(spec: GridSpec, region: &Region) -> bool
         && region.row as u64 + region.rows as u64 <= spec.rows as u64
 }
 
-fn is_base(base: i64) -> bool
-    ensures { IsTrue result → IsBase base }
+fn is_rise(rise: i64) -> bool
+    ensures { IsTrue result → IsRise rise }
 {
-    -MAX_HEIGHT <= base && base <= MAX_HEIGHT
+    -MAX_RISE <= rise && rise <= MAX_RISE
+}
+
+fn is_base(base: BasePlane) -> bool
+    ensures { IsTrue result → IsBasePlane base }
+{
+    -MAX_HEIGHT <= base.height
+        && base.height <= MAX_HEIGHT
+        && is_rise(base.rise_east)
+        && is_rise(base.rise_north)
+}
+
+fn is_coordinate(along: i32) -> bool
+    ensures { IsTrue result → IsFromTo (neg_ℤ MAX_PLACE) MAX_PLACE along }
+{
+    -MAX_PLACE <= i64::from(along) && i64::from(along) <= MAX_PLACE
+}
+
+fn is_outline(corners: &[(i32, i32)]) -> bool
+    ensures { IsTrue result → IsOutline corners.now }
+{
+    MIN_CORNERS <= corners.len()
+        && corners.len() <= MAX_CORNERS
+        && corners.iter().all(|corner| is_coordinate(corner.0) && is_coordinate(corner.1))
+}
+
+fn has_outline(region: &Region) -> bool
+    ensures { IsTrue result → IfSome region.now.outline IsOutline }
+{
+    match &region.outline {
+        None => true,
+        Some(corners) => is_outline(corners),
+    }
+}
+
+fn is_area(grid: &Grid, region: &Region) -> bool
+    ensures { IsTrue result → IsArea grid.now.spec region.now }
+{
+    let spec = grid.spec();
+    is_region_name(region.name.as_str())
+        && lies_in(spec, region)
+        && is_base(region.base)
+        && region.has_base(spec)
+        && has_outline(region)
 }
 
 /// The tally of a region that lies in the grid, in which nothing is bridged.
-fn tally_in(rt: &impl Abort, grid: &Grid, region: &Region) -> RegionTally {
-    assert!(rt; lies_in(grid.spec(), region) && is_base(region.base));
-    tally(grid, grid, region)
+fn tally_in(
+    rt: &impl Abort,
+    alloc: Global,
+    grid: &Grid,
+    region: &Region,
+) -> Result<RegionTally, AllocError> {
+    assert!(rt; is_area(grid, region));
+    tally(alloc, grid, grid, region)
 }
 
 /// The tally of a region that lies in the grid, once it is bridged over two cells.
@@ -68,8 +128,8 @@ fn bridged_tally(
     region: &Region,
 ) -> Result<RegionTally, AllocError> {
     let grid = bridge(alloc, measured, 2)?;
-    assert!(rt; lies_in(grid.spec(), region) && is_base(region.base));
-    Ok(tally(&grid, measured, region))
+    assert!(rt; is_area(&grid, region));
+    tally(alloc, &grid, measured, region)
 }
 
 /// Cells, empty ones, fill, cut, and the lowest and the highest height.
@@ -82,7 +142,7 @@ type Row = ((u32, u32), (u32, u32), i64, Counts);
 fn assert_tallies(rt: &impl Abort, alloc: Global, grid: &Grid, table: &[Row]) -> Result<(), Fail> {
     for (corner, sides, base, want) in table {
         let part = region(alloc, *corner, *sides, *base)?;
-        assert!(rt; tally_in(rt, grid, &part) == counted(*want));
+        assert!(rt; tally_in(rt, alloc, grid, &part)? == counted(*want));
     }
     Ok(())
 }
@@ -100,8 +160,8 @@ fn counted(counts: Counts) -> RegionTally {
     }
 }
 
-/// The whole row with its base between its heights, and below them; one cell; an empty one. More are cases of
-/// `sgm_cases`.
+/// The whole row with its base between its heights, and below them; one cell; an empty one. More
+/// are cases of `sgm_cases`.
 #[test]
 fn bases_and_parts(rt: HostRuntime) -> Result<(), Fail> {
     let grid = grid_of(rt.alloc(), ROW)?;
@@ -138,6 +198,22 @@ fn bridges_are_counted(rt: HostRuntime) -> Result<(), Fail> {
     let found = bridged_tally(&rt, alloc, &measured, &whole)?;
     assert!(rt; (found.cells, found.bridged, found.empty) == (4, 2, 0));
     assert!(rt; (found.fill, found.cut) == (112, 112));
+    Ok(())
+}
+
+/// A base that rises by a half towards the east is 1, 3, 5 and 7 on cells with a side of 4, and an
+/// outline around the centres of the first two leaves the others out.
+#[test]
+fn a_slope_within_an_outline(rt: HostRuntime) -> Result<(), Fail> {
+    let alloc = rt.alloc();
+    let grid = grid_of(alloc, GAP)?;
+    let mut part = region(alloc, (0, 0), (4, 1), 0)?;
+    part.base.rise_east = 500_000;
+    let found = tally_in(&rt, alloc, &grid, &part)?;
+    assert!(rt; (found.cells, found.empty, found.fill, found.cut) == (2, 2, 48, 16));
+    part.outline = Some(vec![in alloc; (0, 0), (7, 0), (7, 4), (0, 4)]?);
+    let found = tally_in(&rt, alloc, &grid, &part)?;
+    assert!(rt; (found.cells, found.empty, found.fill, found.cut) == (1, 1, 0, 16));
     Ok(())
 }
 

@@ -10,6 +10,6 @@ loop-region-preserved c =
     let place = c.loop-region.region-index in
     let tallied = tally_of c.args.grid.now c.args.measured.now in
     c.in_ok-push.ensures.items
-    ∙ ap (λ (all : List RegionTally). all ++ c.tally.result ∷ []) c.loop-region.invariant
-    ∙ ap (λ (t : RegionTally). map tallied (take place regions) ++ t ∷ []) (c.tally.ensures ∙ ap tallied c.region-item.is)
+    ∙ ap (λ (all : List RegionTally). all ++ c.in_ok-found.found ∷ []) c.loop-region.invariant
+    ∙ ap (λ (t : RegionTally). map tallied (take place regions) ++ t ∷ []) (c.in_ok-found.ensures ∙ ap tallied c.region-item.is)
     ∙ sym (map_more tallied regions place c.region-item.result c.loop-region-test.true)
