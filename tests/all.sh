@@ -36,6 +36,7 @@ shellcheck          shellcheck  shellcheck -x sgm sgm_series .ci/run $(cd "$top"
 reference           -           tests/test_reference.py
 reference_fine      -           tests/test_reference_fine.py
 reference_cells     -           tests/test_reference_cells.py
+reference_regions   -           tests/test_reference_regions.py
 reference_lists     -           tests/test_reference_lists.py
 reference_series    -           tests/test_reference_series.py
 quick_reference     pictures    tests/test_quick_reference.py
@@ -44,10 +45,13 @@ least_energies      -           tests/least_energies.py --check
 kernels             -           tests/kernels.py
 fine_cases          -           tests/fine_cases.py --check
 cells_cases         -           tests/cells_cases.py --check
+regions_cases       -           tests/regions_cases.py --check
 large_pair          -           tests/large_pair.py
 edits_apply         -           tests/edits.py --apply
 cubic_metres        pictures    tools/test_cubic_metres.py
 sgm_files           pictures    tools/test_sgm_files.py
+sgm_regions         pictures    tools/test_sgm_regions.py
+slope_heap          pictures    tests/slope_heap.py
 stretch             pictures    tools/test_stretch.py
 heights_picture     pictures    tools/test_heights_picture.py
 photo_to_pgm        pictures    tools/test_photo_to_pgm.py

@@ -5,12 +5,13 @@
 
 writes NAME.json and NAME.line for each. They go over the keys of all objects: each one missing, of a wrong type,
 just outside its range on either side, and beside a name that isn't known; over the keys that only some versions have;
-and over the order of the faults where several stand together. `BOUNDS` are calibrations at
+and over the order of the faults where several stand together. `bounds` are calibrations at
 the very ends of the ranges, which have no fault. The pictures are those of 5 x 3 pixels of ends.sh.
 """
 
 import argparse
 import copy
+import functools
 import itertools
 import json
 import os
@@ -96,10 +97,15 @@ def second(*changes):
     return changed(WHOLE, ("version", 2), ("penalties.adapt", True), *changes)
 
 
+def level(regions):
+    """Regions with what version 3 asks for: their bases don't rise."""
+    return [{**region, "rise_east": 0, "rise_north": 0} for region in regions]
+
+
 def third(*changes):
     """The same in version 3, with its keys."""
-    cells = (("grid.keep", "highest"), ("grid.bridge", 0))
-    return second(("version", 3), ("disparities.fine", False), *cells, *changes)
+    made = second(("version", 3), ("disparities.fine", False), ("regions", level(WHOLE["regions"])))
+    return changed(made, ("grid.keep", "highest"), ("grid.bridge", 0), *changes)
 
 
 def printed(path):
@@ -269,6 +275,145 @@ def cells_faults():
     yield "cells", third(("grid.keep", MISSING), ("camera", MISSING)), "camera is missing"
 
 
+def rise_faults():
+    """The two keys that say how a region's base rises."""
+    later = (("regions.1", 0), ("regions.1.name", 7), ("regions.0.outline", 0))
+    for name in ("rise_east", "rise_north"):
+        path, shown = f"regions.0.{name}", f"regions[0].{name}"
+        yield "rise", third((path, MISSING)), f"{shown} is missing"
+        yield "rise", third((f"regions.1.{name}", MISSING)), f"regions[1].{name} is missing"
+        for wrong in (0.0, 1.5, "0", "", None, True, [0], {}, 2**63):
+            yield "rise", third((path, wrong)), f"{shown} has the wrong type"
+        for wrong in (-1000001, 1000001, -(2**32), 2**32, 2**63 - 1, -(2**63)):
+            yield "rise", third((path, wrong)), f"{shown} is out of range"
+        for more in later:
+            yield "rise", third((path, MISSING), more), f"{shown} is missing"
+            yield "rise", third((path, None), more), f"{shown} has the wrong type"
+            yield "rise", third((path, 1000001), more), f"{shown} is out of range"
+        # All other keys of the region come before them.
+        for wrong in (MISSING, None, 1000001):
+            made = functools.partial(third, (path, wrong))
+            yield "rise", made(("regions.0.base", MISSING)), "regions[0].base is missing"
+            yield "rise", made(("regions.0.name", "")), "regions[0].name is out of range"
+            yield "rise", made(("regions.0.rows", 4)), "regions[0].rows is out of range"
+            yield "rise", made(("grid.bridge", 9)), "grid.bridge is out of range"
+        yield "rise", third((path + "s", 0)), "regions[0] has an unknown name"
+        for made in (first, second):
+            for value in (0, 1, None):
+                yield "rise", made((path, value)), "regions[0] has an unknown name"
+        yield "rise", third((f"grid.{name}", 0)), "grid has an unknown name"
+        yield "rise", third((name, 0)), "top has an unknown name"
+    for wrong in (MISSING, "0", 1000001):
+        both = ("regions.0.rise_east", MISSING), ("regions.0.rise_north", wrong)
+        yield "rise", third(*both), "regions[0].rise_east is missing"
+        both = ("regions.0.rise_east", None), ("regions.0.rise_north", wrong)
+        yield "rise", third(*both), "regions[0].rise_east has the wrong type"
+        both = ("regions.0.rise_east", -1000001), ("regions.0.rise_north", wrong)
+        yield "rise", third(*both), "regions[0].rise_east is out of range"
+    yield "rise", third(("regions.1", {"rise_east": 0})), "regions[1].name is missing"
+
+
+# Bases that are just in range at all corner cells of a region and, with one more or less, at one of
+# them out of it: what is added then, the rises, and the region's place in the grid of WHOLE.
+WHOLE_GRID, SOUTH_WEST, NORTH_EAST = (0, 0, 4, 3), (0, 2, 1, 1), (3, 0, 1, 1)
+EDGE_BASES = [
+    (1999994000, 1, (1000000, 1000000), WHOLE_GRID),
+    (1999997000, 1, (1000000, -1000000), WHOLE_GRID),
+    (1999998000, 1, (-1000000, 1000000), WHOLE_GRID),
+    (-1999994000, -1, (-1000000, -1000000), WHOLE_GRID),
+    (-1999998000, -1, (1000000, -1000000), WHOLE_GRID),
+    (-1999997000, -1, (-1000000, 1000000), WHOLE_GRID),
+    (1999999996, 1, (1000, 0), WHOLE_GRID),
+    (1999999997, 1, (999, 0), WHOLE_GRID),
+    (-1999999997, -1, (-1000, 0), WHOLE_GRID),
+    (-1999999996, -1, (-1001, 0), WHOLE_GRID),
+    (1999999997, 1, (0, 1000), WHOLE_GRID),
+    (-1999999998, -1, (0, -1000), WHOLE_GRID),
+    (1999999000, 1, (1000000, 1000000), SOUTH_WEST),
+    (-1999999000, -1, (-1000000, -1000000), SOUTH_WEST),
+    (1999999500, 1, (0, 1000000), SOUTH_WEST),
+    (1999994000, 1, (1000000, 1000000), NORTH_EAST),
+    (-1999994000, -1, (-1000000, -1000000), NORTH_EAST),
+    (1999997500, 1, (0, 1000000), NORTH_EAST),
+]
+# What lies wholly beside the region, so that no cell of it counts.
+ELSEWHERE = [-5000, -5000, -4000, -5000, -4000, -4000]
+
+
+def sloping(base, rises, place, **more):
+    """The changes that give the first region that base, those rises and that place."""
+    numbers = {**dict(zip(("col", "row", "cols", "rows"), place)), "base": base}
+    numbers |= {**dict(zip(("rise_east", "rise_north"), rises)), **more}
+    return [(f"regions.0.{name}", value) for name, value in numbers.items()]
+
+
+def base_faults():
+    """Bases that leave the range of heights at a corner cell of their region."""
+    line = "regions[0].rise_north is out of range"
+    for base, step, rises, place in EDGE_BASES:
+        yield "base", third(*sloping(base + step, rises, place)), line
+    base, step, rises, place = EDGE_BASES[0]
+    # It counts whatever the outline leaves out, and comes before anything of it.
+    for outline in (ELSEWHERE, None, [0.5], [1, 2, 3]):
+        yield "base", third(*sloping(base + step, rises, place, outline=outline)), line
+    yield "base", third(*sloping(base + step, rises, place), ("regions.1", 0)), line
+    other = sloping(base + step, rises, place)
+    yield "base", third(*other, ("regions.0.rise_north", 1000001)), line
+    wrong_type = "regions[0].rise_north has the wrong type"
+    yield "base", third(*other, ("regions.0.rise_north", "0")), wrong_type
+    yield "base", third(*other, ("regions.0.base", 2000000001)), "regions[0].base is out of range"
+    # Far from the grid's corner a base goes far beyond.
+    wide = [("grid.cell", 1000000000), ("grid.cols", 4096), ("grid.rows", 4096)]
+    for rises in ((0, 1000000), (1000000, 1000000), (-1000000, -1000000), (245, 245)):
+        yield "base", third(*wide, *sloping(0, rises, (4095, 0, 1, 1))), line
+        yield "base", third(*wide, *sloping(0, rises, (0, 0, 4096, 4096))), line
+    yield "base", third(*wide, *sloping(1500000001, (1000000, 0), (0, 4095, 1, 1))), line
+    yield "base", third(*wide, *sloping(500000001, (0, 1000000), (0, 4094, 1, 2))), line
+    yield "base", third(*wide, *sloping(0, (1000000, -1000000), (0, 0, 4096, 4096))), line
+
+
+def outlined(*numbers, more=()):
+    return third(("regions.0.outline", list(numbers)), *more)
+
+
+def outline_faults():
+    path, most = "regions[0].outline", 2000000000
+    wrong_type, outside = f"{path} has the wrong type", f"{path} is out of range"
+    triangle = [2000, -2000, 6000, -2000, 6000, 1000]
+    for wrong in (None, 0, 1.5, "", "0 0 8 0 8 8", True, {}, {"0": 0}):
+        yield "outline", third(("regions.0.outline", wrong)), wrong_type
+    for wrong in (0.5, 1.0, "0", None, False, [], [0, 0], {}, 2**63):
+        yield "outline", outlined(*triangle[:-1], wrong), wrong_type
+        yield "outline", outlined(wrong, *triangle[1:]), wrong_type
+        # A wrong element comes before a wrong number of them and before what is out of range.
+        yield "outline", outlined(wrong), wrong_type
+        yield "outline", outlined(most + 1, *triangle, wrong), wrong_type
+    yield "outline", outlined(*[0] * 2001, None), wrong_type
+    for length in (0, 1, 2, 3, 4, 5, 7, 9, 1999, 2001, 2002, 4000):
+        yield "outline", outlined(*[0] * length), outside
+    for wrong in (most + 1, -most - 1, 2**32, -(2**32), 2**63 - 1, -(2**63)):
+        for at in (0, 1, 4, 5):
+            yield "outline", outlined(*triangle[:at], wrong, *triangle[at + 1 :]), outside
+    # The region after it comes later, and all else of its own region earlier.
+    for wrong in (None, [0], [0] * 6 + [most + 1, 0]):
+        line = wrong_type if wrong is None else outside
+        made = functools.partial(third, ("regions.0.outline", wrong))
+        for name, other in (("rise_east", MISSING), ("outline", None), ("name", 7)):
+            yield "outline", made((f"regions.1.{name}", other)), line
+        for name in ("name", "base", "rise_east", "rise_north"):
+            yield "outline", made((f"regions.0.{name}", MISSING)), f"regions[0].{name} is missing"
+        yield "outline", third(("regions.1.outline", wrong)), line.replace("[0]", "[1]")
+    two = third(("regions.1.outline", None), ("regions.0.rise_north", MISSING))
+    yield "outline", two, "regions[0].rise_north is missing"
+    for name in ("Outline", "outlines"):
+        yield "outline", third((f"regions.0.{name}", triangle)), "regions[0] has an unknown name"
+    for made in (first, second):
+        for value in (triangle, [], None):
+            yield "outline", made(("regions.1.outline", value)), "regions[1] has an unknown name"
+    yield "outline", third(("outline", triangle)), "top has an unknown name"
+    yield "outline", third(("grid.outline", triangle)), "grid has an unknown name"
+
+
 def warp_faults():
     yield "warp", changed(WHOLE, ("warp", [])), "warp has the wrong type"
     yield "warp", changed(WHOLE, ("warp", {})), "warp.left is missing"
@@ -361,7 +506,7 @@ def order_faults():
 def faults():
     """Triples of a name, a calibration and its line."""
     parts = (version_faults, adapt_faults, fine_faults, cells_faults, warp_faults, section_faults)
-    parts += (number_faults, region_faults, order_faults)
+    parts += (number_faults, region_faults, order_faults, rise_faults, base_faults, outline_faults)
     numbered = {}
     for name, made, line in itertools.chain.from_iterable(part() for part in parts):
         name = name.replace(".", "-")
@@ -396,6 +541,7 @@ def bounds():
             cells = (("grid.keep", keep), ("grid.bridge", bridge))
             yield f"bound-cells-{keep}-{bridge}", third(*cells)
             yield f"bound-cells-{keep}-{bridge}-alone", third(*cells, ("regions", MISSING))
+    yield from area_bounds()
     yield "bound-near-and-far", changed(WHOLE, ("camera.near", 2000000000), ("camera.far", 2000000000))
     yield "bound-grid-long", changed(WHOLE, ("grid.cols", 4096))
     yield "bound-grid-one", changed(WHOLE, ("grid.cols", 1), ("grid.rows", 1), ("regions", MISSING))
@@ -413,6 +559,33 @@ def bounds():
         yield f"bound-nodes-{number}", warped("left", {**MESH, "nodes": MESH["nodes"][:-1] + [node]})
     large = {"kind": "mesh", "step": 1024, "cols": 2, "rows": 2, "nodes": [0, 0, 262144, 0, 0, 262144, 262144, 262144]}
     yield "bound-step", warped("left", large)
+
+
+def area_bounds():
+    """The same with regions whose bases rise and that have an outline."""
+    for number, (base, _, rises, place) in enumerate(EDGE_BASES):
+        yield f"bound-base-{number}", third(*sloping(base, rises, place))
+    for rises in ((1000000, 0), (-1000000, 0), (0, 1000000), (0, -1000000)):
+        yield f"bound-rises-{rises[0]}-{rises[1]}", third(*sloping(0, rises, WHOLE_GRID))
+    most = 2000000000
+    for name, outline in {
+        "least": [2000, -2000, 6000, -2000, 6000, 1000],
+        "point": [0] * 6,
+        "most": [1000 * (at * at % 11 - 2) for at in range(2000)],
+        "all": [-most, -most, most, -most, most, most, -most, most],
+        "elsewhere": ELSEWHERE,
+        "centres": [2500, -1500, 5500, -1500, 4500, 500, 2500, 500],
+        "crossing": [2000, -2000, 6000, 1000, 6000, -2000, 2000, 1000],
+        "twice": [2000, -2000, 6000, -2000, 6000, 1000, 2000, 1000] * 2,
+        "extreme": [-most, most, most, most, -most, -most],
+    }.items():
+        yield f"bound-outline-{name}", outlined(*outline)
+        slope = sloping(49000, (300001, -200001), WHOLE_GRID)
+        yield f"bound-outline-{name}-sloping", outlined(*outline, more=slope)
+    rises = {"rise_east": -1000000, "rise_north": 1000000}
+    outline = [0, 0, 9000, -9000, 9000, 9000]
+    regions = [{**region, **rises, "outline": outline} for region in WHOLE["regions"]]
+    yield "bound-outlines", third(("regions", regions))
 
 
 def write_cases(folder):

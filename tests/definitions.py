@@ -620,9 +620,20 @@ def changes(draw):
     return page
 
 
+def base_of(region):
+    rises = {name: whole(region.get(name, 0)) for name in ("rise_east", "rise_north")}
+    return record(height=whole(region["base"]), **rises)
+
+
+def corners_of(outline):
+    corners = zip(outline[::2], outline[1::2])
+    return listed(corners, lambda corner: f"({', '.join(map(whole, corner))})")
+
+
 def area_of(region):
     numbers = {name: natural(region[name]) for name in ("col", "row", "cols", "rows")}
-    return record(name=text(region["name"]), **numbers, base=whole(region["base"]))
+    outline = option(region.get("outline"), corners_of)
+    return record(name=text(region["name"]), **numbers, base=base_of(region), outline=outline)
 
 
 def tally_of(row):
@@ -651,6 +662,12 @@ def reports(draw):
             col, row, base = draw.randrange(4), draw.randrange(3), draw.choice([6, -3, 2000000000])
             cols, rows = draw.randrange(1, 5 - col), draw.randrange(1, 4 - row)
             regions.append(dict(name=name, col=col, row=row, cols=cols, rows=rows, base=base))
+            if draw.randrange(3):
+                for rise in ("rise_east", "rise_north"):
+                    regions[-1][rise] = draw.randrange(-3000, 3000)
+            if draw.randrange(3):
+                length = 2 * draw.randrange(3, 7)
+                regions[-1]["outline"] = [500 * draw.randrange(10) for _ in range(length)]
         made = [[5 if height is None and draw.randrange(2) else height for height in row] for row in cells]
         tallies = {
             1: [matching.tally(made, grid["cell"], region) for region in regions],

@@ -270,6 +270,13 @@ def everything():
     return calibration(first=2, warp=warps, camera=camera(doffs=-9), grid=grid(), regions=regions)
 
 
+def sections_of_version_3():
+    """The sections of that which stand beside the settings, with regions of version 3."""
+    made = everything()
+    sections = {name: made[name] for name in ("warp", "camera", "grid")}
+    return {**sections, "regions": calibration_cases.level(made["regions"])}
+
+
 def second_versions():
     """Names, each with the greatest sample, the number of a scene of shapes, the calibration and the options."""
     small, warps = (3, 3), {"left": tilted(40, 30, 6, 9), "right": shifted(40, 30, 256)}
@@ -299,11 +306,12 @@ def third_versions():
     """The same of version 3."""
     warps = {"left": tilted(40, 30, 6, 9), "right": shifted(40, 30, 256)}
     last = {"left": shifted(-300, 256 * 20, 256), "right": {"kind": "identity"}}
+    sections = sections_of_version_3()
     made = {
         "third-version-everything": (
             255,
             50,
-            with_cells({**everything(), **third(True, first=2, penalties=(10, 500))}, "mean", 2),
+            with_cells(third(True, first=2, penalties=(10, 500), **sections), "mean", 2),
             "peak=6 fill=1 strips=3",
         ),
         "third-version-negative-first": (255, 51, third(False, first=-6, count=12, penalties=(25, 100)), "strips=64 workers=16"),
@@ -324,6 +332,7 @@ def third_versions():
 def celled():
     """Surveys of version 3 by what a cell keeps and over how many cells heights are bridged."""
     regions = [region("all", 0, 0, 40, 32, 5000000), region("middle", 12, 10, 18, 14, -1), region("corner", 39, 0, 1, 1, 0)]
+    regions = calibration_cases.level(regions)
     sections = {"camera": camera(), "grid": grid(cell=500000, cols=40, rows=32), "regions": regions}
     made = {}
     for keep in ("highest", "mean"):

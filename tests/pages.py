@@ -71,6 +71,8 @@ CASES = {
     "of the six kernels": ["kernel"],
     "of finer disparities": ["fine"],
     "of means alone": ["mean"],
+    "of points, cells and bridges": ["cells"],
+    "of regions with sloping bases and outlines": ["regions"],
     "whole runs": ["run"],
     "matches": ["run", "match"],
     "certificates": ["run", "trace"],

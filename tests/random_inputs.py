@@ -206,6 +206,7 @@ class Raw(str):
 
 # The ranges of the whole numbers, of a side of the warp and of a region by their last names.
 RANGES = {path.removeprefix("side.").removeprefix("region."): ends for path, ends in reference_inputs.RANGES.items()}
+RANGES["outline"] = (-reference_inputs.OUTLINE_MOST, reference_inputs.OUTLINE_MOST)
 ODD_VALUES = [
     *map(Raw, "1.0 1e0 -0 0.5 1e400 1e-400 -1 01 +1 .5 1. 1e 0x1 NaN Infinity true false null nul [] {} [1] {{ ] '1'".split()),
     *map(Raw, ['""', '"1"', '"\\u0031"', '"\\ud800"', '"\\ud83d\\ude00"', '"\\x"', '"a\tb"', '{"a":1}', "[[[]]]", "[1,]", "1 2"]),
@@ -215,7 +216,16 @@ ODD_VALUES = [
 ODD_NUMBERS = [*map(str, [2**63 - 1, 2**63, -(2**63), -(2**63) - 1]), "1.0", "-0", "1e0", "0.0"]
 # The names of all keys, and some that are none.
 NAMES = sorted({name for path in reference_inputs.RANGES for name in path.split(".")})
-NAMES += "adapt fine keep warp left right kind matrix nodes regions name top x".split()
+NAMES += "adapt fine keep warp left right kind matrix nodes regions name outline top x".split()
+
+
+def of_version(draw, version, name, section, sections):
+    """A section as the version has it: in version 3 the grid and the regions have more keys."""
+    if version == 3 and name == "grid":
+        return Pairs([*section, *cells_of(draw)])
+    if version == 3 and name == "regions":
+        return [Pairs([*region, *area_of(draw, region, sections["grid"])]) for region in section]
+    return section
 
 
 def settings(draw, first, count, versions=(1, 2, 3), **sections):
@@ -236,8 +246,7 @@ def settings(draw, first, count, versions=(1, 2, 3), **sections):
     made.put("penalties", completed(draw, "penalties", [("p1", p1), ("p2", p2), *adapt]))
     for name, section in sections.items():
         if section is not None:
-            more = cells_of(draw) if name == "grid" and version == 3 else []
-            made.put(name, Pairs([*section, *more]) if more else section)
+            made.put(name, of_version(draw, version, name, section, sections))
     return made
 
 
@@ -245,6 +254,47 @@ def cells_of(draw):
     """How points become cells: mostly by their means, and with bridges."""
     keep = draw.of(["highest", "mean", "mean"])
     return [("keep", keep), ("bridge", draw.of([0, 1, 2, 2, 8, draw.between(0, 8)]))]
+
+
+def rises_of(draw, region, grid):
+    """How a region's base rises: mostly gently enough that it stays in the range of heights, where
+    it may come to the very end of it."""
+    for _ in range(9):
+        steep = draw.of([0, 1, 1000, 30000, 250000, 1000000, 1000000])
+        wild = lambda: draw.of([0, steep, -steep, draw.between(-steep, steep)])
+        rises = {"rise_east": wild(), "rise_north": wild()}
+        bases = reference_inputs.corner_bases({**dict(region), **rises}, dict(grid))
+        if max(map(abs, bases)) <= reference_inputs.HIGHEST:
+            return list(rises.items())
+    return [("rise_east", 0), ("rise_north", 0)]
+
+
+def outline_of(draw, region, grid):
+    """The corners of an outline about a region, often on the middles and the corners of its cells,
+    and at times far away; edges cross and corners stand twice as it comes."""
+    sides, place = dict(grid), dict(region)
+    south = sides["rows"] - place["row"] - place["rows"]
+    begins = {"west": place["col"], "south": south}
+    lengths = {"west": place["cols"], "south": place["rows"]}
+
+    def along(side):
+        """A place on one of both axes."""
+        if draw.chance(4):
+            return draw.of([-2000000000, 2000000000])
+        halves = 2 * begins[side] + draw.between(-1, 2 * lengths[side] + 1)
+        at = sides[side] + halves * sides["cell"] // 2 + draw.of([0, 0, 0, 1, -1])
+        return max(-2000000000, min(2000000000, at))
+
+    count = draw.of([3, 3, 4, 4, 5, 6, 8, 12, 40])
+    return [along(side) for _ in range(count) for side in ("west", "south")]
+
+
+def area_of(draw, region, grid):
+    """What version 3 has of a region besides."""
+    made = rises_of(draw, region, grid)
+    if draw.chance(60):
+        made.append(("outline", outline_of(draw, region, grid)))
+    return made
 
 
 def warp_of(draw, width, height):
@@ -403,6 +453,19 @@ def part_of(holder, name):
     return next((value for key, value in holder if key == name), None) if isinstance(holder, Pairs) else None
 
 
+def based(draw, region, grid):
+    """The base that leaves one of the region's corner cells at an end of the heights, where
+    all that it rests on is there."""
+    names = ("col", "row", "cols", "rows", "base", "rise_east", "rise_north")
+    numbers = {name: part_of(region, name) for name in names}
+    sides = {name: part_of(grid, name) for name in ("cell", "rows")}
+    if not all(type(it) is int for it in (*numbers.values(), *sides.values())):
+        return []
+    at_corner = draw.of(reference_inputs.corner_bases(numbers, sides))
+    end = draw.of([reference_inputs.HIGHEST, -reference_inputs.HIGHEST])
+    return [(region, "base", None, numbers["base"] + end - at_corner)]
+
+
 def tighten(draw, whole):
     """Changes a number whose range rests on others to the end of its range, or to the next one beyond it."""
     penalties, camera, grid = (part_of(whole, name) for name in ("penalties", "camera", "grid"))
@@ -416,6 +479,7 @@ def tighten(draw, whole):
             if all(isinstance(it, int) for it in (side, begin, length)):
                 ends = [(region, count, side - begin), (region, first, side - length), (region, first, side), (grid, count, begin + length)]
                 holders += [(holder, name, None, end) for holder, name, end in ends]
+        holders = holders if draw.chance(50) else based(draw, region, grid) or holders
     holder, name, other, end = draw.of(holders or [(None, None, None, 0)])
     end = end if other is None else part_of(holder, other)
     if isinstance(holder, Pairs) and isinstance(end, int):
@@ -427,7 +491,26 @@ def tighten(draw, whole):
 LATER_VALUES = {
     "grid.keep": ["highest", "mean", "mean", "Mean", "means", "", 0, Raw("null"), Raw('"m\\u0065an"')],
     "grid.bridge": [0, 1, 8, 8, 9, -1, "2", True, Raw("null"), Raw("2.0")],
+    "region.outline": [
+        [],
+        [0, 0, 0, 0, 0, 0],
+        [0, 0, 8, 8, 4],
+        [0, 0, 8, 8],
+        [0] * 2000,
+        [0] * 2001,
+        [0] * 2002,
+        [2000000000, -2000000000, 0, 0, 5, 7],
+        [0, 0, 8, 8, 4, 2000000001],
+        [0, 0, 8, 8, 4, Raw("null")],
+        [Raw("1.0"), 2000000001],
+        [[0, 0], [8, 8], [4, 4]],
+        Raw("null"),
+        "0 0 8 8 4 4",
+        7,
+    ],
 }
+RISES = [0, 1000000, -1000000, 1000001, -1000001, "0", True, Raw("null"), Raw("1.0"), [0]]
+LATER_VALUES |= {"region.rise_east": RISES, "region.rise_north": RISES}
 
 
 def exchange(draw, whole):
@@ -435,9 +518,16 @@ def exchange(draw, whole):
     if draw.chance(40):
         whole[:] = [(key, draw.below(5) if key == "version" else value) for key, value in whole]
         return
-    path = draw.of(list(reference_inputs.LATER))
+    put_later(draw, whole, draw.of(list(reference_inputs.LATER)))
+
+
+def put_later(draw, whole, path):
+    """Puts in, changes or takes out such a key, of a region in one of them."""
     section, _, name = path.partition(".")
     holder = part_of(whole, section)
+    regions = part_of(whole, "regions")
+    if section == "region" and isinstance(regions, list) and regions:
+        holder = draw.of(regions)
     if isinstance(holder, Pairs):
         holder[:] = [(key, value) for key, value in holder if key != name]
         if draw.chance(75):
@@ -448,6 +538,9 @@ def change(draw, whole):
     """Changes the calibration in one place."""
     if draw.chance(15):
         exchange(draw, whole)
+        return
+    if part_of(whole, "version") == 3 and draw.chance(30):
+        put_later(draw, whole, draw.of(["region.rise_east", "region.rise_north", "region.outline"]))
         return
     if draw.chance(25):
         tighten(draw, whole)

@@ -11,6 +11,8 @@ import json
 import re
 import sys
 
+from reference_matching import base_at
+
 if hasattr(sys, "set_int_max_str_digits"):
     sys.set_int_max_str_digits(0)
 
@@ -197,6 +199,8 @@ RANGES = {
     "region.cols": (1, 4096),
     "region.rows": (1, 4096),
     "region.base": (-2000000000, 2000000000),
+    "region.rise_east": (-1000000, 1000000),
+    "region.rise_north": (-1000000, 1000000),
 }
 # A number whose least value is that of another key of its object, and the numbers that have to be odd.
 LEAST = {"penalties.p2": "p1", "camera.far": "near"}
@@ -207,6 +211,10 @@ CHOICES = {"grid.keep": ("highest", "mean")}
 # in this order, and their names aren't known in other versions. Those that are neither a whole
 # number nor a text are true or false.
 LATER = {"disparities.fine": (3,), "penalties.adapt": (2, 3), "grid.keep": (3,), "grid.bridge": (3,)}
+# Those of a region are two whole numbers and, behind them, a list that may be absent: the corners
+# of an outline, each as two numbers up to so much on either side of 0.
+LATER |= {"region.rise_east": (3,), "region.rise_north": (3,), "region.outline": (3,)}
+OUTLINE_LENGTHS, OUTLINE_MOST = range(6, 2001, 2), 2000000000
 
 
 def names_in(section, paths):
@@ -227,6 +235,14 @@ def later_of(section, version):
 def may_be_true(path):
     """Whether `true` is in range for such a key."""
     return TAKES_FINE or path != "disparities.fine"
+
+
+def corner_bases(region, grid):
+    """A region's bases at its cells in the north-west, north-east, south-west and south-east."""
+    north = grid["rows"] - 1 - region["row"]
+    south, east = north - (region["rows"] - 1), region["col"] + region["cols"] - 1
+    places = [(col, row) for row in (north, south) for col in (region["col"], east)]
+    return [base_at(region, grid["cell"], *place) for place in places]
 
 
 class Calibration:
@@ -306,11 +322,11 @@ def read_calibration(data):
         in_range(low <= value <= high, path)
         return value
 
-    def list_of_whole(parent, path, length, bound):
+    def list_of_whole(parent, path, lengths, bound):
         values = get(parent, path, list)
         for value in values:
             kind_of(value, int, path)
-        in_range(len(values) == length and all(-bound <= v <= bound for v in values), path)
+        in_range(len(values) in lengths and all(-bound <= v <= bound for v in values), path)
         return values
 
     def numbers(parent, section, path, **greatest):
@@ -354,14 +370,16 @@ def read_calibration(data):
         known(side, path, "kind" + names)
         made = {"kind": kind}
         if kind == "projective":
-            made["matrix"] = list_of_whole(side, path + ".matrix", 9, 1099511627776)
+            made["matrix"] = list_of_whole(side, path + ".matrix", [9], 1099511627776)
         if kind == "mesh":
             made |= numbers(side, "side", path)
-            made["nodes"] = list_of_whole(side, path + ".nodes", 2 * made["cols"] * made["rows"], 16777216)
+            lengths = [2 * made["cols"] * made["rows"]]
+            made["nodes"] = list_of_whole(side, path + ".nodes", lengths, 16777216)
         return made
 
-    def region(value, path, grid):
-        it = known(kind_of(value, dict, path), path, " ".join(["name", *keys_of("region")]))
+    def region(value, path, grid, version):
+        later = later_of("region", version)
+        it = known(kind_of(value, dict, path), path, " ".join(["name", *keys_of("region"), *later]))
         name = get(it, path + ".name", str)
         in_range(re.fullmatch("[A-Za-z0-9 _.-]{1,64}", name), path + ".name")
         inside = {
@@ -370,7 +388,18 @@ def read_calibration(data):
             "cols": lambda made: grid["cols"] - made["col"],
             "rows": lambda made: grid["rows"] - made["row"],
         }
-        return {"name": name, **numbers(it, "region", path, **inside)}
+        made = {"name": name, **numbers(it, "region", path, **inside)}
+        return made | area(it, path, made, grid) if later else made
+
+    def area(it, path, made, grid):
+        """What version 3 has of a region besides: how its base rises, and perhaps its outline."""
+        rises = ("rise_east", "rise_north")
+        later = {key: whole(it, f"{path}.{key}", *RANGES["region." + key]) for key in rises}
+        bases = corner_bases(made | later, grid)
+        in_range(all(-HIGHEST <= base <= HIGHEST for base in bases), path + ".rise_north")
+        if "outline" in it:
+            later["outline"] = list_of_whole(it, path + ".outline", OUTLINE_LENGTHS, OUTLINE_MOST)
+        return later
 
     try:
         top = parse_json(data)
@@ -403,7 +432,8 @@ def read_calibration(data):
     if "regions" in top:
         regions = get(top, "regions", list)
         in_range(len(regions) <= 1000, "regions")
-        made.regions = [region(it, f"regions[{i}]", made.grid) for i, it in enumerate(regions)]
+        numbered = enumerate(regions)
+        made.regions = [region(it, f"regions[{i}]", made.grid, version) for i, it in numbered]
     return made
 
 

@@ -5,6 +5,8 @@ a list of rows, and None stands for a pixel that has no value. An index d stands
 disparity first + d, so left pixel x meets right pixel x - first - d.
 """
 
+from fractions import Fraction
+
 # The most cells of a volume in the versions 1 and 2. Version 3 has no limit of its own.
 VOLUME_MOST = 268435456
 DIRECTIONS = [(1, 0), (-1, 0), (0, 1), (1, 1), (-1, 1), (0, -1), (1, -1), (-1, -1)]
@@ -580,32 +582,79 @@ def bridged(cells, side, most):
     return [[height(row, col) for col in range(len(columns))] for row in range(len(cells))]
 
 
-def inside(cells, region):
-    """The cells of a region, one after the other."""
-    rows = cells[region["row"] : region["row"] + region["rows"]]
-    return [height for row in rows for height in row[region["col"] : region["col"] + region["cols"]]]
+# Columns are counted from the west and rows from the south here, both over the whole grid from 0. A
+# region has neither rises nor an outline in the versions 1 and 2.
 
 
-def tally(cells, cell, region):
+def base_at(region, cell, col, row):
+    """A region's base at a cell: the height there of the plane that has `base` at the grid's corner
+    in the south-west and rises by so many millionths of the way to the east and to the north."""
+    rises = region.get("rise_east", 0), region.get("rise_north", 0)
+    ways = (2 * col + 1) * cell, (2 * row + 1) * cell
+    return region["base"] + rounded(rises[0] * ways[0] + rises[1] * ways[1], 2000000)
+
+
+def met_at(a, b, north):
+    """How far to the east the edge from the corner a to the corner b crosses the level line that
+    lies so far to the north; None where both corners lie north of it, or neither does."""
+    if (a[1] <= north) == (b[1] <= north):
+        return None
+    return a[0] + (b[0] - a[0]) * Fraction(north - a[1]) / (b[1] - a[1])
+
+
+def is_enclosed(outline, east, north):
+    """Whether a place lies inside an outline: whether an odd number of edges cross its level line
+    to the east of it."""
+    corners = list(zip(outline[::2], outline[1::2]))
+    edges = zip(corners, corners[1:] + corners[:1])
+    met = [met_at(*edge, north) for edge in edges]
+    return sum(it is not None and it > east for it in met) % 2 == 1
+
+
+def middle(cell, corner, col, row):
+    """How far to the east and to the north the middle of a cell lies. The grid's south-west corner
+    is where `corner` says."""
+    return [begin + Fraction((2 * at + 1) * cell, 2) for begin, at in zip(corner, (col, row))]
+
+
+def counts(region, cell, corner, col, row):
+    """Whether a cell of a region's rectangle counts:
+    its middle lies inside the outline, or there is none."""
+    if "outline" not in region:
+        return True
+    return is_enclosed(region["outline"], *middle(cell, corner, col, row))
+
+
+def inside(cells, cell, region, corner=(0, 0)):
+    """The cells of a region that count, from the north-west, each as its height and its base."""
+    for line in range(region["row"], region["row"] + region["rows"]):
+        row = len(cells) - 1 - line
+        for col in range(region["col"], region["col"] + region["cols"]):
+            if counts(region, cell, corner, col, row):
+                yield cells[line][col], base_at(region, cell, col, row)
+
+
+def tally(cells, cell, region, corner=(0, 0)):
     """cells, empty, fill, cut, lowest, highest of a region; fill and cut in cubic micrometres."""
-    within = inside(cells, region)
-    filled = [height for height in within if height is not None]
-    fill = sum(max(0, height - region["base"]) for height in filled) * cell * cell
-    cut = sum(max(0, region["base"] - height) for height in filled) * cell * cell
-    lowest, highest = (min(filled), max(filled)) if filled else ("", "")
+    within = list(inside(cells, cell, region, corner))
+    filled = [(height, base) for height, base in within if height is not None]
+    fill = sum(max(0, height - base) for height, base in filled) * cell * cell
+    cut = sum(max(0, base - height) for height, base in filled) * cell * cell
+    heights = [height for height, _ in filled]
+    lowest, highest = (min(heights), max(heights)) if heights else ("", "")
     return len(filled), len(within) - len(filled), fill, cut, lowest, highest
 
 
-def bridges_in(before, after, region):
-    """How many cells of a region have a height only since they were bridged."""
-    pairs = zip(inside(before, region), inside(after, region))
-    return sum(old is None and new is not None for old, new in pairs)
+def bridges_in(before, after, cell, region, corner=(0, 0)):
+    """How many cells of a region that count have a height only since they were bridged."""
+    pairs = zip(*(inside(cells, cell, region, corner) for cells in (before, after)))
+    return sum(old is None and new is not None for (old, _), (new, _) in pairs)
 
 
-def tally_with_bridges(before, after, cell, region):
+def tally_with_bridges(before, after, cell, region, corner=(0, 0)):
     """The same, with `bridged` behind the cells."""
-    filled, *others = tally(after, cell, region)
-    return filled, bridges_in(before, after, region), *others
+    filled, *others = tally(after, cell, region, corner)
+    return filled, bridges_in(before, after, cell, region, corner), *others
 
 
 # The certificate of one pixel
@@ -724,4 +773,6 @@ def survey(left_image, right_image, calibration, peak=0, fill=0, match=match_pla
         return found, cells, None
     if calibration.version < 3:
         return found, cells, [tally(cells, side, region) for region in calibration.regions]
-    return found, cells, [tally_with_bridges(before, cells, side, it) for it in calibration.regions]
+    corner = calibration.grid["west"], calibration.grid["south"]
+    regions = calibration.regions
+    return found, cells, [tally_with_bridges(before, cells, side, it, corner) for it in regions]

@@ -22,6 +22,7 @@ sys.path.insert(0, os.path.join(TOP, "tools"))
 import sgm_files
 
 FOLDERS = ["tests", "tools", "bench", "packaging", "examples/pair", "examples/photographs", "examples/stockpile"]
+FOLDERS += ["examples/slope"]
 # They take the words of the programs and no others; the programs have no --help either.
 REFERENCES = ["tests/reference.py", "tests/quick_reference.py", "tests/reference_series.py"]
 # What reads a file, with the words around the file's name, and what writes into a folder.
@@ -42,6 +43,7 @@ READERS = {
     "bench/accuracy.py": "FILE FILE FILE FILE",
     "examples/stockpile/compare_truth.py": "FILE",
     "examples/stockpile/compare_change.py": "FILE",
+    "examples/slope/compare_slope.py": "FILE",
 }
 WRITERS = ["tests/make_cases.py", "tests/make_survey.py", "tests/calibration_cases.py", "tests/definitions.py"]
 WRITERS += ["examples/photographs/make_photographs.py", "examples/stockpile/make_later.py"]

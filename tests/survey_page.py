@@ -26,6 +26,7 @@ HEAP = os.path.join(TOP, "examples", "stockpile")
 sys.path.insert(0, os.path.join(TOP, "tools"))
 
 import sgm_files
+import sgm_regions
 import survey_page
 from sgm_files import Wrong, numpy
 
@@ -320,6 +321,226 @@ def try_bridged(driver, check, folder):
     check.equal("warnings with bridges", len(page.warnings()), 1)
 
 
+# Version 3: outlines, bases that slope, plus or minus
+
+
+THIRD = {"west": 0, "south": -1000000, "cell": 500000, "cols": 30, "rows": 20}
+
+
+def counted_inside(grid, region):
+    """A line of the report, of the cells inside from their bases, and plus or minus's parts of it
+    as a ground."""
+    heights, bases = sgm_regions.found_in(region, THIRD, grid.heights, grid.filled)
+    above = [int(high) - int(low) for high, low in zip(heights, bases)]
+    line = {
+        "cells": len(heights),
+        "empty": sgm_regions.number_of_cells(region, THIRD) - len(heights),
+    }
+    for key, sign in (("fill", 1), ("cut", -1)):
+        line[key] = sum(max(0, sign * it) for it in above) * THIRD["cell"] ** 2
+    return line | {
+        "lowest": int(heights.min()),
+        "highest": int(heights.max()),
+    }, sgm_regions.ground_spread(heights, bases)
+
+
+def write_third(folder):
+    """A heap on ground that slopes by 1 in 20, with some noise: OUT, its calibration and its
+    grid."""
+    draw = random.Random(23)
+    heights = [
+        [12500 * (2 * col + 1) + draw.randint(-900, 900) for col in range(30)] for _ in range(20)
+    ]
+    for row in range(5, 15):
+        for col in range(8, 18):
+            heights[row][col] += 300000
+    heights[9][9] = EMPTY
+    bounds = {
+        "name": "heap",
+        "col": 8,
+        "row": 5,
+        "cols": 10,
+        "rows": 10,
+        "base": 5,
+        "rise_east": 50000,
+        "rise_north": 0,
+    }
+    regions = [
+        {
+            **bounds,
+            "outline": [4000000, 1500000, 9000000, 1500000, 9000000, 4200000, 6000000, 6500000],
+        },
+        {**bounds, "name": "ground", "col": 20, "row": 0, "cols": 10, "rows": 20, "base": 0},
+    ]
+    out, calibration, grid = write_survey(folder, "third", heights, regions)
+    calibration |= {"version": 3}
+    calibration["grid"] |= {"keep": "mean", "bridge": 0}
+    with open(out + ".csv", "w") as file:
+        file.write(",".join(sgm_files.BRIDGED_NAMES) + "\n")
+        for region in regions:
+            line, _ = counted_inside(grid, region)
+            file.write(
+                ",".join(map(str, [region["name"], line["cells"], 0, *list(line.values())[1:]]))
+                + "\n"
+            )
+    return out, calibration, grid
+
+
+def corner_words(page):
+    return [
+        it.get_attribute("aria-label")
+        for it in page.driver.find_elements("css selector", ".corner")
+    ]
+
+
+def click(page, x, y):
+    """Clicks a place of the map, in cells."""
+    from selenium.webdriver.common.actions.action_builder import ActionBuilder
+
+    actions = ActionBuilder(page.driver)
+    actions.pointer_action.move_to_location(*page.place(x - 0.5, y - 0.5)).click()
+    actions.perform()
+
+
+def drawn_region(page):
+    """The region of the page, with the outline that the words for the calibration tool have."""
+    region = page.region()
+    words = page.element("words").get_attribute("value").split(" ")
+    name, _, numbers = words[1].partition("=")
+    return region, (words[0], name, [int(it) for it in numbers.split(",")], words[2:])
+
+
+def try_outlines(driver, check, folder):
+    out, calibration, grid = write_third(folder)
+    page = page_of(driver, out, calibration)
+    heap, ground = calibration["regions"]
+    check.equal(
+        "warnings of an outline", [it for it in page.warnings() if "disparities" not in it], []
+    )
+    # Both regions are picked by their names, and counted as the program counts them.
+    for button, region in zip(
+        driver.find_elements("css selector", "#regions button"), (heap, ground)
+    ):
+        button.click()
+        check.equal(f"{region['name']} of version 3", page.shown(), counted_inside(grid, region)[0])
+        check.equal(f"{region['name']}'s line of version 3", page.region(), region)
+    check.equal(
+        "words of a plane",
+        page.element("words").get_attribute("value"),
+        "--region ground 20 0 10 20 0 --plane ground 0 50000 0",
+    )
+
+    # The ground's plane becomes the base of an outline that is drawn by the mouse.
+    page.element("plane").click()
+    cells = [
+        (col, 19 - row, int(grid.heights[row, col]))
+        for col, row in sgm_regions.cells_of(ground, THIRD)
+    ]
+    base, east, north = sgm_regions.Plane(cells).fitted(THIRD["cell"])
+    flat = {"base": base, "rise_east": east, "rise_north": north}
+    check.equal("the plane of the ground", {key: page.region()[key] for key in flat}, flat)
+    mean, spread = counted_inside(grid, {**ground, **flat})[1]
+    sixteenth = sgm_regions.sixteenth_at(mean, calibration["camera"])
+    page.element("mode-outline").click()
+    page.element("anew").click()
+    page.driver.execute_script('document.getElementById("map").scrollIntoView({block: "center"})')
+    places = [(8, 4), (19, 5), (17, 15), (12, 10), (7, 16)]
+    for place in places:
+        click(page, *place)
+    check.equal("corners by the mouse", len(corner_words(page)), 5)
+    click(page, *places[0])
+    page.type("name", "new")
+
+    def same_as_python(what):
+        region, (option, name, outline, rest) = drawn_region(page)
+        check.equal(
+            f"{what}: the least rectangle",
+            [region[key] for key in ("col", "row", "cols", "rows")],
+            list(sgm_regions.least_rectangle(region["outline"], THIRD)),
+        )
+        line, _ = counted_inside(grid, region)
+        check.equal(f"{what}: counts", page.shown(), line)
+        check.equal(
+            f"{what}: words",
+            (option, name, outline),
+            ("--outline", region["name"], region["outline"]),
+        )
+        check.equal(
+            f"{what}: plane", rest, ["--plane", region["name"], str(base), str(east), str(north)]
+        )
+        sure = sgm_regions.plus_minus(line["cells"], THIRD["cell"], sixteenth, spread)
+        check.equal(f"{what}: plus or minus", page.exact("plus-minus"), sure)
+        return region["outline"]
+
+    outline = same_as_python("mouse")
+    near = [
+        abs(at * 500000 - e) + abs((18 - y) * 500000 - n)
+        for (at, y), e, n in zip(places, outline[::2], outline[1::2])
+    ]
+    check.equal("corners where the mouse was", max(near) < 100000, True)
+
+    # The second corner moves by keys, the third goes, and the mouse moves the first one.
+    second, third = driver.find_elements("css selector", ".corner")[1:3]
+    driver.execute_script("arguments[0].focus()", second)
+    page.keys("ARROW_LEFT")
+    page.keys("CONTROL", "ARROW_DOWN")
+    page.keys("SHIFT", "ARROW_UP")
+    moved = same_as_python("keys")
+    wanted = [*outline[:2], outline[2] - 500000, outline[3] - 5000000 + 50000, *outline[4:]]
+    check.equal("a corner moved by keys", moved, wanted)
+    check.equal("it keeps the focus", driver.switch_to.active_element == second, True)
+    style = driver.execute_script("return getComputedStyle(arguments[0]).outlineStyle", second)
+    check.equal("a focus to be seen", style, "solid")
+    driver.execute_script("arguments[0].focus()", third)
+    page.keys("DELETE")
+    check.equal("a corner gone", same_as_python("gone"), [*moved[:4], *moved[6:]])
+
+    # From the first corner to the last by keys alone. The cross stays on the grid.
+    page.element("anew").click()
+    driver.execute_script("document.getElementById('map').focus()")
+    for keys in (
+        ("ENTER",),
+        ("CONTROL", "ARROW_LEFT"),
+        ("ENTER",),
+        ("CONTROL", "ARROW_UP"),
+        ("ENTER",),
+        ("ENTER",),
+    ):
+        page.keys(*keys)
+    page.keys("BACK_SPACE")
+    check.equal("corners by keys", len(corner_words(page)), 3)
+    check.has("not closed", [page.element("outline-note").text], "not closed yet")
+    driver.execute_script("document.getElementById('map').focus()")
+    page.keys("ENTER")
+    page.keys("BACK_SPACE")
+    webdriver.ActionChains(driver).send_keys("c").perform()
+    region = page.region()
+    e, n = region["outline"][:2]
+    check.equal("an outline by keys", region["outline"], [e, n, 0, n, 0, n + 5000000])
+    check.equal("keys counted", page.shown(), counted_inside(grid, region)[0])
+    # Rises are typed, and a base from nowhere has no plus or minus.
+    page.type("rise-north", "-0.0125")
+    check.equal(
+        "a rise that is typed",
+        (page.region()["rise_north"], page.exact("plus-minus")),
+        (-12500, None),
+    )
+    page.type("rise-north", "1.1")
+    check.equal(
+        "a rise that is too steep", page.element("rise-north").get_attribute("aria-invalid"), "true"
+    )
+    # Back to rectangles, in which the outline has no part.
+    page.element("mode-rectangle").click()
+    page.draw((3, 4), (9, 12))
+    region = page.region()
+    check.equal(
+        "a rectangle beside an outline",
+        (region["col"], region["rows"], "outline" in region),
+        (3, 9, False),
+    )
+    check.equal("its counts", page.shown(), counted_inside(grid, region)[0])
+
+
 def try_large_numbers(driver, check, folder):
     """The highest and the lowest that can be, in cells of half a metre: sums far above 2^53."""
     heights = numpy.full((40, 50), 1999999999)
@@ -432,6 +653,7 @@ def run(screenshot, folder):
         check.equal("fetched", page.fetched(), [])
         try_warnings(driver, check, folder)
         try_bridged(driver, check, folder)
+        try_outlines(driver, check, folder)
         try_large_numbers(driver, check, folder)
         try_reduced(driver, check, folder)
         try_change(driver, check, folder)

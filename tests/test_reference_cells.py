@@ -99,11 +99,13 @@ class Whole(unittest.TestCase):
 
     CAMERA = {"focal": 25600, "baseline": 1000, "cx": 0, "cy": 0, "doffs": 256}
     CAMERA |= {"mount": 150000, "near": 1, "far": 1000000}
-    REGIONS = [
-        {"name": "all", "col": 0, "row": 0, "cols": 7, "rows": 5, "base": 40000},
-        {"name": "gap", "col": 1, "row": 1, "cols": 1, "rows": 1, "base": 0},
-        {"name": "bridge", "col": 1, "row": 0, "cols": 1, "rows": 1, "base": 60000},
-    ]
+    REGIONS = calibration_cases.level(
+        [
+            {"name": "all", "col": 0, "row": 0, "cols": 7, "rows": 5, "base": 40000},
+            {"name": "gap", "col": 1, "row": 1, "cols": 1, "rows": 1, "base": 0},
+            {"name": "bridge", "col": 1, "row": 0, "cols": 1, "rows": 1, "base": 60000},
+        ]
+    )
 
     HEAD = "ncols 7\nnrows 5\nxllcorner 1000\nyllcorner -2000\ncellsize 500\n"
     HEAD += "NODATA_value -2147483648\n"

@@ -151,7 +151,8 @@ def heap_calibration(settings, name):
     size = {"cell": 1000 * int(cell), "cols": cols, "rows": rows}
     grid = {**whole["grid"], **size, "keep": keep, "bridge": int(bridge)}
     keys = ("col", "row", "cols", "rows")
-    regions = [{**region, **dict(zip(keys, places[region["name"]]))} for region in whole["regions"]]
+    named = [{**region, **dict(zip(keys, places[region["name"]]))} for region in whole["regions"]]
+    regions = [{**region, "rise_east": 0, "rise_north": 0} for region in named]
     span = {**whole["disparities"], "fine": settings["disparities"]["fine"]}
     return {**whole, **settings, "disparities": span, "grid": grid, "regions": regions}
 

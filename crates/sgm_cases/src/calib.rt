@@ -1,10 +1,12 @@
 //! `calib TEXT`: the calibration that the text is, or its first fault.
 //!
-//! The answer is `ok`, the least disparity and their number, the window's sides, `smoothed` where costs are
-//! made so, the penalties, `adapt` where they follow the image, and then each warp, the camera, the grid with
-//! what its cells keep and how far heights are bridged, and the regions with their names and numbers, where
-//! they are there, the camera and the grid field by field; or the fault with its key's number, index and path.
-//! Of more than eight nodes or regions the last alone stands there, after their number.
+//! The answer is `ok`, the least disparity and their number, the window's sides, `smoothed` where
+//! costs are made so, the penalties, `adapt` where they follow the image, and then each warp, the
+//! camera, the grid with what its cells keep and how far heights are bridged, and the regions with
+//! their names and numbers, `rises` with both where the base rises, and `outline` with its corners,
+//! where they are there, the camera and the grid field by field; or the fault with its key's
+//! number, index and path. Of more than eight nodes, regions or corners the last alone stands
+//! there, after their number.
 
 use crate::escapes;
 use sgm_base::Span;
@@ -14,11 +16,11 @@ use sgm_energy::Pen;
 use sgm_grid::{GridSpec, Gridding, Keep};
 use sgm_height::Camera;
 use sgm_rectify::Warp;
-use sgm_report::Region;
+use sgm_report::{BasePlane, Region};
 use std::alloc::{AllocError, Global};
 use std::fmt::Write;
 
-/// As many nodes or regions stand in an answer.
+/// As many nodes, regions or corners stand in an answer.
 const MAX_SHOWN: usize = 8;
 
 fn push_key(text: &mut String, fault: &str, key: Key) -> Result<(), AllocError> {
@@ -42,7 +44,7 @@ fn push_fault(text: &mut String, fault: CalibFault) -> Result<(), AllocError> {
     }
 }
 
-/// The nodes or regions that are shown.
+/// The nodes, regions or corners that are shown.
 fn shown<T>(items: &[T]) -> &[T] {
     if items.len() <= MAX_SHOWN {
         items
@@ -84,8 +86,32 @@ fn push_warp(text: &mut String, warp: &Warp) -> Result<(), AllocError> {
 
 fn push_region(text: &mut String, region: &Region) -> Result<(), AllocError> {
     let (name, col, row) = (region.name.as_str(), region.col, region.row);
-    let (cols, rows, base) = (region.cols, region.rows, region.base);
-    write!(text, " [{name}] {col} {row} {cols} {rows} {base}")
+    let (cols, rows, base) = (region.cols, region.rows, region.base.height);
+    write!(text, " [{name}] {col} {row} {cols} {rows} {base}")?;
+    push_rises(text, region.base)?;
+    match &region.outline {
+        None => Ok(()),
+        Some(corners) => push_corners(text, corners),
+    }
+}
+
+/// Adds how a base rises, where it does.
+fn push_rises(text: &mut String, base: BasePlane) -> Result<(), AllocError> {
+    let (east, north) = (base.rise_east, base.rise_north);
+    if east == 0 && north == 0 {
+        Ok(())
+    } else {
+        write!(text, " rises {east} {north}")
+    }
+}
+
+fn push_corners(text: &mut String, corners: &[(i32, i32)]) -> Result<(), AllocError> {
+    let count = corners.len();
+    write!(text, " outline {count}")?;
+    for (east, north) in shown(corners) {
+        write!(text, " {east},{north}")?;
+    }
+    Ok(())
 }
 
 fn push_regions(text: &mut String, regions: &[Region]) -> Result<(), AllocError> {

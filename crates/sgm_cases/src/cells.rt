@@ -21,7 +21,7 @@ use std::alloc::{AllocError, Global};
 const FARTHEST: i64 = 1_152_921_504_606_846_976;
 
 /// The most points of a case.
-const MAX_POINTS: usize = 1000;
+pub const MAX_POINTS: usize = 1000;
 
 /// What a case asks for, but for its points.
 #[derive(Clone, Copy)]
@@ -130,7 +130,7 @@ fn read_point(word: &str) -> Option<Point>
 }
 
 /// Adds the points that these words tell, and answers whether each word is one.
-fn add_points(bins: &mut Bins, words: &[String]) -> bool
+pub fn add_points(bins: &mut Bins, words: &[String]) -> bool
     requires few { length words.now ≤ 1000 }
     requires room { HasRoom bins.old most_points }
 {

@@ -15,6 +15,7 @@ mod kernel;
 mod line;
 mod mean;
 mod parts;
+mod regions;
 mod rows;
 mod run;
 mod words;
@@ -38,6 +39,7 @@ fn answer<R: Threads + Sync>(
         "fine" => fine::answer(alloc, rest),
         "kernel" => kernel::answer(alloc, rest),
         "mean" => mean::answer(alloc, rest),
+        "regions" => regions::answer(alloc, rest),
         "run" => run::answer(rt, alloc, rest),
         "words" => words::answer(alloc, rest),
         _ => String::from_str(alloc, "no such kind"),
