@@ -65,6 +65,27 @@ def pixels_in(values, filled, points, grid, col, row):
     return sorted((tuple(map(int, it)) for it in found), key=lambda it: (-it[0], it[2], it[1]))
 
 
+def cells_with_points(values, filled, points, grid):
+    """Which cells of the grid points fall into, as an array."""
+    ys, xs = numpy.nonzero(filled & (points.k_of(values) > 0))
+    k = points.k_of(values[ys, xs])
+    away = rounded(points.focal * points.baseline, k)
+    col = (rounded((256 * xs - points.cx) * points.baseline, k) - grid.west) // grid.cell
+    south = (rounded((points.cy - 256 * ys) * points.baseline, k) - grid.south) // grid.cell
+    rows, cols = grid.heights.shape
+    inside = (
+        (points.near <= away)
+        & (away <= points.far)
+        & (0 <= col)
+        & (col < cols)
+        & (0 <= south)
+        & (south < rows)
+    )
+    made = numpy.zeros((rows, cols), bool)
+    made[rows - 1 - south[inside], col[inside]] = True
+    return made
+
+
 def keeps_mean(calibration):
     """Whether cells keep the mean of their points; without the key they keep the highest."""
     keep = calibration["grid"].get("keep", "highest")

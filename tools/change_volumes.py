@@ -3,8 +3,8 @@
 
     tools/change_volumes.py OUT --calib calibration.json [--still NAME] [--digits N]
 
-Reads OUT.asc and OUT.csv and the regions of the calibration, whose bases play no part here, and writes a line
-for each region and one for the whole grid, `all`:
+Reads OUT.asc and OUT.csv and the regions of the calibration, whose bases play no part here while
+their outlines do, and writes a line for each region and one for the whole grid, `all`:
 
     region,cells,empty,fill_m3,cut_m3,net_m3,mean_m,spread_m
 
@@ -22,8 +22,9 @@ import math
 import sys
 
 import sgm_files
+import sgm_regions
 from cubic_metres import moved
-from sgm_files import Wrong, numpy, whole
+from sgm_files import Wrong, numpy
 
 HEAD = ["region", "cells", "empty", "fill_m3", "cut_m3", "net_m3", "mean_m", "spread_m"]
 
@@ -54,11 +55,13 @@ class Tally:
 
 
 def regions_of(calibration, grid):
-    """The regions' names and their rectangles, as slices."""
+    """The regions' names, their rectangles as slices, and which of the cells there count."""
     sgm_files.check_grid(calibration, grid)
+    sides = sgm_regions.grid_in(calibration)
     for region in sgm_files.regions_in(calibration):
-        col, row, across, down = (whole(region, key) for key in ("col", "row", "cols", "rows"))
-        yield str(region.get("name")), (slice(row, row + down), slice(col, col + across))
+        yield str(region.get("name")), sgm_regions.place_of(region), sgm_regions.mask_of(
+            region, sides
+        )
 
 
 def tallies(out, calibration):
@@ -66,7 +69,9 @@ def tallies(out, calibration):
     grid = sgm_files.read_grid(out + ".asc")
     if grid.nothing != sgm_files.NO_DIFFERENCE:
         raise Wrong(f"{out}.asc: heights, and not a difference")
-    made = [(name, Tally(grid.heights[at], grid.filled[at], grid.cell)) for name, at in regions_of(calibration, grid)]
+    made = []
+    for name, at, counts in regions_of(calibration, grid):
+        made.append((name, Tally(grid.heights[at][counts], grid.filled[at][counts], grid.cell)))
     every = Tally(grid.heights, grid.filled, grid.cell)
     said = sgm_files.read_volumes(out + ".csv")
     if [said[key] for key in ("both", "fill", "cut")] != [every.cells, every.fill, every.cut]:

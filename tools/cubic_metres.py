@@ -21,10 +21,17 @@ words more, `ground_m,above_m3`:
   cells * cell * cell for each micrometre by which the base moves. It is exactly the fill less the cut of a
   survey whose base for the region is ground_m. The ground's own line has none.
 
+Where bases slope (rise_east and rise_north of version 3), ground_m is the height at the grid's
+south-west corner, as a base is, of the ground's base when it is lifted to the mean of its cells,
+and above_m3 is the volume above that sloping plane. A region whose base rises otherwise than the
+ground's has no above_m3: give both one plane, as tools/opencv_calibration.py does. Of a region with
+an outline the cells inside alone count.
+
 With --heights OUT.asc, the heights of that survey, there is a third word, `plus_minus_m3`, by how much above_m3
 may be off: cells * cell * cell * (2 s + 3 D) / 6, where s is what a sixteenth of a pixel is in height on the
 ground, 16 Z Z / (focal * baseline) at the distance Z = mount - ground, and D the mean of how far the ground's
-cells lie from their mean height, each to the nearest micrometre. It is meant for surveys in version 3 with
+cells lie from their mean height, each to the nearest micrometre; where bases slope, D is of each
+height less its base. It is meant for surveys in version 3 with
 `fine` true and cells that keep the mean and are bridged; what it covers and what it doesn't is said on standard
 error. Of 144 volumes of drawn heaps, at eight heights of the camera, all were within it.
 
@@ -42,7 +49,9 @@ import json
 import sys
 
 import sgm_files
+import sgm_regions
 from sgm_files import Wrong
+from sgm_regions import plus_minus
 
 COUNTS = ("cells", "bridged", "empty")
 NEW_HEAD = ["fill_m3", "cut_m3", "net_m3", "lowest_m", "highest_m"]
@@ -50,7 +59,7 @@ ABOVE_HEAD = ["ground_m", "above_m3"]
 PLUS_MINUS_HEAD = ["plus_minus_m3"]
 COVERED = (
     "plus_minus_m3 covers noise and how finely the pictures were matched, and neither a wrong calibration"
-    " nor upright sides"
+    " nor upright sides nor what moved between the two pictures"
 )
 NEW_CHANGE_HEAD = ["both", "come", "gone", "empty", "fill_m3", "cut_m3", "net_m3"]
 
@@ -97,6 +106,13 @@ def table(names, lines, digits):
         yield [line["region"], *(line[name] for name in counts), *volumes, *heights]
 
 
+def size_of(area, calibration):
+    """How many cells of the region count."""
+    if sgm_regions.outline_of(area) is None:
+        return area["cols"] * area["rows"]
+    return sgm_regions.number_of_cells(area, sgm_regions.grid_in(calibration))
+
+
 class Survey:
     """What the calibration says of the report: the side of a cell, and the regions with their bases."""
 
@@ -106,8 +122,9 @@ class Survey:
             self.whole = top = json.loads(sgm_files.read_bytes(name).decode("utf-8", "replace"))
             self.cell, areas = top["grid"]["cell"], top["regions"]
             self.names = [area["name"] for area in areas]
-            self.sizes = [area["cols"] * area["rows"] for area in areas]
+            self.sizes = [size_of(area, top) for area in areas]
             self.bases = [area["base"] for area in areas]
+            self.rises = [sgm_regions.rises_of(area) for area in areas]
         except (ValueError, KeyError, TypeError, RecursionError):
             raise Wrong(complaint) from None
         if not all(type(number) is int for number in [self.cell, *self.bases, *self.sizes]) or self.cell < 1:
@@ -144,38 +161,26 @@ def ground_in(regions, name):
     return grounds[0]
 
 
+def is_above(survey, number, ground):
+    """Whether the region is one that is measured above the ground: another one whose base rises as
+    the ground's."""
+    return number != ground and survey.rises[number] == survey.rises[ground]
+
+
 def above_ground(regions, survey, ground, digits):
     """For each region the two words more."""
     height = mean_height(regions[ground], survey.bases[ground], survey.cell)
     for number, (region, base) in enumerate(zip(regions, survey.bases)):
-        volume = "" if number == ground else moved(net_above(region, base, survey.cell, height), 18, digits)
-        yield [moved(height, 6, digits), volume]
+        volume = moved(net_above(region, base, survey.cell, height), 18, digits)
+        yield [moved(height, 6, digits), volume if is_above(survey, number, ground) else ""]
 
 
-def rounded(a, b):
-    """a / b to the nearest whole number, halves up."""
-    return (2 * a + b) // (2 * b)
-
-
-def plus_minus(cells, cell, sixteenth, spread):
-    """By how much a volume above the ground may be off, in cubic micrometres: `sixteenth` is what a sixteenth of
-    a pixel is in height there, and `spread` how far the ground's cells lie from their mean height."""
-    return rounded(cells * cell * cell * (2 * sixteenth + 3 * spread), 6)
-
-
-def heights_of(grid, areas):
-    """The heights of each region's cells that have one."""
-    for area in areas:
-        col, row, cols, rows = (sgm_files.whole(area, key) for key in ("col", "row", "cols", "rows"))
-        at = (slice(row, row + rows), slice(col, col + cols))
-        yield grid.heights[at][grid.filled[at]]
-
-
-def is_of_heights(region, base, cell, found):
-    """Whether a region's line can be one of these heights."""
+def is_of_heights(region, cell, found):
+    """Whether a region's line can be one of these heights and bases."""
     name, cells, _, fill, cut, _, _ = region
-    above = int(found.sum()) - base * cells
-    return (cells, fill - cut) == (found.size, above * cell * cell)
+    heights, bases = found
+    above = int((heights - bases).sum())
+    return (cells, fill - cut) == (heights.size, above * cell * cell)
 
 
 def uncertain(regions, survey, ground, words):
@@ -183,24 +188,25 @@ def uncertain(regions, survey, ground, words):
     try:
         grid = sgm_files.read_grid(words.heights)
         sgm_files.check_grid(survey.whole, grid)
-        found = list(heights_of(grid, sgm_files.regions_in(survey.whole)))
-        each = zip(regions, survey.bases, found)
-        if not all(is_of_heights(region, base, survey.cell, it) for region, base, it in each):
+        areas, sides = sgm_files.regions_in(survey.whole), sgm_regions.grid_in(survey.whole)
+        found = [sgm_regions.found_in(area, sides, grid.heights, grid.filled) for area in areas]
+        if not all(is_of_heights(region, survey.cell, it) for region, it in zip(regions, found)):
             raise Wrong(f"not the heights of which {words.file} tells")
     except Wrong as error:
         text = str(error)
-        raise Wrong(text if text.startswith(words.heights) else f"{words.heights}: {text}") from None
-    focal, baseline, mount = (
-        sgm_files.whole(survey.whole, "camera", key) for key in ("focal", "baseline", "mount")
-    )
-    if focal < 1 or baseline < 1:
+        raise Wrong(
+            text if text.startswith(words.heights) else f"{words.heights}: {text}"
+        ) from None
+    camera = {
+        key: sgm_files.whole(survey.whole, "camera", key) for key in ("focal", "baseline", "mount")
+    }
+    if camera["focal"] < 1 or camera["baseline"] < 1:
         raise Wrong(f"{words.calibration}: not a calibration of sgm with a camera")
-    height = rounded(int(found[ground].sum()), found[ground].size)
-    spread = rounded(int(abs(found[ground] - height).sum()), found[ground].size)
-    sixteenth = rounded(16 * (mount - height) ** 2, focal * baseline)
+    height, spread = sgm_regions.ground_spread(*found[ground])
+    sixteenth = sgm_regions.sixteenth_at(height, camera)
     for number, region in enumerate(regions):
-        volume = plus_minus(region[1], survey.cell, sixteenth, spread)
-        yield ["" if number == ground else moved(volume, 18, words.digits)]
+        volume = moved(plus_minus(region[1], survey.cell, sixteenth, spread), 18, words.digits)
+        yield [volume if is_above(survey, number, ground) else ""]
 
 
 def columns_above(regions, words):

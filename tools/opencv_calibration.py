@@ -21,15 +21,27 @@ with --adapt 25 and 1200, for other windows than 9 x 7 in proportion. Its dispar
 --no-fine they aren't, and then it is no calibration for volumes. The cells of its grid keep the mean of their points, or
 with --keep highest the highest one, and heights are bridged over two cells, or over as many as --bridge says.
 
+In version 3 a region may be bounded by an outline: --outline NAME=FILE takes it from GeoJSON, or,
+with Debian's python3-gdal, from a GeoPackage, a Shapefile or what else OGR reads, and --outline
+NAME=E0,N0,E1,N1,.. from its corners in micrometres. A file has metres in the grid's frame, or in
+that frame moved by --outline-origin. Holes and several parts become one outline, with seams that
+are run twice. The region's rectangle is the least one that holds the outline. Each region has a
+base plane: its height at the grid's south-west corner and its rises to the east and to the north in
+micrometres a metre. --plane NAME says it for one region; --plane-from OUT.asc CALIB.json gives all
+others the plane that lies nearest to the cells of an earlier match, by least squares over its
+regions whose name begins with `ground`. Else it is level, at the BASE of --region, or at 0.
+
 Needs numpy, and OpenCV's package (cv2) for YAML, for XML, and where a rectification has to be computed.
 """
 
 import argparse
+import decimal
 import json
 import math
 import re
 
 import sgm_files
+import sgm_regions
 from sgm_files import Wrong, numpy
 
 cv2 = sgm_files.package("cv2")
@@ -73,6 +85,9 @@ MOST_REGIONS = 1000
 STEPS = (64, 32, 16, 8, 4)
 CLOSE_ENOUGH = 1 / 32
 FARTHEST = 16777216
+# No corner of an outline is farther from the origin of the grid's frame, to the east or to the
+# north.
+FARTHEST_CORNER = sgm_regions.MOST_LENGTH
 LONGEST = 16777216
 # No number of a camera is greater. NaN and infinity aren't up to it either.
 MOST = 1e18
@@ -349,6 +364,213 @@ def region_of(values):
     return dict(zip(("name", "col", "row", "cols", "rows", "base"), values))
 
 
+def regions_of(words):
+    """The regions, those with outlines last, and lines about them."""
+    made, lines = [region_of(values) for values in words.region], []
+    if words.version != 3 or words.grid is None:
+        return made, lines
+    grid, taken = grid_of(words), None
+    for name, source in words.outline:
+        outline = outline_from(name, source, words.outline_origin)
+        least = sgm_regions.least_rectangle(outline, grid)
+        if least is None:
+            raise Wrong(f"the outline {name} lies beyond the grid")
+        if is_beyond(outline, grid):
+            lines.append(f"the outline {name} reaches beyond the grid: what lies there has no part")
+        made.append({**region_of([name, *least, 0]), "outline": outline})
+    if words.plane_from is not None:
+        taken, said = plane_from(*words.plane_from, grid)
+        lines.append(said)
+    planes = dict(words.plane)
+    for region in made:
+        base, east, north = planes.get(region["name"], taken or (region["base"], 0, 0))
+        outline = {"outline": region.pop("outline")} if "outline" in region else {}
+        region |= {"base": base, "rise_east": east, "rise_north": north, **outline}
+        if abs(base) > BASE[1] or not sgm_regions.is_in_range(region, grid):
+            raise Wrong(
+                f"the base of the region {region['name']} leaves the range of heights"
+                " within its rectangle"
+            )
+        if outline and not sgm_regions.number_of_cells(region, grid):
+            lines.append(f"no cell's middle lies in the outline {region['name']}")
+    return made, lines
+
+
+def is_beyond(outline, grid):
+    """Whether a part of the outline lies beyond the grid."""
+    for part, side, count in ((outline[::2], "west", "cols"), (outline[1::2], "south", "rows")):
+        if min(part) < grid[side] or max(part) > grid[side] + grid[count] * grid["cell"]:
+            return True
+    return False
+
+
+# Outlines and planes
+
+
+def rings_of(geometry, name):
+    """The rings of a polygon's or of several polygons' coordinates."""
+    kind = geometry.get("type") if isinstance(geometry, dict) else None
+    found = geometry.get("coordinates") if kind in ("Polygon", "MultiPolygon") else None
+    polygons = [found] if kind == "Polygon" else found
+    try:
+        return [[tuple(place[:2]) for place in ring] for polygon in polygons for ring in polygon]
+    except TypeError:
+        raise Wrong(f"{name}: not a polygon")
+
+
+def json_features(name):
+    """The names and geometries of a GeoJSON file; its numbers are decimals, so nothing is
+    rounded."""
+    text = sgm_files.read_bytes(name)
+    try:
+        top = json.loads(
+            text.decode("utf-8-sig"), parse_float=decimal.Decimal, parse_int=decimal.Decimal
+        )
+    except (ValueError, RecursionError) as error:
+        raise Wrong(f"{name}: not JSON: {error}")
+    kind = top.get("type") if isinstance(top, dict) else None
+    listed = top.get("features") if kind == "FeatureCollection" else [top]
+    if (
+        not isinstance(listed, list)
+        or not all(isinstance(it, dict) for it in listed)
+        or kind is None
+    ):
+        raise Wrong(f"{name}: not GeoJSON")
+    for it in listed:
+        is_feature = it.get("type") == "Feature"
+        properties = it.get("properties") if is_feature else None
+        said = properties.get("name") if isinstance(properties, dict) else None
+        yield said, it.get("geometry") if is_feature else it
+
+
+def ogr_features(name):
+    """The same of what OGR reads."""
+    with open(name, "rb"):
+        pass
+    ogr = sgm_files.package("osgeo.ogr")
+    if ogr is None:
+        raise Wrong(
+            f"{name}: GDAL of Python needed: apt-get install python3-gdal on Debian,"
+            " or save it as GeoJSON"
+        )
+    ogr.UseExceptions()
+    try:
+        source = ogr.Open(name)
+        if source is None:
+            raise Wrong(f"{name}: OGR can't read it")
+        # A layer and a feature belong to their source, which has to stay.
+        layers = [source.GetLayer(number) for number in range(source.GetLayerCount())]
+        for layer in layers:
+            for feature in layer:
+                keys = {key.lower(): value for key, value in feature.items().items()}
+                geometry = feature.GetGeometryRef()
+                text = (
+                    "null"
+                    if geometry is None
+                    else geometry.ExportToJson(["COORDINATE_PRECISION=9"])
+                )
+                yield keys.get("name"), json.loads(text, parse_float=decimal.Decimal)
+    except RuntimeError as error:
+        raise Wrong(f"{name}: OGR can't read it: {error}")
+
+
+def micrometres_of(place, origin, name):
+    """Whole micrometres of metres, less the origin."""
+    made = []
+    for value, zero in zip(place, origin):
+        if (
+            isinstance(value, bool)
+            or not isinstance(value, (int, decimal.Decimal))
+            or not abs(value) < 10**9
+        ):
+            raise Wrong(f"{name}: a corner isn't two numbers")
+        made.append(int(((value - zero) * 1000000).to_integral_value(decimal.ROUND_HALF_EVEN)))
+    if len(made) != 2:
+        raise Wrong(f"{name}: a corner isn't two numbers")
+    return tuple(made)
+
+
+def joined(rings):
+    """The rings as one: from the first one's begin to each other one and back, by seams that are
+    run twice."""
+    first, *others = rings
+    made = list(first)
+    for ring in others:
+        made += [first[0], *ring, ring[0]]
+    return made
+
+
+def outline_from(name, source, origin):
+    """The numbers of an outline, of its words or of a file."""
+    if re.fullmatch("-?[0-9]+(,-?[0-9]+)*", source):
+        outline = [int(word) for word in source.split(",")]
+        if len(outline) % 2:
+            raise Wrong(
+                f"the outline {name} has {len(outline)} numbers,"
+                " an east and a north for each corner are needed"
+            )
+    else:
+        is_json = source.lower().endswith((".json", ".geojson"))
+        features = list(json_features(source) if is_json else ogr_features(source))
+        if len(features) != 1:
+            features = [it for it in features if it[0] == name]
+        if len(features) != 1:
+            many = len(features) or "no"
+            raise Wrong(
+                f"{source}: {many} polygons have the name {name};"
+                " one is needed, or a file of one polygon"
+            )
+        rings = []
+        for ring in rings_of(features[0][1], source):
+            corners = [micrometres_of(place, origin, source) for place in ring]
+            # A ring comes back to its first corner, which an outline does by itself.
+            rings.append(
+                corners[:-1] if len(corners) > 1 and corners[0] == corners[-1] else corners
+            )
+        if not rings or not all(rings):
+            raise Wrong(f"{source}: not a polygon")
+        outline = [number for corner in joined(rings) for number in corner]
+    if not sgm_regions.LEAST_NUMBERS <= len(outline) <= sgm_regions.MOST_NUMBERS:
+        raise Wrong(f"the outline {name} has {len(outline) // 2} corners, 3 to 1000 are needed")
+    if max(map(abs, outline)) > FARTHEST_CORNER:
+        raise Wrong(
+            f"the outline {name} is farther than 2 km from the grid's origin:"
+            " --outline-origin moves it"
+        )
+    return outline
+
+
+def plane_from(heights, earlier, grid):
+    """The plane of the ground of an earlier match, at this grid's south-west corner, and a line
+    about it."""
+    calibration, found = sgm_files.read_json(earlier), sgm_files.read_grid(heights)
+    sgm_files.check_grid(calibration, found)
+    cells = list(sgm_regions.ground_cells(calibration, found))
+    plane = sgm_regions.Plane(cells).fitted(found.cell)
+    if plane is None:
+        raise Wrong(
+            f"{heights}: the regions of {earlier} whose name begins with ground"
+            " have no cells for a plane"
+        )
+    base, east, north = plane
+    if max(abs(east), abs(north)) > sgm_regions.MOST_RISE:
+        raise Wrong(f"{heights}: the ground rises by more than one to one")
+    own = {"base": base, "rise_east": east, "rise_north": north}
+    away = [
+        abs(height - sgm_regions.base_at(own, {"cell": found.cell}, col, row))
+        for col, row, height in cells
+    ]
+    moved = east * (grid["west"] - found.west) + north * (grid["south"] - found.south)
+    base += sgm_regions.rounded(moved, 1000000)
+    said = f"plane of {len(cells)} cells of the ground: {base}, "
+    said += f"rises {east} to the east and {north} to the north; "
+    return (
+        base,
+        east,
+        north,
+    ), said + f"its cells lie {sum(away) // len(away)} micrometres from it in the mean"
+
+
 def calibration(parts, words):
     """The calibration, and the lines about it."""
     r1, r2, p1, p2 = rectification(parts, words.centred, words.alpha)
@@ -367,15 +589,16 @@ def calibration(parts, words):
     }
     if words.grid is not None:
         whole["grid"] = grid_of(words)
-    if words.region:
-        whole["regions"] = [region_of(values) for values in words.region]
+    regions, said = regions_of(words)
+    if regions:
+        whole["regions"] = regions
     line = (
         f"{size[0]} x {size[1]}, focal length {camera['focal'] / 256:.2f} pixels, "
         f"baseline {camera['baseline']} micrometres, "
         f"disparities {span['first']} to {span['first'] + span['count'] - 1}, "
         f"meshes of step {step} within {worst:.3f} pixels"
     )
-    return whole, f"{line}\n{costs}"
+    return whole, "\n".join([line, costs, *said])
 
 
 def text_of(whole):
@@ -424,15 +647,50 @@ def region_words(values, grid):
     name, *words = values
     if grid is None:
         raise argparse.ArgumentTypeError("a region is of a grid, and --grid isn't given")
-    if not re.fullmatch("[A-Za-z0-9 _.-]{1,64}", name):
-        raise argparse.ArgumentTypeError(f"NAME {name!r} isn't 1 to 64 letters, digits, spaces, _, - and .")
-    made = [name]
+    made = [checked_name(name)]
     for key, word in zip(("COL", "ROW", "COLS", "ROWS", "BASE"), words):
         try:
             made.append(whole_word(*range_of(key, made, grid))(word))
         except argparse.ArgumentTypeError as error:
             raise argparse.ArgumentTypeError(f"{key} {error}")
     return made
+
+
+def metres_word(word):
+    """A reader of metres, as a decimal."""
+    if not re.fullmatch(r"-?[0-9]{1,9}(\.[0-9]{1,9})?", word):
+        raise argparse.ArgumentTypeError(f"{word} isn't a number of metres")
+    return decimal.Decimal(word)
+
+
+def outline_words(word):
+    """An outline's name, and its file or its numbers."""
+    name, sign, source = word.partition("=")
+    if not sign or not source:
+        raise argparse.ArgumentTypeError(f"{word} isn't NAME=FILE or NAME=E0,N0,E1,N1,..")
+    return checked_name(name), source
+
+
+def plane_words(values, names):
+    """A plane's name and numbers from its words."""
+    name, *words = values
+    if name not in names:
+        raise argparse.ArgumentTypeError(f"no region has the name {name}")
+    made = []
+    for key, word, most in zip(
+        ("BASE", "RISE_EAST", "RISE_NORTH"), words, (BASE[1], *2 * [sgm_regions.MOST_RISE])
+    ):
+        try:
+            made.append(whole_word(-most, most)(word))
+        except argparse.ArgumentTypeError as error:
+            raise argparse.ArgumentTypeError(f"{key} {error}")
+    return name, tuple(made)
+
+
+def checked_name(name):
+    if not re.fullmatch("[A-Za-z0-9 _.-]{1,64}", name):
+        raise argparse.ArgumentTypeError(f"NAME {name!r} isn't 1 to 64 letters, digits, spaces, _, - and .")
+    return name
 
 
 def range_of(key, made, grid):
@@ -482,6 +740,17 @@ def words_of():
     region = "a rectangle of the grid's cells, counted from the upper left one; may come many times"
     numbers = ("NAME", "COL", "ROW", "COLS", "ROWS", "BASE")
     option("--region", nargs=6, action="append", default=[], metavar=numbers, help=region)
+    outline = "with --version 3: a region bounded by an outline; may come many times"
+    option("--outline", action="append", default=[], metavar="NAME=FILE", help=outline)
+    origin = "where in the files of outlines the grid's frame begins, in metres (0 0)"
+    option("--outline-origin", type=metres_word, nargs=2, metavar=("EAST", "NORTH"), help=origin)
+    plane = "with --version 3: the base plane of the region NAME; may come many times"
+    numbers = ("NAME", "BASE", "RISE_EAST", "RISE_NORTH")
+    option("--plane", nargs=4, action="append", default=[], metavar=numbers, help=plane)
+    ground = (
+        "with --version 3: the base plane of all other regions is that of the ground of this match"
+    )
+    option("--plane-from", nargs=2, metavar=("OUT.asc", "CALIB.json"), help=ground)
     keep = f"with --version 3 and --grid: what a cell keeps of its points ({KEEP})"
     option("--keep", choices=("highest", "mean"), help=keep)
     bridge = f"with --version 3 and --grid: over how many cells heights are bridged, 0 to 8 ({BRIDGE})"
@@ -502,12 +771,30 @@ def words_of():
     for (name, (low, high)), value in zip(GRID.items(), words.grid or ()):
         if not low <= value <= high:
             parser.error(f"--grid: {name} {value} isn't from {low} to {high}")
-    if len(words.region) > MOST_REGIONS:
-        parser.error(f"--region: {len(words.region)} of them, {MOST_REGIONS} at most")
+    for name in ("outline", "outline_origin", "plane", "plane_from"):
+        if getattr(words, name) and (words.version != 3 or words.grid is None):
+            parser.error(f"--{name.replace('_', '-')}: needs --version 3 and --grid")
+    if len(words.region) + len(words.outline) > MOST_REGIONS:
+        parser.error(
+            f"--region: {len(words.region) + len(words.outline)} of them, {MOST_REGIONS} at most"
+        )
     try:
         words.region = [region_words(values, words.grid) for values in words.region]
     except argparse.ArgumentTypeError as error:
         parser.error(f"--region: {error}")
+    try:
+        words.outline = [outline_words(word) for word in words.outline]
+    except argparse.ArgumentTypeError as error:
+        parser.error(f"--outline: {error}")
+    names = [values[0] for values in words.region] + [name for name, _ in words.outline]
+    for name, _ in words.outline:
+        if names.count(name) > 1:
+            parser.error(f"--outline: {names.count(name)} regions have the name {name}")
+    try:
+        words.plane = [plane_words(values, names) for values in words.plane]
+    except argparse.ArgumentTypeError as error:
+        parser.error(f"--plane: {error}")
+    words.outline_origin = words.outline_origin or (0, 0)
     return words
 
 

@@ -6,7 +6,10 @@
 Reads OUT.pgm, OUT.asc and, where the calibration has regions, OUT.csv, and writes OUT.html. A rectangle drawn
 on the heights shows its lowest, mean and highest height, its empty cells, and fill and cut against a base that
 is typed or taken from the mean of another rectangle, counted exactly, and gives the line for the calibration's
-`regions`. The page warns of what the guide says to check: many empty cells, a highest cell far above its
+`regions`. With a calibration of version 3 an outline can be drawn too, and counts as the program
+counts it; the base may be the plane that fits a piece of ground best; the volume above ground that
+was taken so has plus or minus; and bridged cells are drawn apart: those with a height into which no
+point of OUT.pgm falls. The page warns of what the guide says to check: many empty cells, a highest cell far above its
 neighbours, disparities at the ends of the span, ground that slopes (in regions whose name begins with `ground`
 and in the rectangle taken for the base). A grid of more than four million cells is shown reduced: the page
 says so, and what a rectangle counts is then too large, while the table of the regions stays exact.
@@ -23,15 +26,19 @@ import html
 import json
 import os
 
+import cell_pixels
 import change_volumes
 import heights_picture
 import sgm_files
+import sgm_regions
 import stretch
 from sgm_files import Image, Wrong, numpy, whole
 
 TEMPLATE = os.path.join(os.path.dirname(os.path.realpath(__file__)), "survey_page.html")
 MOST_CELLS = 4_000_000
 LONGEST_SIDE = 1600
+# The colour of bridged cells, and how much of it covers theirs.
+VIOLET = (150, 40, 220, 150)
 # Beyond every height and every change.
 BEYOND = 1 << 40
 
@@ -47,6 +54,8 @@ def regions_of(calibration, report):
     made = []
     for region, line in zip(listed, report):
         numbers = {key: whole(region, key) for key in ("col", "row", "cols", "rows", "base")}
+        numbers |= dict(zip(("rise_east", "rise_north"), sgm_regions.rises_of(region)))
+        numbers["outline"] = sgm_regions.outline_of(region)
         # As text, since a browser's numbers aren't exact above 2^53.
         line = {**line, "fill": str(line["fill"]), "cut": str(line["cut"])}
         made.append({"name": region["name"], **numbers, "report": line})
@@ -91,6 +100,29 @@ def heights_text(grid):
     if grid.filled.any() and abs(grid.heights[grid.filled]).max() > (4 * 10**9 if is_change else 2**31 - 1):
         raise Wrong("heights beyond what sgm writes")
     return text_of(numpy.where(grid.filled, grid.heights, grid.nothing).astype("<f8" if is_change else "<i4").tobytes())
+
+
+def bridges_of(calibration, grid, values, filled):
+    """Which cells are bridged, as an array; None where none can be, or where the points aren't
+    known here."""
+    sides = calibration.get("grid", {})
+    if calibration.get("version") != 3 or not sides.get("bridge") or "pose" in calibration:
+        return None
+    points = cell_pixels.cells_with_points(values, filled, cell_pixels.Points(calibration), grid)
+    if (points & ~grid.filled).any():
+        raise Wrong("the heights aren't those of the disparities by this calibration")
+    return grid.filled & ~points
+
+
+def marks_of(bridged):
+    """What the page has of bridged cells: a bit each, the least first, and a picture of them
+    alone."""
+    if bridged is None:
+        return {"bridges": None, "bridgeMap": None}
+    colours = numpy.zeros((*bridged.shape, 4), numpy.uint8)
+    colours[bridged] = VIOLET
+    bits = numpy.packbits(bridged.ravel(), bitorder="little")
+    return {"bridges": text_of(bits.tobytes()), "bridgeMap": picture_text(colours)}
 
 
 # Pictures
@@ -141,29 +173,34 @@ def survey(out, calibration, left):
     if grid.nothing == sgm_files.NO_DIFFERENCE:
         known = change_of(out, calibration, grid)
     else:
-        known = survey_of(out, calibration)
+        known = survey_of(out, calibration, grid)
     sgm_files.progress("drawing")
     rows, cols = grid.heights.shape
     block = block_of(rows, cols)
+    # Blocks of cells are no bridges.
+    marks = marks_of(known.get("bridged") if block == 1 else None)
     shown = reduced(grid, block)
     colours, _ = heights_picture.drawn(shown)
     return {
+        "version": calibration.get("version"),
         "gridCols": cols,
         "gridRows": rows,
         "block": block,
         "west": shown.west,
         "south": shown.south,
+        "gridSouth": grid.south,
         "cell": shown.cell,
         "cols": shown.heights.shape[1],
         "rows": shown.heights.shape[0],
         "map": picture_text(colours),
         "left": left_text(left) if left else None,
         "heights": heights_text(shown),
-        **known,
+        **marks,
+        **{key: value for key, value in known.items() if key != "bridged"},
     }
 
 
-def survey_of(out, calibration):
+def survey_of(out, calibration, grid):
     """What is a survey's alone."""
     report = sgm_files.read_report(out + ".csv") if "regions" in calibration else []
     regions = regions_of(calibration, report)
@@ -171,6 +208,7 @@ def survey_of(out, calibration):
     numbers, _ = stretch.stretched(values, filled)
     return {
         "change": None,
+        "bridged": bridges_of(calibration, grid, values, filled),
         "camera": {key: whole(calibration, "camera", key) for key in ("focal", "baseline", "mount")},
         "disparities": span_of(calibration, values, filled),
         "regions": regions,
@@ -183,8 +221,8 @@ def change_of(out, calibration, grid):
     said = sgm_files.read_volumes(out + ".csv")
     *tallies, _ = change_volumes.tallies(out, calibration)
     report = []
-    for (name, it), (_, at) in zip(tallies, change_volumes.regions_of(calibration, grid)):
-        found = grid.heights[at][grid.filled[at]]
+    for (name, it), (_, at, counts) in zip(tallies, change_volumes.regions_of(calibration, grid)):
+        found = grid.heights[at][grid.filled[at] & counts]
         lowest, highest = (int(found.min()), int(found.max())) if it.cells else (None, None)
         numbers = (name, it.cells, it.empty, it.fill, it.cut, lowest, highest)
         report.append(dict(zip(sgm_files.REPORT_NAMES, numbers)))
@@ -194,7 +232,7 @@ def change_of(out, calibration, grid):
     darkest = heights_picture.darkest_of(grid)
     return {
         "change": {**counts, "neither": said["empty"], **volumes, "darkest": darkest},
-        "regions": [{**region, "base": 0} for region in regions],
+        "regions": [{**region, "base": 0, "rise_east": 0, "rise_north": 0} for region in regions],
         "disparityMap": None,
     }
 

@@ -351,5 +351,121 @@ class PlusMinus(unittest.TestCase):
             self.assertEqual(ended, (1, "", f"cubic_metres: {line}\n", None), line)
 
 
+
+class Slopes(unittest.TestCase):
+    """Ground and pile on one plane that rises by 1 in 20 to the east and falls by 1 in 10 to the
+    north, with an outline around the pile."""
+
+    CELL, RISES = 1000, {"rise_east": 50000, "rise_north": -100000}
+    GRID = {"west": -2000, "south": 3000, "cell": CELL, "cols": 6, "rows": 5}
+    REGIONS = [
+        {"name": "ground", "col": 0, "row": 3, "cols": 6, "rows": 2, "base": 70, **RISES},
+        # The middles of its cells lie at -1500, -500, .. and 7500, 6500, .. : inside are the three
+        # north of the line from the lower left to the upper right one.
+        {
+            "name": "pile",
+            "col": 0,
+            "row": 0,
+            "cols": 2,
+            "rows": 2,
+            "base": 9,
+            **RISES,
+            "outline": [-2000, 5900, 0, 7900, -2000, 7900],
+        },
+        {
+            "name": "level",
+            "col": 4,
+            "row": 0,
+            "cols": 2,
+            "rows": 2,
+            "base": 9,
+            "rise_east": 0,
+            "rise_north": 0,
+        },
+    ]
+    HEAD = HEAD.replace("cells,", "cells,bridged,")
+
+    def made(self, errors, piled):
+        """The heights, and their report: the plane of the ground and so much more."""
+        rows = []
+        for row in range(5):
+            plane = [70 + 25 * (2 * col + 1) - 50 * (2 * (4 - row) + 1) for col in range(6)]
+            rows.append([height + more for height, more in zip(plane, errors[row])])
+        for (col, row), more in piled.items():
+            rows[row][col] += more
+        rows[1][5] = None
+        text = "".join(
+            " ".join("-2147483648" if it is None else str(it) for it in row) + "\n" for row in rows
+        )
+        head = "ncols 6\nnrows 5\nxllcorner -2000\nyllcorner 3000\ncellsize 1000\n"
+        head += "NODATA_value -2147483648\n"
+        lines = []
+        for area, cells in zip(self.REGIONS, self.counted()):
+            above = []
+            for col, row in cells:
+                if rows[row][col] is not None:
+                    turn = area["rise_east"] * (2 * col + 1) + area["rise_north"] * (
+                        2 * (4 - row) + 1
+                    )
+                    above.append(rows[row][col] - area["base"] - (turn * 1000 + 1000000) // 2000000)
+            there = [rows[row][col] for col, row in cells if rows[row][col] is not None]
+            ends = [sum(max(0, sign * it) for it in above) * 1000**2 for sign in (1, -1)]
+            counts = [len(there), 0, len(cells) - len(there)]
+            lines.append(
+                ",".join(map(str, [area["name"], *counts, *ends, min(there), max(there)])) + "\n"
+            )
+        return head + text, self.HEAD + "".join(lines)
+
+    def counted(self):
+        yield [(col, row) for row in (3, 4) for col in range(6)]
+        yield [(0, 0), (1, 0), (0, 1)]
+        yield [(col, row) for row in (0, 1) for col in (4, 5)]
+
+    def test_by_hand(self):
+        errors = [[0] * 6 for _ in range(5)]
+        # The ground stands 5 um above its base in the mean, and its cells lie 3 from that on
+        # average.
+        errors[3] = errors[4] = [2, 8, 2, 8, 2, 8]
+        heights, report = self.made(
+            errors, {(0, 0): 400, (1, 0): 300, (0, 1): 205, (1, 1): 10**6}
+        )
+        calibration = json.dumps(
+            {
+                "camera": {"focal": 25600, "baseline": 1000, "mount": 40000 + 122},
+                "grid": self.GRID,
+                "regions": self.REGIONS,
+            }
+        )
+        words = ("--ground", "ground", "--calibration", "c.json", "--heights", "o.asc")
+        status, out, _, _ = run(report, *words, calibration=calibration, heights=heights)
+        self.assertEqual(status, 0)
+        ground, pile, level = (line.split(",") for line in out.splitlines()[1:])
+        # The pile's three cells are 905 above the ground's plane, and 5 less each above the plane
+        # that is lifted.
+        self.assertEqual(
+            pile[-3:],
+            ["0.000075", "0.00000000089", moved(3 * 1000**2 * (2 * 1000 + 9) // 6, 18, None)],
+        )
+        self.assertEqual((pile[1], pile[3], ground[-3:]), ("3", "0", ["0.000075", "", ""]))
+        self.assertEqual((level[1], level[3], level[-3:]), ("3", "1", ["0.000075", "", ""]))
+
+    def test_other_heights(self):
+        """A report that counts other cells, or from another base, isn't that of these heights."""
+        heights, report = self.made([[0] * 6 for _ in range(5)], {})
+        words = ("--ground", "ground", "--calibration", "c.json", "--heights", "o.asc")
+        camera = {"focal": 25600, "baseline": 1000, "mount": 40000}
+        for change in (
+            {"outline": [-2000, 5900, 0, 5900, 0, 7900, -2000, 7900]},
+            {"rise_north": -99000},
+        ):
+            regions = [self.REGIONS[0], {**self.REGIONS[1], **change}, self.REGIONS[2]]
+            calibration = json.dumps({"camera": camera, "grid": self.GRID, "regions": regions})
+            status, out, err, _ = run(report, *words, calibration=calibration, heights=heights)
+            self.assertEqual((status, out), (1, ""))
+            self.assertRegex(
+                err, "not the (report of a survey by c.json|heights of which o.csv tells)"
+            )
+
+
 if __name__ == "__main__":
     unittest.main()

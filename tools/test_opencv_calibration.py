@@ -3,6 +3,7 @@
 on a made-up pair with known numbers, whose pictures and points are taken through the definitions of the
 program (tests/reference*.py) and through OpenCV. Needs numpy and OpenCV."""
 
+import importlib.util
 import json
 import math
 import os
@@ -168,6 +169,188 @@ class WithoutDistortion(unittest.TestCase):
             self.assertEqual((made.keep, made.bridge), (keep, bridge))
         self.assertNotIn("grid", json.loads(run(PLAIN, LIMITS + " --version 3")[2]))
 
+    def run_with(self, options, **files):
+        """The calibration that the tool makes with some files more, or its last line, and what it
+        prints."""
+        with tempfile.TemporaryDirectory() as folder:
+            for name, data in {"given_json": PLAIN, **files}.items():
+                with open(os.path.join(folder, name.replace("_", ".")), "w") as file:
+                    file.write(data if isinstance(data, str) else json.dumps(data))
+            command = [sys.executable, TOOL, "given.json", "--out", "made.json", *LIMITS.split()]
+            command += "--grid -1000000 -500000 50000 40 20 --version 3".split() + options.split()
+            done = subprocess.run(command, cwd=folder, capture_output=True, text=True)
+            if done.returncode:
+                return None, done.stderr.splitlines()[-1].partition(": ")[2]
+            with open(os.path.join(folder, "made.json")) as file:
+                return json.load(file), done.stdout
+
+    def test_bases_of_the_third_version(self):
+        """Level where nothing is said, or the plane of its name."""
+        made, _ = self.run_with(
+            "--region a 0 0 40 20 -7 --region b 1 2 3 4 5 --plane b -9 1000 -20000"
+        )
+        keys = ("name", "col", "row", "cols", "rows", "base", "rise_east", "rise_north")
+        wanted = [("a", 0, 0, 40, 20, -7, 0, 0), ("b", 1, 2, 3, 4, -9, 1000, -20000)]
+        self.assertEqual(made["regions"], [dict(zip(keys, it)) for it in wanted])
+        self.assertEqual(list(made["regions"][1]), list(keys))
+        first = json.loads(
+            run(PLAIN, LIMITS + " --grid -1000000 -500000 50000 40 20 --region a 0 0 40 20 -7")[2]
+        )
+        self.assertEqual(list(first["regions"][0]), list(keys[:6]))
+
+    def test_outlines(self):
+        """By numbers and from files: the least rectangle, holes, and places in metres that are
+        moved."""
+        words = "--outline p=-950000,-400001,-800000,-400000,-800000,-250000"
+        made, _ = self.run_with(words + " --plane p 3 4 5")
+        outline = [-950000, -400001, -800000, -400000, -800000, -250000]
+        wanted = {
+            "name": "p",
+            "col": 1,
+            "row": 15,
+            "cols": 3,
+            "rows": 4,
+            "base": 3,
+            "rise_east": 4,
+            "rise_north": 5,
+        }
+        self.assertEqual(made["regions"], [{**wanted, "outline": outline}])
+        square = [[99.1, 200.6], [99.9, 200.6], [99.9, 201.2], [99.1, 201.2], [99.1, 200.6]]
+        hole = [[99.3, 200.8], [99.5, 200.8], [99.5, 200.9], [99.3, 200.8]]
+        polygon = {"type": "Polygon", "coordinates": [square, hole]}
+        feature = {"type": "Feature", "properties": {"name": "p"}, "geometry": polygon}
+        other = {
+            "type": "Feature",
+            "properties": {"name": "q"},
+            "geometry": {"type": "Point", "coordinates": [1, 2]},
+        }
+        corners = [(-900, -400), (-100, -400), (-100, 200), (-900, 200)]
+        corners += [corners[0], (-700, -200), (-500, -200), (-500, -100), (-700, -200)]
+        for top in (polygon, feature, {"type": "FeatureCollection", "features": [other, feature]}):
+            made, said = self.run_with("--outline p=p.json --outline-origin 100 201", p_json=top)
+            (region,) = made["regions"]
+            self.assertEqual(region["outline"], [1000 * it for corner in corners for it in corner])
+            self.assertEqual(
+                [region[key] for key in ("col", "row", "cols", "rows")], [2, 6, 16, 12]
+            )
+            self.assertNotIn("outline", said)
+        made, said = self.run_with("--outline p=-2000000,0,0,0,0,90000")
+        self.assertIn("the outline p reaches beyond the grid: what lies there has no part\n", said)
+        self.assertEqual(
+            [made["regions"][0][key] for key in ("col", "row", "cols", "rows")], [0, 8, 20, 2]
+        )
+        _, said = self.run_with("--outline p=0,0,1,0,1,1")
+        self.assertIn("no cell's middle lies in the outline p\n", said)
+
+    @unittest.skipUnless(importlib.util.find_spec("osgeo"), "GDAL of Python isn't there")
+    def test_outlines_of_ogr(self):
+        """A GeoPackage of two polygons, far from the grid's origin, the right one taken by its
+        name."""
+        from osgeo import ogr
+
+        with tempfile.TemporaryDirectory() as folder:
+            name = os.path.join(folder, "toe.gpkg")
+            source = ogr.GetDriverByName("GPKG").CreateDataSource(name)
+            layer = source.CreateLayer("toe", None, ogr.wkbPolygon)
+            layer.CreateField(ogr.FieldDefn("name", ogr.OFTString))
+            for said, more in (("q", 1), ("p", 0)):
+                feature = ogr.Feature(layer.GetLayerDefn())
+                feature["name"] = said
+                corners = [
+                    (500000.5 + more, 5400000.25),
+                    (499999.5, 5400000.25),
+                    (499999.5, 5399999.876544),
+                ]
+                ring = ", ".join(f"{east!r} {north!r}" for east, north in corners + corners[:1])
+                feature.SetGeometry(ogr.CreateGeometryFromWkt(f"POLYGON(({ring}))"))
+                layer.CreateFeature(feature)
+            feature = layer = source = None
+            made, _ = self.run_with(f"--outline p={name} --outline-origin 500000 5400000")
+            self.assertEqual(
+                made["regions"][0]["outline"], [500000, 250000, -500000, 250000, -500000, -123456]
+            )
+            with open(name, "w") as file:
+                file.write("junk")
+            self.assertEqual(
+                self.run_with(f"--outline p={name}"), (None, f"{name}: OGR can't read it")
+            )
+
+    def test_outlines_refused(self):
+        point = {"type": "Point", "coordinates": [1, 2]}
+        two = {
+            "type": "FeatureCollection",
+            "features": 2 * [{"type": "Feature", "properties": None, "geometry": point}],
+        }
+        flat = {"type": "Polygon", "coordinates": [[[1, 2], [3, "x"], [4, 5]]]}
+        far = {"type": "Polygon", "coordinates": [[[0, 0], [3000, 0], [0, 5]]]}
+        many = ",".join(str(it) for it in range(2002))
+        for options, top, line in [
+            ("p=p.json", None, "p.json: No such file or directory"),
+            ("p=p.json", "{", "p.json: not JSON: "),
+            ("p=p.json", "[]", "p.json: not GeoJSON"),
+            ("p=p.json", point, "p.json: not a polygon"),
+            ("p=p.json", flat, "p.json: a corner isn't two numbers"),
+            (
+                "p=p.json",
+                far,
+                "the outline p is farther than 2 km from the grid's origin:"
+                " --outline-origin moves it",
+            ),
+            (
+                "p=p.json",
+                two,
+                "p.json: no polygons have the name p; one is needed, or a file of one polygon",
+            ),
+            ("p=1,2,3,4", None, "the outline p has 2 corners, 3 to 1000 are needed"),
+            (
+                "p=1,2,3,4,5",
+                None,
+                "the outline p has 5 numbers, an east and a north for each corner are needed",
+            ),
+            ("p=" + many, None, "the outline p has 1001 corners, 3 to 1000 are needed"),
+            ("p=2000000,0,3000000,0,3000000,1", None, "the outline p lies beyond the grid"),
+            ("p=1,2,3,4,5,6 --plane p 2000000000 1000000 0", None,
+             "the base of the region p leaves the range of heights within its rectangle"),
+        ]:
+            made, said = self.run_with(
+                "--outline " + options, **({} if top is None else {"p_json": top})
+            )
+            self.assertEqual((made, said[: len(line)]), (None, line))
+
+    def test_plane_from(self):
+        """The plane of an earlier match whose grid begins a metre further west and half a metre
+        further south."""
+        grid = {"west": -2000000, "south": -1000000, "cell": 100000, "cols": 6, "rows": 5}
+        regions = [{"name": "ground", "col": 0, "row": 0, "cols": 6, "rows": 5, "base": 0}]
+        rows = [
+            [300000 + 2000 * col - 5000 * south for col in range(6)] for south in (4, 3, 2, 1, 0)
+        ]
+        rows[2][3] = -2147483648
+        head = "ncols 6\nnrows 5\nxllcorner -2000000\nyllcorner -1000000\ncellsize 100000\n"
+        head += "NODATA_value -2147483648\n"
+        asc = head + "".join(" ".join(map(str, row)) + "\n" for row in rows)
+        words = (
+            "--region a 0 0 9 9 7 --region b 0 0 9 9 7 --plane b 8 0 0 --plane-from o.asc c.json"
+        )
+        earlier = {"grid": grid, "regions": regions}
+        made, said = self.run_with(words, o_asc=asc, c_json=earlier)
+        # 20 mm a metre to the east, -50 to the north; half a cell before the first middle it is 1
+        # mm and 2.5 mm more.
+        base = 300000 - 1000 + 2500 + 20000 - 25000
+        keys = ("base", "rise_east", "rise_north")
+        self.assertEqual(
+            [[it[key] for key in keys] for it in made["regions"]],
+            [[base, 20000, -50000], [8, 0, 0]],
+        )
+        line = f"plane of 29 cells of the ground: {base}, "
+        line += "rises 20000 to the east and -50000 to the north; "
+        self.assertIn(line + "its cells lie 0 micrometres from it in the mean\n", said)
+        regions[0]["name"] = "pile"
+        self.assertEqual(
+            self.run_with(words, o_asc=asc, c_json=earlier)[1],
+            "o.asc: the regions of c.json whose name begins with ground have no cells for a plane",
+        )
+
     def test_given_rectification(self):
         one = [[1, 0, 0], [0, 1, 0], [0, 0, 1]]
         p1 = [[64, 0, 40, 0], [0, 64, 20, 0], [0, 0, 1, 0]]
@@ -270,6 +453,7 @@ class WithoutDistortion(unittest.TestCase):
 
     def test_wrong_words(self):
         ten = "--grid 0 0 1 10 20"
+        third = ten + " --version 3"
         for options, line in [
             ("--near 2000001 --far 2000000", "--near is above --far"),
             ("--far 2000000001", "argument --far: 2000000001 isn't a whole number from 1 to 2000000000"),
@@ -301,6 +485,24 @@ class WithoutDistortion(unittest.TestCase):
             (ten + " --region a 4 4 6 16 1.", "--region: BASE 1. isn't a whole number from -2000000000 to 2000000000"),
             (ten + " --region a 0 0 1 1", "argument --region: expected 6 arguments"),
             (ten + 1001 * " --region a 0 0 1 1 0", "--region: 1001 of them, 1000 at most"),
+            (ten + " --outline a=1,1,2,2,1,3", "--outline: needs --version 3 and --grid"),
+            (ten + " --plane a 0 0 0", "--plane: needs --version 3 and --grid"),
+            (" --version 3 --plane-from a b", "--plane-from: needs --version 3 and --grid"),
+            (third + " --outline a", "--outline: a isn't NAME=FILE or NAME=E0,N0,E1,N1,.."),
+            (
+                third + " --outline a/b=c",
+                "--outline: NAME 'a/b' isn't 1 to 64 letters, digits, spaces, _, - and .",
+            ),
+            (third + " --outline a=c --region a 0 0 1 1 0", "--outline: 2 regions have the name a"),
+            (third + " --plane a 0 0 0", "--plane: no region has the name a"),
+            (
+                third + " --outline a=c --plane a 0 1000001 0",
+                "--plane: RISE_EAST 1000001 isn't a whole number from -1000000 to 1000000",
+            ),
+            (
+                third + " --outline-origin a 0",
+                "argument --outline-origin: a isn't a number of metres",
+            ),
         ]:
             status, errors, made = run(PLAIN, LIMITS + " " + options)
             self.assertEqual((status, made), (2, None), options)

@@ -5,6 +5,7 @@ tests/survey_page.py tries the page itself."""
 import base64
 import json
 import os
+import random
 import re
 import shutil
 import subprocess
@@ -13,7 +14,9 @@ import tempfile
 import unittest
 
 import sgm_files
+import sgm_regions
 import survey_page as tool
+import test_sgm_regions as rows
 from sgm_files import numpy
 
 HERE = os.path.dirname(os.path.abspath(__file__))
@@ -192,6 +195,212 @@ class Reduced(unittest.TestCase):
         self.assertEqual(made.filled.tolist(), [[True, False], [True, True]])
         # The blocks begin at the north-west, so the last row of blocks reaches a cell further south.
         self.assertEqual((made.west, made.south, made.cell), (10, -80, 200))
+
+
+
+@unittest.skipUnless(shutil.which("node"), "node isn't there")
+class Counting(unittest.TestCase):
+    """The page's functions that count, run by node, against sgm_regions.py and rows that were
+    worked out elsewhere."""
+
+    def run_script(self, script, given):
+        """What the script makes of `given`, with the page's functions before it; BigInts come back
+        as texts."""
+        with open(tool.TEMPLATE, encoding="utf-8") as file:
+            counting = re.search('<script id="counting">(.*?)</script>', file.read(), re.S)[1]
+        text = f"{counting}\nconst given = JSON.parse(require('fs').readFileSync(0, 'utf8'));\n"
+        text += f"const made = (() => {{ {script} }})();\n"
+        text += "const plain = (_, it) => typeof it === 'bigint' ? it.toString() : it;\n"
+        text += "console.log(JSON.stringify(made, plain));"
+        with tempfile.TemporaryDirectory() as folder:
+            name = os.path.join(folder, "counting.js")
+            with open(name, "w", encoding="utf-8") as file:
+                file.write(text)
+            done = subprocess.run(
+                ["node", name], input=json.dumps(given), capture_output=True, text=True
+            )
+        self.assertEqual(done.stderr, "")
+        return json.loads(done.stdout)
+
+    @staticmethod
+    def plane(base, rises):
+        return {"base": base, "east": rises[0], "north": rises[1]}
+
+    @staticmethod
+    def with_corner(grid):
+        return {**grid, "gridSouth": grid["south"]}
+
+    @staticmethod
+    def rectangle(region):
+        return {key: region[key] for key in ("col", "row", "cols", "rows")}
+
+    def test_bases(self):
+        places = [(rows.SMALL, (0, 0, 4, 3), -7, rises, None) for *rises, _ in rows.BASES]
+        places += [
+            (rows.GREATEST, place, base, rises, good)
+            for place, base, rises, _, good in rows.CORNERS
+        ]
+        given = []
+        for grid, place, base, rises, _ in places:
+            rectangle = dict(zip(("col", "row", "cols", "rows"), place))
+            given.append([self.plane(base, rises), rectangle, self.with_corner(grid)])
+        script = """return given.map(([plane, it, grid]) => {
+            const base = basesOf(plane, it, grid), ends = [];
+            const cells = it.cols > 4 ? [] : Array.from({ length: it.rows }, (_, y) =>
+                Array.from({ length: it.cols }, (_, x) => base(it.row + y, it.col + x)));
+            for (const row of [it.row, it.row + it.rows - 1])
+                for (const col of [it.col, it.col + it.cols - 1]) ends.push(base(row, col));
+            return [cells, ends, isInRange(plane, it, grid)]; });"""
+        made = self.run_script(script, given)
+        self.assertEqual(
+            [cells for cells, _, _ in made[: len(rows.BASES)]], [cells for *_, cells in rows.BASES]
+        )
+        wanted = [[ends, good] for *_, ends, good in rows.CORNERS]
+        self.assertEqual([it[1:] for it in made[len(rows.BASES) :]], wanted)
+
+    def test_outlines(self):
+        draw, given, wanted = random.Random(41), [], []
+        for outline, _ in rows.OUTLINES:
+            given.append([outline, self.rectangle(rows.region(rows.SQUARE)), rows.SQUARE])
+        for _ in range(200):
+            most = draw.choice([9, 10**9])
+            grid = {
+                "west": draw.randint(-most, most),
+                "south": draw.randint(-most, most),
+                "cell": draw.randint(1, most),
+            }
+            grid |= {"cols": draw.randint(1, 6), "rows": draw.randint(1, 6)}
+            outline = [draw.randint(-2 * most, 2 * most) for _ in range(2 * draw.randint(3, 7))]
+            cols, below = draw.randint(1, grid["cols"]), draw.randint(1, grid["rows"])
+            place = {
+                "col": grid["cols"] - cols,
+                "row": grid["rows"] - below,
+                "cols": cols,
+                "rows": below,
+            }
+            given.append([outline, place, grid])
+        for outline, place, grid in given:
+            inside = [
+                int(it)
+                for line in sgm_regions.rows_inside({**place, "outline": outline}, grid)
+                for it in line
+            ]
+            least = sgm_regions.least_rectangle(outline, grid)
+            wanted.append([inside, least and dict(zip(("col", "row", "cols", "rows"), least))])
+        script = """return given.map(([outline, it, grid]) =>
+            [[...insideOf(outline, it, grid)], leastRectangle(outline, grid)]);"""
+        made = self.run_script(script, given)
+        self.assertEqual(made, wanted)
+        for (inside, _), (_, drawn) in zip(made, rows.OUTLINES):
+            self.assertEqual("".join(".#"[it] for it in inside), drawn.replace(" / ", ""))
+
+    def test_counts_planes_and_plus_minus(self):
+        """Heights on a slope with an outline: the same numbers as Python's."""
+        draw, given, wanted = random.Random(42), [], []
+        camera = {"focal": 40960, "baseline": 1600000, "mount": 8000000}
+        for turn in range(40):
+            cell = draw.choice([7, 125000, 1000000])
+            grid = {
+                "west": draw.randint(-999, 999),
+                "south": draw.randint(-999, 999),
+                "cell": cell,
+                "cols": 9,
+                "rows": 7,
+            }
+            most = 2000000000 if turn % 4 == 0 else 50000
+            heights = [draw.choice([EMPTY, *5 * [draw.randint(-most, most)]]) for _ in range(63)]
+            outline = [
+                it
+                for _ in range(5)
+                for it in (
+                    grid["west"] + draw.randint(0, 9 * cell),
+                    grid["south"] + draw.randint(0, 7 * cell),
+                )
+            ]
+            it = rows.region(
+                grid,
+                draw.randint(-9999, 9999),
+                [draw.randint(-200000, 200000) for _ in range(2)],
+                outline if turn % 3 else None,
+                (2, 1, 6, 5),
+            )
+            array = numpy.array(heights).reshape(7, 9)
+            mask, filled = sgm_regions.mask_of(it, grid), array != EMPTY
+            found, bases = sgm_regions.found_in(it, grid, array, filled)
+            above = [int(high) - int(low) for high, low in zip(found, bases)]
+            cells = [
+                (col, 6 - row, int(array[row, col]))
+                for col, row in sgm_regions.cells_of(it, grid)
+                if filled[row, col]
+            ]
+            plane = sgm_regions.Plane(cells).fitted(cell)
+            if plane and max(map(abs, plane[1:])) > 1000000:
+                plane = None
+            volumes = [
+                str(sum(max(0, sign * each) for each in above) * cell**2) for sign in (1, -1)
+            ]
+            ground = None
+            if len(found):
+                mean, spread = sgm_regions.ground_spread(found, bases)
+                sixteenth = sgm_regions.sixteenth_at(mean, camera)
+                ground = [str(sgm_regions.plus_minus(77, cell, sixteenth, spread)), str(spread)]
+            ends = [int(found.min()), int(found.max())] if len(found) else [None, None]
+            wanted.append([len(found), int(mask.sum()) - len(found), *volumes, *ends,
+                           plane and self.plane(plane[0], plane[1:]), ground])
+            given.append([self.with_corner(grid), heights, self.rectangle(it), it.get("outline"),
+                          self.plane(it["base"], sgm_regions.rises_of(it)), camera])
+        script = """return given.map(([grid, heights, rectangle, outline, plane, camera]) => {
+            const place = { rectangle, mask: outline && insideOf(outline, rectangle, grid) };
+            const it = countIn(place, plane, heights, grid, -2147483648);
+            const ground = groundOf(place, plane, heights, grid, -2147483648, camera);
+            return [it.cells, it.empty, it.fill, it.cut, it.lowest, it.highest,
+                planeOf(place, heights, grid, -2147483648),
+                ground && [plusMinus(77, grid.cell, ground), ground.spread]]; });"""
+        self.assertEqual(self.run_script(script, given), wanted)
+
+
+class Bridges(unittest.TestCase):
+    def test_cells_without_points(self):
+        """Pixels of a wall of 5 x 3: a bridged cell is one with a height into which no point
+        falls."""
+        calibration = {
+            "version": 3,
+            "disparities": {"first": 0, "count": 4},
+            "camera": {
+                "focal": 256,
+                "baseline": 1000,
+                "cx": 0,
+                "cy": 0,
+                "doffs": 256,
+                "mount": 5000,
+                "near": 1,
+                "far": 10000,
+            },
+            "grid": {
+                "west": -100,
+                "south": -2900,
+                "cell": 1000,
+                "cols": 5,
+                "rows": 3,
+                "keep": "mean",
+                "bridge": 2,
+            },
+        }
+        # All disparities are 0, so a pixel is 1000 um wide, and the pixel (x, y) falls into column
+        # x and row y.
+        there = numpy.array([[1, 1, 0, 1, 1], [0, 1, 1, 0, 0], [1, 0, 1, 1, 1]], bool)
+        filled = there.copy()
+        filled[0, 2] = filled[2, 1] = True
+        grid = sgm_files.Grid(-100, -2900, 1000, numpy.where(filled, 4000, EMPTY), filled)
+        values = numpy.zeros((3, 5), numpy.int64)
+        found = tool.bridges_of(calibration, grid, values, there)
+        self.assertEqual(numpy.argwhere(found).tolist(), [[0, 2], [2, 1]])
+        marks = tool.marks_of(found)
+        self.assertEqual(list(base64.b64decode(marks["bridges"])), [1 << 2, 1 << 3])
+        self.assertIsNone(tool.bridges_of({**calibration, "version": 2}, grid, values, there))
+        grid.filled[0, 0] = False
+        with self.assertRaises(sgm_files.Wrong):
+            tool.bridges_of(calibration, grid, values, there)
 
 
 if __name__ == "__main__":

@@ -46,7 +46,7 @@ def true_volume():
 def print_cells(out, calibration, noise):
     """How far the cells of the pile are from what has changed there."""
     grid = sgm_files.read_grid(out + ".asc")
-    (_, at), _ = change_volumes.regions_of(calibration, grid)
+    (_, at, _), _ = change_volumes.regions_of(calibration, grid)
     errors = []
     for row in range(at[0].start, at[0].stop):
         for col in range(at[1].start, at[1].stop):

@@ -1,0 +1,274 @@
+"""The regions of a calibration: which of their cells count, how high the base of each cell is, and
+the plane that fits a piece of ground best.
+
+A region is its object in the calibration, with whole numbers in micrometres, and a grid an object
+with `west`, `south`, `cell`, `cols` and `rows`. Columns count from the west; a `row` counts from
+the north and `south` rows from the south, all from 0 and over the whole grid. Everything is exact:
+Python's own numbers, and with numpy whole numbers that are held below 2^63. """
+
+from sgm_files import Wrong, numpy, regions_in, whole
+
+# The unit of a rise is a micrometre a metre, and heights are at the middles of cells, so at halves
+# of a cell.
+RISE_UNIT = 2_000_000
+MOST_RISE, MOST_LENGTH = 1_000_000, 2_000_000_000
+LEAST_NUMBERS, MOST_NUMBERS = 6, 2000
+GRID_KEYS = ("west", "south", "cell", "cols", "rows")
+
+
+def rounded(a, b):
+    """a / b to the nearest whole number, halves up."""
+    return (2 * a + b) // (2 * b)
+
+
+def grid_in(calibration):
+    """The numbers of the calibration's grid."""
+    return {key: whole(calibration, "grid", key) for key in GRID_KEYS}
+
+
+def is_whole(value, most):
+    return isinstance(value, int) and not isinstance(value, bool) and abs(value) <= most
+
+
+# Bases
+
+
+def rises_of(region):
+    """How the base rises to the east and to the north: level where the region doesn't say, as
+    before version 3."""
+    rises = [region.get(key, 0) for key in ("rise_east", "rise_north")]
+    if not all(is_whole(rise, MOST_RISE) for rise in rises):
+        raise Wrong(
+            f"the rises of the region {region.get('name')} aren't whole numbers to {MOST_RISE}"
+        )
+    return rises
+
+
+def base_at(region, grid, col, south):
+    """The height of the region's base at the middle of a cell."""
+    east, north = rises_of(region)
+    cell = grid["cell"]
+    return region["base"] + rounded(
+        east * (2 * col + 1) * cell + north * (2 * south + 1) * cell, RISE_UNIT
+    )
+
+
+def corner_bases(region, grid):
+    """The bases at the four corner cells of the region's rectangle, between which all others
+    lie."""
+    cols = (region["col"], region["col"] + region["cols"] - 1)
+    rows = (region["row"], region["row"] + region["rows"] - 1)
+    return [base_at(region, grid, col, grid["rows"] - 1 - row) for row in rows for col in cols]
+
+
+def is_in_range(region, grid):
+    return all(abs(base) <= MOST_LENGTH for base in corner_bases(region, grid))
+
+
+# Outlines
+
+
+def outline_of(region):
+    """The numbers e0, n0, e1, n1, .. of the region's outline, or None."""
+    found = region.get("outline")
+    if found is None:
+        return None
+    is_list = isinstance(found, list) and all(is_whole(it, MOST_LENGTH) for it in found)
+    if not is_list or len(found) % 2 or not LEAST_NUMBERS <= len(found) <= MOST_NUMBERS:
+        raise Wrong(f"the outline of the region {region.get('name')} isn't one of a calibration")
+    return found
+
+
+def edges_of(outline):
+    """Each corner, doubled, with the next one, and the last with the first."""
+    corners = [(2 * e, 2 * n) for e, n in zip(outline[::2], outline[1::2])]
+    return list(zip(corners, corners[1:] + corners[:1]))
+
+
+def is_inside(outline, grid, col, south):
+    """Whether a cell's middle lies inside: an odd number of edges that straddle it pass east of
+    it."""
+    cell = grid["cell"]
+    east = 2 * grid["west"] + (2 * col + 1) * cell
+    north = 2 * grid["south"] + (2 * south + 1) * cell
+    passing = 0
+    for (ae, an), (be, bn) in edges_of(outline):
+        if (an <= north) != (bn <= north):
+            passing += ((ae - east) * (bn - an) + (north - an) * (be - ae)) * (bn - an) > 0
+    return passing % 2 == 1
+
+
+def turns_in_row(edges, grid, south):
+    """For each edge that straddles the middles of a row, the first column that it doesn't pass east
+    of."""
+    cell = grid["cell"]
+    north = 2 * grid["south"] + (2 * south + 1) * cell
+    for (ae, an), (be, bn) in edges:
+        if (an <= north) != (bn <= north):
+            rise = bn - an
+            place = ae * rise + (north - an) * (be - ae)
+            # The greatest whole number below where the edge crosses the row: a middle up to it lies
+            # west of it.
+            before = -(-place // rise) - 1 if rise > 0 else -(place // -rise) - 1
+            yield (before - 2 * grid["west"] - cell) // (2 * cell) + 1
+
+
+def inside_in_row(edges, grid, south, first, number):
+    """Whether each of so many cells of a row lies inside, from the column `first` on."""
+    turns = [0] * (number + 1)
+    for turn in turns_in_row(edges, grid, south):
+        turns[min(max(turn - first, 0), number)] ^= 1
+    # A cell lies inside where an odd number of edges turn behind it.
+    made, is_odd = [], False
+    for turn in reversed(turns[1:]):
+        is_odd ^= bool(turn)
+        made.append(is_odd)
+    return made[::-1]
+
+
+def least_rectangle(outline, grid):
+    """The col, row, cols and rows of the least rectangle of the grid's cells that holds the
+    outline, or what of it lies in the grid; None where none of it does."""
+    made = []
+    for part, side, count in ((outline[::2], "west", "cols"), (outline[1::2], "south", "rows")):
+        low = (min(part) - grid[side]) // grid["cell"]
+        high = max(low, -((grid[side] - max(part)) // grid["cell"]) - 1)
+        if high < 0 or low >= grid[count]:
+            return None
+        low, high = max(low, 0), min(high, grid[count] - 1)
+        made.append((low, high - low + 1))
+    (col, cols), (south, rows) = made
+    return col, grid["rows"] - south - rows, cols, rows
+
+
+# Cells
+
+
+def rows_inside(region, grid):
+    """For each row of the region's rectangle, from the north, which of its cells count."""
+    outline = outline_of(region)
+    edges = None if outline is None else edges_of(outline)
+    for row in range(region["row"], region["row"] + region["rows"]):
+        if edges is None:
+            yield [True] * region["cols"]
+        else:
+            south = grid["rows"] - 1 - row
+            yield inside_in_row(edges, grid, south, region["col"], region["cols"])
+
+
+def cells_of(region, grid):
+    """The column and the row of each cell that counts, row by row from the north."""
+    for row, line in enumerate(rows_inside(region, grid), region["row"]):
+        yield from ((col, row) for col, counts in enumerate(line, region["col"]) if counts)
+
+
+def number_of_cells(region, grid):
+    return sum(map(sum, rows_inside(region, grid)))
+
+
+def place_of(region):
+    """The rows and the columns of the region's rectangle in arrays of the grid."""
+    col, row, cols, rows = (whole(region, key) for key in ("col", "row", "cols", "rows"))
+    return slice(row, row + rows), slice(col, col + cols)
+
+
+def mask_of(region, grid):
+    """Which cells of the region's rectangle count, as an array."""
+    if outline_of(region) is None:
+        return numpy.ones((region["rows"], region["cols"]), bool)
+    return numpy.array(list(rows_inside(region, grid)), bool)
+
+
+def bases_of(region, grid):
+    """The bases of the cells of the region's rectangle, as an array.
+
+    The two products of a base pass 63 bits, so each is parted before they are added.
+    """
+    (east, north), cell = rises_of(region), grid["cell"]
+    cols = range(region["col"], region["col"] + region["cols"])
+    rows = range(region["row"], region["row"] + region["rows"])
+    across = [divmod(east * (2 * col + 1) * cell, RISE_UNIT) for col in cols]
+    along = [divmod(north * (2 * (grid["rows"] - 1 - row) + 1) * cell, RISE_UNIT) for row in rows]
+    (wholes, parts), (more, rest) = (numpy.array(it, numpy.int64).T for it in (across, along))
+    carried = (parts[None, :] + rest[:, None] + RISE_UNIT // 2) // RISE_UNIT
+    return region["base"] + wholes[None, :] + more[:, None] + carried
+
+
+def found_in(region, grid, heights, filled):
+    """The heights of the region's cells that count and have one, and their bases."""
+    place = place_of(region)
+    there = filled[place] & mask_of(region, grid)
+    return heights[place][there], bases_of(region, grid)[there]
+
+
+# Planes
+
+
+class Plane:
+    """Sums over cells, and the plane that lies nearest to their heights by least squares."""
+
+    def __init__(self, cells):
+        """Of cells (column, row from the south, height)."""
+        self.n = 0
+        self.sums = dict.fromkeys(("u", "v", "h", "uu", "uv", "vv", "uh", "vh"), 0)
+        for col, south, height in cells:
+            values = {"u": 2 * col + 1, "v": 2 * south + 1, "h": height}
+            self.n += 1
+            for key in self.sums:
+                product = values[key[0]] * (values[key[1]] if len(key) > 1 else 1)
+                self.sums[key] += product
+
+    def spread(self, a, b):
+        return self.n * self.sums[a + b] - self.sums[a] * self.sums[b]
+
+    def fitted(self, cell):
+        """The base, at the grid's south-west corner, and both rises, each to the nearest whole
+        number, the base being the one that fits these rises best; None where the cells lie on one
+        line."""
+        uu, uv, vv, uh, vh = (self.spread(*key) for key in ("uu", "uv", "vv", "uh", "vh"))
+        over = cell * (uu * vv - uv * uv)
+        if over == 0:
+            return None
+        east = rounded(RISE_UNIT * (uh * vv - vh * uv), over)
+        north = rounded(RISE_UNIT * (vh * uu - uh * uv), over)
+        rest = RISE_UNIT * self.sums["h"] - (east * self.sums["u"] + north * self.sums["v"]) * cell
+        return rounded(rest, RISE_UNIT * self.n), east, north
+
+
+def ground_cells(calibration, grid_of_heights):
+    """The column, the row from the south and the height of each cell of the regions whose name
+    begins with `ground`; a cell of two such regions comes once."""
+    grid = grid_in(calibration)
+    heights, filled = grid_of_heights.heights, grid_of_heights.filled
+    cells = {}
+    for region in regions_in(calibration):
+        if str(region.get("name")).lower().startswith("ground"):
+            cells |= dict.fromkeys(cells_of(region, grid))
+    for col, row in cells:
+        if filled[row, col]:
+            yield col, grid["rows"] - 1 - row, int(heights[row, col])
+
+
+# Plus or minus
+
+
+def sixteenth_at(height, camera):
+    """What a sixteenth of a pixel is in height, at that height."""
+    away = camera["mount"] - height
+    return rounded(16 * away * away, camera["focal"] * camera["baseline"])
+
+
+def ground_spread(heights, bases):
+    """The mean of the ground's heights, and how far they lie, each less its base, from what they
+    are so in the mean."""
+    n = len(heights)
+    above = [int(height) - int(base) for height, base in zip(heights, bases)]
+    middle = rounded(sum(above), n)
+    return rounded(sum(map(int, heights)), n), rounded(sum(abs(it - middle) for it in above), n)
+
+
+def plus_minus(cells, cell, sixteenth, spread):
+    """By how much a volume above the ground may be off, in cubic micrometres: `sixteenth` is what a
+    sixteenth of a pixel is in height there, and `spread` how far the ground's cells lie from their
+    mean."""
+    return rounded(cells * cell * cell * (2 * sixteenth + 3 * spread), 6)
