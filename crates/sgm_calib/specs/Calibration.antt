@@ -55,7 +55,8 @@ plain = record {
   regions = None;
 }
 
--- the ranges of warps, camera and grid; a camera where there is a grid; a grid where there are regions, and each of them in it
+-- the ranges of warps, camera and grid; a camera where there is a grid; a grid where there are
+-- regions, and each of them in it
 pub record IsCalibration (calib : Calibration) : Type 0 where
   pub left_kept : IsWarp calib.left
   pub right_kept : IsWarp calib.right
@@ -64,5 +65,6 @@ pub record IsCalibration (calib : Calibration) : Type 0 where
   pub gridding_kept : IsGridding calib.gridding
   pub grid_has_camera : IfSome calib.grid (λ _. IsTrue (is_some calib.camera))
   pub regions_have_grid : IfSome calib.regions (λ _. IsTrue (is_some calib.grid))
-  pub regions_inside : IfSome calib.grid (λ spec. IfSome calib.regions (λ areas. All (IsArea spec) areas))
+  pub regions_inside : IfSome calib.grid
+      (λ spec. IfSome calib.regions (λ areas. All (IsArea spec) areas))
   pub regions_few : IfSome calib.regions (λ areas. length areas ≤ MAX_REGIONS)

@@ -31,7 +31,8 @@ first_of (fault ∷ later) = option_or fault (first_of later)
 -- every check before this fault passes
 abbrev pub IsFirst : List (Option CalibFault) → CalibFault → Type 0
 IsFirst checks fault =
-    (before : List (Option CalibFault)) × (after : List (Option CalibFault)) × (checks ≡ before ++ Some fault ∷ after) × IsTrue (list_all is_none before)
+    (before : List (Option CalibFault)) × (after : List (Option CalibFault))
+    × (checks ≡ before ++ Some fault ∷ after) × IsTrue (list_all is_none before)
 
 -- ---- one key
 
@@ -48,14 +49,16 @@ abbrev pub typed_in : {A : Type 0} → (Data → Option A) → Place → Data �
 typed_in read place holder row = or_missing (key_at place row) read (get row.name holder)
 
 -- the fault where a value is out of range
-abbrev pub or_out_of_range : {A : Type 0} → CalibFault → (A → Bool) → Result A CalibFault → Result A CalibFault
+abbrev pub or_out_of_range : {A : Type 0} → CalibFault → (A → Bool) → Result A CalibFault
+    → Result A CalibFault
 or_out_of_range fault range (Err earlier) = Err earlier
 or_out_of_range fault range (Ok a) = if range a then Ok a else Err fault
 
 -- the whole number of a key in its object, or what is wrong: it is missing, its type, its range
 unfoldable pub number_in : Place → Data → Row → Result ℤ CalibFault
 number_in place holder row =
-    or_out_of_range (Range (key_at place row)) (is_in_range row.form place holder) (typed_in whole place holder row)
+    or_out_of_range (Range (key_at place row)) (is_in_range row.form place holder)
+    (typed_in whole place holder row)
 
 -- ---- objects
 
@@ -129,13 +132,15 @@ numbers_fault_of key amount range (Some d) =
 -- element's, its count or an element's range.
 unfoldable pub numbers_fault : Place → Data → Row → Amount → Option CalibFault
 numbers_fault place holder row amount =
-    numbers_fault_of (key_at place row) amount (is_in_range row.form place holder) (get row.name holder)
+    numbers_fault_of (key_at place row) amount (is_in_range row.form place holder)
+    (get row.name holder)
 
 -- ---- keys whose values have no keys of their own
 
 -- the text of a key in its object, or what is wrong: it is missing, its type, its range
 unfoldable pub text_in : (List ℕ → Bool) → Place → Data → Row → Result (List ℕ) CalibFault
-text_in range place holder row = or_out_of_range (Range (key_at place row)) range (typed_in as_str place holder row)
+text_in range place holder row =
+    or_out_of_range (Range (key_at place row)) range (typed_in as_str place holder row)
 
 -- how many numbers the nodes of a mesh are: two for each
 abbrev pub node_numbers : Data → ℕ
@@ -165,7 +170,8 @@ keys_fault place holder rows = first_of (map (key_fault place holder) rows)
 
 -- the first fault of some keys of an object that are whole numbers
 abbrev pub wholes_fault : Place → Data → List Row → Option CalibFault
-wholes_fault place holder rows = first_of (map (λ row. result_err (number_in place holder row)) rows)
+wholes_fault place holder rows =
+    first_of (map (λ row. result_err (number_in place holder row)) rows)
 
 -- ---- values
 

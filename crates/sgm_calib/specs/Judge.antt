@@ -1,5 +1,5 @@
--- What the key table says of a value: the calibration, or the first fault. The order is that of the table's rows;
--- `version` alone comes before the unknown names of the value itself.
+-- What the key table says of a value: the calibration, or the first fault. The order is that of the
+-- table's rows; `version` alone comes before the unknown names of the value itself.
 use Rattle.std.specs.Prelude.{Bool, if◌then◌else◌, [], ◌∷◌, map, Option, Some, None, option_map, unwrap_or, Result, Ok, Err}
 use Rattle.std.specs.Option.{option_or}
 use Rattle.std.specs.Result.{result_err}
@@ -30,7 +30,9 @@ use Rattle.sgm_calib.specs.RegionKeys.{regions_fault, regions_in}
 
 -- what is wrong with the version: it is missing, its type, or it is none that is known
 unfoldable pub version_fault : Data → Option CalibFault
-version_fault top = result_err (or_out_of_range Version (is_in_range table.version.form PLAIN top) (typed_in whole PLAIN top table.version))
+version_fault top =
+    result_err (or_out_of_range Version (is_in_range table.version.form PLAIN top)
+    (typed_in whole PLAIN top table.version))
 
 -- the costs of a value go by its version
 unfoldable pub rule_in : Data → CostRule
@@ -41,12 +43,15 @@ unfoldable pub columns_in : Data → Columns
 columns_in top = if is_since 3 (sort_of top) then Bridged else columns.Plain
 
 abbrev pub itself_fault_of : Row → Sort → Bool → Option Data → Option CalibFault
-itself_fault_of row sort required None = if required then Some (Missing (key_at PLAIN row)) else None
+itself_fault_of row sort required None =
+    if required then Some (Missing (key_at PLAIN row)) else None
 itself_fault_of row sort required (Some d) = object_fault PLAIN row sort d
 
--- what is wrong with an object of the value itself: it is missing and must be there, its type, or an unknown name
+-- what is wrong with an object of the value itself: it is missing and must be there, its type, or
+-- an unknown name
 unfoldable pub itself_fault : Data → Row → Option CalibFault
-itself_fault top row = itself_fault_of row (sort_of top) (is_required row.presence top) (get row.name top)
+itself_fault top row =
+    itself_fault_of row (sort_of top) (is_required row.presence top) (get row.name top)
 
 abbrev pub held_fault : Row → Sort → Option Data → Option CalibFault
 held_fault row sort None = None
@@ -54,7 +59,8 @@ held_fault row sort (Some d) = keys_fault PLAIN d (rows_in row sort)
 
 -- what is wrong with an object that holds no other: the object itself, its keys
 unfoldable pub section_fault : Data → Row → Option CalibFault
-section_fault top row = option_or (itself_fault top row) (held_fault row (sort_of top) (get row.name top))
+section_fault top row =
+    option_or (itself_fault top row) (held_fault row (sort_of top) (get row.name top))
 
 abbrev pub entry_fault_of : Form → Data → Row → Option CalibFault
 entry_fault_of object top row = section_fault top row
@@ -70,7 +76,9 @@ entry_fault top row = entry_fault_of row.form top row
 
 -- what is wrong with the value itself: its type, its version, an unknown name
 unfoldable pub top_fault : Data → Option CalibFault
-top_fault top = first_of (type_fault (key_at PLAIN table.top) (as_object top) ∷ version_fault top ∷ object_fault PLAIN table.top sort.Plain top ∷ [])
+top_fault top =
+    first_of (type_fault (key_at PLAIN table.top) (as_object top) ∷ version_fault top
+    ∷ object_fault PLAIN table.top sort.Plain top ∷ [])
 
 -- what is wrong with what stands in it
 unfoldable pub entries_fault : Data → Option CalibFault
@@ -91,11 +99,16 @@ grid_in top = option_map grid_of (get table.grid.name top)
 
 -- how an object of a grid says that points become heights
 abbrev pub gridding_of : Data → Gridding
-gridding_of d = record { keep = unwrap_or (keep_named (text_of table.keep d)) Highest; bridge = count_of table.bridge d }
+gridding_of d =
+    record {
+      keep = unwrap_or (keep_named (text_of table.keep d)) Highest;
+      bridge = count_of table.bridge d;
+    }
 
 -- how those of a value do, which goes by its version
 unfoldable pub gridding_in : Data → Gridding
-gridding_in top = if is_since 3 (sort_of top) then gridding_of (value_of table.grid top) else plain_gridding
+gridding_in top =
+    if is_since 3 (sort_of top) then gridding_of (value_of table.grid top) else plain_gridding
 
 abbrev pub calibration_in : Data → Calibration
 calibration_in top = record {

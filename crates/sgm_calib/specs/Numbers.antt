@@ -25,4 +25,5 @@ region_path index = codes "regions[" ++ decimal index ++ codes "]"
 -- a region's path, and each of its keys' paths
 pub record HasRegionPaths (index : ℕ) : Type 0 where
   pub itself : path_of (key_with index region) ≡ region_path index
-  pub keys : All (λ row. path_of (key_with index row) ≡ region_path index ++ codes "." ++ row.name) region_keys
+  pub keys : All (λ row. path_of (key_with index row) ≡ region_path index ++ codes "." ++ row.name)
+      region_keys

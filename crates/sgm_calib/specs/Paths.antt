@@ -29,4 +29,6 @@ back_of number = if has_index number then part_of number else []
 
 -- the path of a key as it is printed
 unfoldable pub path_of : Key → List ℕ
-path_of key = if has_index key.number then front_of key.number ++ decimal key.index ++ back_of key.number else front_of key.number
+path_of key =
+    if has_index key.number then front_of key.number ++ decimal key.index ++ back_of key.number
+    else front_of key.number

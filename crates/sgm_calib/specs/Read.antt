@@ -14,8 +14,8 @@ pub record IsValue (bytes : List ℕ) (d : Data) : Type 0 where
   pub text : IsUtf8 bytes
   pub value : read bytes ≡ Some d
 
--- The calibration of these bytes, or their first fault: what the key table says of the value that is read, and Json where
--- none is read.
+-- The calibration of these bytes, or their first fault: what the key table says of the value that
+-- is read, and Json where none is read.
 pub data Reads (bytes : List ℕ) (r : Result Calibration CalibFault) : Type 0 where
   value : (d : Data) → IsValue bytes d → r ≡ judged d → Reads bytes r
   no_value : ((d : Data) → ¬ IsValue bytes d) → r ≡ Err Json → Reads bytes r

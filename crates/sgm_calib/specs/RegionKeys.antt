@@ -26,7 +26,9 @@ region_place grid index = record { shift = 0; index = index; cols = grid.cols; r
 
 -- the keys of a region behind its name, but for those of later versions
 abbrev pub region_number_keys : List Row
-region_number_keys = table.region_col ∷ table.region_row ∷ table.region_cols ∷ table.region_rows ∷ table.region_base ∷ []
+region_number_keys =
+    table.region_col ∷ table.region_row ∷ table.region_cols ∷ table.region_rows ∷ table.region_base
+    ∷ []
 
 -- ---- the region that an object without a fault is; what it says goes by the version
 

@@ -164,7 +164,8 @@ has_parity (odd low high) z = unsigned_abs z % 2 == 1
 has_parity _ z = true
 
 abbrev pub is_in_range : Form → Place → Data → ℤ → Bool
-is_in_range form place d z = int_le (least form d) z && int_le z (greatest form place d) && has_parity form z
+is_in_range form place d z =
+    int_le (least form d) z && int_le z (greatest form place d) && has_parity form z
 
 -- ---- presence
 

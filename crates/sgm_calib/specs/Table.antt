@@ -20,7 +20,8 @@ use Rattle.sgm_calib.specs.Rows.{Form, object, warps, kind, name, keep as keep_f
 
 -- the row of a key of the value itself, and of a key of an object
 abbrev pub entry : ℕ → List ℕ → Form → Presence → Row
-entry number key form presence = record { number = number; object = 1; name = key; path = key; form = form; presence = presence }
+entry number key form presence =
+    record { number = number; object = 1; name = key; path = key; form = form; presence = presence }
 
 abbrev pub given : Row → ℕ → List ℕ → Form → Presence → Row
 given holder number key form presence = record {
@@ -40,7 +41,15 @@ abbrev within : ℤ → Form
 within most = between (neg_ℤ most) most
 
 abbrev pub top : Row
-top = record { number = 1; object = 0; name = codes "top"; path = codes "top"; form = object; presence = required }
+top =
+    record {
+      number = 1;
+      object = 0;
+      name = codes "top";
+      path = codes "top";
+      form = object;
+      presence = required;
+    }
 
 abbrev pub version : Row
 version = entry 2 (codes "version") (between (pos 1) (pos 3)) required
@@ -88,16 +97,22 @@ abbrev pub side_kind : Row
 side_kind = key_of left 14 (codes "kind") kind
 
 abbrev pub side_matrix : Row
-side_matrix = given left 15 (codes "matrix") (matrix MIN_ENTRY MAX_ENTRY) (of_kind (codes "projective"))
+side_matrix =
+    given left 15 (codes "matrix") (matrix MIN_ENTRY MAX_ENTRY) (of_kind (codes "projective"))
 
 abbrev pub mesh_step : Row
-mesh_step = given left 16 (codes "step") (between (pos MIN_STEP) (pos MAX_STEP)) (of_kind (codes "mesh"))
+mesh_step =
+    given left 16 (codes "step") (between (pos MIN_STEP) (pos MAX_STEP)) (of_kind (codes "mesh"))
 
 abbrev pub mesh_cols : Row
-mesh_cols = given left 17 (codes "cols") (between (pos MIN_NODE_COUNT) (pos MAX_NODE_COUNT)) (of_kind (codes "mesh"))
+mesh_cols =
+    given left 17 (codes "cols") (between (pos MIN_NODE_COUNT) (pos MAX_NODE_COUNT))
+    (of_kind (codes "mesh"))
 
 abbrev pub mesh_rows : Row
-mesh_rows = given left 18 (codes "rows") (between (pos MIN_NODE_COUNT) (pos MAX_NODE_COUNT)) (of_kind (codes "mesh"))
+mesh_rows =
+    given left 18 (codes "rows") (between (pos MIN_NODE_COUNT) (pos MAX_NODE_COUNT))
+    (of_kind (codes "mesh"))
 
 abbrev pub mesh_nodes : Row
 mesh_nodes = given left 19 (codes "nodes") (nodes MIN_NODE MAX_NODE) (of_kind (codes "mesh"))
@@ -164,7 +179,15 @@ abbrev pub region_list : Row
 region_list = entry 42 (codes "regions") regions optional
 
 abbrev pub region : Row
-region = record { number = 43; object = region_list.number; name = codes "]"; path = codes "]"; form = object; presence = required }
+region =
+    record {
+      number = 43;
+      object = region_list.number;
+      name = codes "]";
+      path = codes "]";
+      form = object;
+      presence = required;
+    }
 
 abbrev pub region_name : Row
 region_name = key_of region 44 (codes "name") name
@@ -260,7 +283,9 @@ rows_in holder sort = given_rows sort (filter (λ row. row.object == holder.numb
 
 -- whether the table gives an object of that sort the name
 unfoldable pub is_known : Row → Sort → List ℕ → Bool
-is_known holder sort key = list_any (λ row. (row.object == holder.number) && is_given row.presence sort && bytes_eq row.name key) keys
+is_known holder sort key =
+    list_any (λ row. (row.object == holder.number) && is_given row.presence sort
+    && bytes_eq row.name key) keys
 
 -- ---- what an object without objects is
 

@@ -1,5 +1,5 @@
--- The keys of the warps: an object with one side each for the left and the right image. A side names its kind, and has the
--- keys of that kind.
+-- The keys of the warps: an object with one side each for the left and the right image. A side
+-- names its kind, and has the keys of that kind.
 use Rattle.std.specs.Prelude.{ℕ, ℤ, pos, neg_ℤ, Bool, false, List, [], ◌∷◌, filter, Option, Some, None, unwrap_or}
 use Rattle.std.specs.Str.{bytes_eq}
 use Rattle.serde_json.specs.Data.{Data}
@@ -39,9 +39,11 @@ shape_keys = table.mesh_step ∷ table.mesh_cols ∷ table.mesh_rows ∷ []
 
 -- what is wrong with the keys of a mesh: those before its nodes, its nodes
 unfoldable pub mesh_fault : Place → Data → Option CalibFault
-mesh_fault place side = first_of (keys_fault place side shape_keys ∷ key_fault place side table.mesh_nodes ∷ [])
+mesh_fault place side =
+    first_of (keys_fault place side shape_keys ∷ key_fault place side table.mesh_nodes ∷ [])
 
--- what is wrong with a side: its type, its kind, an unknown name, its keys; the rows are those of the left side
+-- what is wrong with a side: its type, its kind, an unknown name, its keys; the rows are those of
+-- the left side
 abbrev pub side_checks : Place → Data → List (Option CalibFault)
 side_checks place side =
     type_fault (key_at place table.left) (as_object side)
@@ -54,7 +56,8 @@ abbrev pub side_fault_of : Place → Option Data → Option CalibFault
 side_fault_of place None = Some (Missing (key_at place table.left))
 side_fault_of place (Some side) = first_of (side_checks place side)
 
--- what is wrong with the side under a name of the object `warp`: it is missing, or what is wrong with it
+-- what is wrong with the side under a name of the object `warp`: it is missing, or what is wrong
+-- with it
 unfoldable pub side_fault : Place → List ℕ → Data → Option CalibFault
 side_fault place name d = side_fault_of place (get name d)
 
@@ -92,7 +95,9 @@ nodes_in side = pairs (numbers (value_of table.mesh_nodes side))
 abbrev pub warp_of_kind : Kind → Data → Warp
 warp_of_kind Identity side = warp.Identity
 warp_of_kind Projective side = warp.Projective (matrix_in side)
-warp_of_kind Mesh side = warp.Mesh (count_of table.mesh_step side) (count_of table.mesh_cols side) (count_of table.mesh_rows side) (nodes_in side)
+warp_of_kind Mesh side =
+    warp.Mesh (count_of table.mesh_step side) (count_of table.mesh_cols side)
+    (count_of table.mesh_rows side) (nodes_in side)
 
 unfoldable pub side_warp : Data → Warp
 side_warp side = warp_of_kind (kind_of side) side

@@ -13,8 +13,8 @@ use sgm_rectify::Warp;
 use sgm_report::{Columns, Region};
 use std::marker::Model;
 
-/// The settings of a survey. Warps, camera and grid keep their ranges. There is a camera where there is a
-/// grid, and a grid where there are regions, each of which lies in it.
+/// The settings of a survey. Warps, camera and grid keep their ranges. There is a camera where
+/// there is a grid, and a grid where there are regions, each of which lies in it.
 #[derive(Drop)]
 pub struct Calib {
     pub(crate) span: Span,
@@ -70,9 +70,9 @@ impl Model for Calib {
 }
 
 impl Calib {
-    /// The settings where no file is named: 64 disparities from 0 on, a window of 9 x 7 pixels, plain
-    /// costs, the penalties 10 and 120 everywhere, no warp, and neither camera nor grid nor regions. Takes no
-    /// memory.
+    /// The settings where no file is named: 64 disparities from 0 on, a window of 9 x 7 pixels,
+    /// plain costs, the penalties 10 and 120 everywhere, no warp, and neither camera nor grid nor
+    /// regions. Takes no memory.
     pub fn plain() -> Calib
         ensures { result ≡ plain }
     {

@@ -123,7 +123,8 @@ pub fn whole(object: &Value, row: &Row, place: Place) -> Result<i64, CalibFault>
     ensures exact { result ≡ number_in place (view object.now) (meant row.now) }
     ensures value { IfOk result (λ z. number_of (meant row.now) (view object.now) ≡ z) }
     ensures low { IfOk result (λ z. least (form_meant row.now.form) (view object.now) ≤ℤ z) }
-    ensures high { IfOk result (λ z. z ≤ℤ greatest (form_meant row.now.form) place (view object.now)) }
+    ensures high { IfOk result
+        (λ z. z ≤ℤ greatest (form_meant row.now.form) place (view object.now)) }
 {
     odd_or_whole(object, row, place)
 }
@@ -135,7 +136,8 @@ pub fn odd_or_whole(object: &Value, row: &Row, place: Place) -> Result<i64, Cali
     ensures exact { result ≡ number_in place (view object.now) (meant row.now) }
     ensures value { IfOk result (λ z. number_of (meant row.now) (view object.now) ≡ z) }
     ensures low { IfOk result (λ z. least (form_meant row.now.form) (view object.now) ≤ℤ z) }
-    ensures high { IfOk result (λ z. z ≤ℤ greatest (form_meant row.now.form) place (view object.now)) }
+    ensures high { IfOk result
+        (λ z. z ≤ℤ greatest (form_meant row.now.form) place (view object.now)) }
     ensures parity { IfOk result (λ z. IsTrue (has_parity (form_meant row.now.form) z)) }
 {
     let whole = typed(object, row, place)?;
@@ -150,7 +152,8 @@ pub fn odd_or_whole(object: &Value, row: &Row, place: Place) -> Result<i64, Cali
 pub fn check_numbers(object: &Value, rows: &[Row], place: Place) -> Result<(), CalibFault>
     requires { All (λ row. row.number + place.shift < 256) rows.now }
     ensures ok { OnOk result (wholes_fault place (view object.now) (map meant rows.now) ≡ None) }
-    ensures fault { IfErr result (λ f. wholes_fault place (view object.now) (map meant rows.now) ≡ Some f) }
+    ensures fault { IfErr result
+        (λ f. wholes_fault place (view object.now) (map meant rows.now) ≡ Some f) }
 {
     for row in rows {
         odd_or_whole(object, row, place)?;
@@ -161,9 +164,11 @@ pub fn check_numbers(object: &Value, rows: &[Row], place: Place) -> Result<(), C
 /// The text of a key, or what is wrong: it is missing, or its type.
 pub fn text<'a>(object: &'a Value, row: &Row, place: Place) -> Result<&'a str, CalibFault>
     requires { row.now.number + place.shift < 256 }
-    ensures ok { IfOk result (λ t. typed_in as_str place (view object.now) (meant row.now) ≡ Ok t.now) }
+    ensures ok { IfOk result (λ t. typed_in as_str place (view object.now) (meant row.now)
+        ≡ Ok t.now) }
     ensures value { IfOk result (λ t. text_of (meant row.now) (view object.now) ≡ t.now) }
-    ensures fault { IfErr result (λ f. typed_in as_str place (view object.now) (meant row.now) ≡ Err f) }
+    ensures fault { IfErr result
+        (λ f. typed_in as_str place (view object.now) (meant row.now) ≡ Err f) }
 {
     match object.get(row.name) {
         None => Err(CalibFault::Missing(key_at(row, place))),
@@ -237,7 +242,8 @@ fn is_known(object: &Row, sort: Sort, name: &str) -> bool
 }
 
 fn has_only(members: &Map<String, Value>, object: &Row, sort: Sort) -> bool
-    ensures { result ≡ list_all (λ name. is_known (meant object.now) sort (string_bytes name)) (keys members.now) }
+    ensures { result ≡ list_all (λ name. is_known (meant object.now) sort (string_bytes name))
+        (keys members.now) }
 {
     members
         .keys()
@@ -249,7 +255,8 @@ fn has_only(members: &Map<String, Value>, object: &Row, sort: Sort) -> bool
 pub fn check_object(value: &Value, object: &Row, place: Place, sort: Sort) -> Result<(), CalibFault>
     requires { object.now.number + place.shift < 256 }
     ensures ok { OnOk result (object_fault place (meant object.now) sort (view value.now) ≡ None) }
-    ensures fault { IfErr result (λ f. object_fault place (meant object.now) sort (view value.now) ≡ Some f) }
+    ensures fault { IfErr result
+        (λ f. object_fault place (meant object.now) sort (view value.now) ≡ Some f) }
 {
     match value.as_object() {
         None => Err(CalibFault::Type_(key_at(object, place))),
@@ -301,11 +308,13 @@ fn is_required(row: &Row, object: &Value) -> bool
     }
 }
 
-/// The object that a key of the value itself is, where it is there; or what is wrong with the object itself.
+/// The object that a key of the value itself is, where it is there; or what is wrong with the
+/// object itself.
 #[tactic(auto, unfolding(crate::specs::Judge::itself_fault))]
 pub fn object_in<'a>(top: &'a Value, row: &Row) -> Result<Option<&'a Value>, CalibFault>
     ensures ok { OnOk result (itself_fault (view top.now) (meant row.now) ≡ None) }
-    ensures there { IfOk result (λ o. option_map (λ v. view v.now) o ≡ get row.now.name.now (view top.now)) }
+    ensures there { IfOk result
+        (λ o. option_map (λ v. view v.now) o ≡ get row.now.name.now (view top.now)) }
     ensures required { IfOk result (λ o.
         IsTrue (is_required (presence_meant row.now.presence) (view top.now)) → IsSome o) }
     ensures fault { IfErr result (λ f. itself_fault (view top.now) (meant row.now) ≡ Some f) }

@@ -6,8 +6,8 @@ ghost use Rattle.sgm_calib.specs.Paths.{row_of, part_of, has_index, front_of, ba
 use crate::table::{REGION, REGIONS, Row, rows};
 use std::alloc::AllocError;
 
-/// A key of the calibration file: its number in the key table, and for a key of a region the region's
-/// place in the list, else 0.
+/// A key of the calibration file: its number in the key table, and for a key of a region the
+/// region's place in the list, else 0.
 #[derive(Clone, Copy, PartialEq, Eq)]
 pub struct Key {
     pub number: u8,
@@ -38,8 +38,8 @@ fn part(number: u8) -> &'static str
 }
 
 impl Key {
-    /// Whether the key belongs to a region. It is then printed as its front, its index in decimal and its
-    /// back, and else as its front alone.
+    /// Whether the key belongs to a region. It is then printed as its front, its index in decimal
+    /// and its back, and else as its front alone.
     pub fn has_index(&self) -> bool
         ensures { result ≡ has_index self.now.number }
     {

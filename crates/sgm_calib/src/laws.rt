@@ -13,7 +13,8 @@ ghost use Rattle.sgm_calib.specs.declared.keys.CalibFault.{CalibFault};
 /// Each list of bytes is one calibration or has one first fault, and not two.
 pub fn answers()
     ensures some { (bytes : List ℕ) → (r : Result Calibration CalibFault) × Reads bytes r }
-    ensures one { (bytes : List ℕ) (r s : Result Calibration CalibFault) → Reads bytes r → Reads bytes s → r ≡ s }
+    ensures one { (bytes : List ℕ) (r s : Result Calibration CalibFault) → Reads bytes r
+        → Reads bytes s → r ≡ s }
 {}
 
 /// The first fault of some checks is that of the check before which all pass.
@@ -22,8 +23,8 @@ pub fn first_faults()
         → (first_of checks ≡ Some fault) ↔ IsFirst checks fault }
 {}
 
-/// The checks go by the numbers of the keys in the order that the table names, and each key is printed as
-/// its name after the path of its object.
+/// The checks go by the numbers of the keys in the order that the table names, and each key is
+/// printed as its name after the path of its object.
 pub fn numbers_and_paths()
     ensures in_this_order { numbers ≡ order }
     ensures paths { IsTrue (list_all (λ row. is_of_region row || has_path row) keys) }

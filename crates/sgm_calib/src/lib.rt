@@ -1,5 +1,5 @@
-//! The calibration file: its key table in `src/table.rt`, and [`read`], which gives the calibration or the
-//! first fault by that table.
+//! The calibration file: its key table in `src/table.rt`, and [`read`], which gives the calibration
+//! or the first fault by that table.
 #![tactic(auto)]
 
 mod calib;

@@ -33,8 +33,9 @@ impl Amount {
     {
         match self {
             Amount::Exactly(wanted) => count == wanted,
-            Amount::Corners =>
-                count % 2 == 0 && MIN_CORNERS <= count / 2 && count / 2 <= MAX_CORNERS,
+            Amount::Corners => count % 2 == 0
+                && MIN_CORNERS <= count / 2
+                && count / 2 <= MAX_CORNERS,
         }
     }
 }
@@ -80,7 +81,8 @@ fn is_entry(object: &Value, row: &Row, place: Place, item: &Value) -> bool
 
 fn are_entries(object: &Value, row: &Row, place: Place, items: &[Value]) -> bool
     ensures { result ≡ list_all
-        (λ item. is_in_range (form_meant row.now.form) place (view object.now) (unwrap_or (whole (view item)) (pos 0)))
+        (λ item. is_in_range (form_meant row.now.form) place (view object.now)
+        (unwrap_or (whole (view item)) (pos 0)))
         items.now }
 {
     items.iter().all(|item| is_entry(object, row, place, item))
@@ -89,7 +91,8 @@ fn are_entries(object: &Value, row: &Row, place: Place, items: &[Value]) -> bool
 /// Whether there are as many items as there may be, each in the range of the list's numbers.
 fn is_full(object: &Value, row: &Row, place: Place, amount: Amount, items: &[Value]) -> bool
     ensures { result ≡ (may_have amount (length items.now) && list_all
-        (λ item. is_in_range (form_meant row.now.form) place (view object.now) (unwrap_or (whole (view item)) (pos 0)))
+        (λ item. is_in_range (form_meant row.now.form) place (view object.now)
+        (unwrap_or (whole (view item)) (pos 0)))
         items.now) }
 {
     amount.allows(items.len()) && are_entries(object, row, place, items)
@@ -106,7 +109,8 @@ pub fn numbers<'a>(
 ) -> Result<&'a [Value], CalibFault>
     requires { row.now.number + place.shift < 256 }
     ensures ok { OnOk result (numbers_fault place (view object.now) (meant row.now) amount ≡ None) }
-    ensures value { IfOk result (λ items. map (λ item. unwrap_or (whole (view item)) (pos 0)) items.now
+    ensures value { IfOk result
+        (λ items. map (λ item. unwrap_or (whole (view item)) (pos 0)) items.now
         ≡ numbers (value_of (meant row.now) (view object.now))) }
     ensures count { IfOk result (λ items. Allows amount (length items.now)) }
     ensures range { IfOk result (λ items. All (λ item.

@@ -1,8 +1,9 @@
-/// Where an object stands that has keys of the table, as far as the keys and their ranges rest on it.
+/// Where an object stands that has keys of the table, as far as the keys and their ranges rest on
+/// it.
 #[derive(Clone, Copy)]
 pub struct Place {
-    /// How many numbers its keys come after those of the table's rows. The right side of the warps has
-    /// the rows of the left one.
+    /// How many numbers its keys come after those of the table's rows. The right side of the warps
+    /// has the rows of the left one.
     pub shift: u8,
     /// The place of a region in the list of regions.
     pub index: u32,

@@ -54,8 +54,8 @@ fn judge(alloc: Global, top: &Value) -> Result<Calib, CalibError>
     entries(alloc, top)
 }
 
-/// Reads a calibration file. The fault is the first by the order of the key table: by the numbers of the
-/// keys, depth first. It is Json where the bytes are no JSON text.
+/// Reads a calibration file. The fault is the first by the order of the key table: by the numbers
+/// of the keys, depth first. It is Json where the bytes are no JSON text.
 pub fn read(alloc: Global, bytes: &[u8]) -> Result<Calib, CalibError>
     ensures exact { ReadsText bytes.now result }
     ensures unique { (r : Result Calibration CalibFault) → Reads bytes.now r → ReadsAs r result }

@@ -13,14 +13,14 @@ ghost use Rattle.sgm_calib.specs.Checks.{first_of, key_fault, keys_fault, text_o
 ghost use Rattle.sgm_calib.specs.RegionKeys.{region_place, region_number_keys, rises_fault, parts_fault, outline_fault, region_fault, region_faults, regions_fault_of, regions_fault, base_of, numbers_of, area_in, outline_in, regions_in};
 ghost use Rattle.sgm_calib.specs.Judge.{grid_in};
 
-use crate::checks::{check_numbers, check_object, count_at, is_since, key_at, number_at, sort_of, text};
+use crate::checks::{
+    check_numbers, check_object, count_at, is_since, key_at, number_at, sort_of, text,
+};
 use crate::keys::{CalibError, CalibFault};
 use crate::lists::{Amount, elements, numbers, pairs};
 use crate::place::{PLAIN, Place};
 use crate::sort::Sort;
-use crate::table::{
-    OUTLINE, REGION, REGION_NAME, REGION_NUMBERS, REGIONS, RISE_KEYS, RISE_NORTH,
-};
+use crate::table::{OUTLINE, REGION, REGION_NAME, REGION_NUMBERS, REGIONS, RISE_KEYS, RISE_NORTH};
 use serde_json::Value;
 use sgm_base::MAX_REGIONS;
 use sgm_grid::GridSpec;
@@ -55,7 +55,8 @@ fn region_name<'a>(object: &'a Value, place: Place) -> Result<&'a str, CalibFaul
     ensures ok { OnOk result (key_fault place (view object.now) table.region_name ≡ None) }
     ensures value { IfOk result (λ name. text_of table.region_name (view object.now) ≡ name.now) }
     ensures kept { IfOk result (λ name. IsRegionName name.now) }
-    ensures fault { IfErr result (λ f. key_fault place (view object.now) table.region_name ≡ Some f) }
+    ensures fault { IfErr result
+        (λ f. key_fault place (view object.now) table.region_name ≡ Some f) }
 {
     let row = &REGION_NAME;
     let name = text(object, row, place)?;
@@ -75,8 +76,16 @@ fn base_at(object: &Value, sort: Sort) -> BasePlane
     let slopes = is_since(3, sort);
     BasePlane {
         height: number_at(object, base.name),
-        rise_east: if slopes { number_at(object, rise_east.name) } else { 0 },
-        rise_north: if slopes { number_at(object, rise_north.name) } else { 0 },
+        rise_east: if slopes {
+            number_at(object, rise_east.name)
+        } else {
+            0
+        },
+        rise_north: if slopes {
+            number_at(object, rise_north.name)
+        } else {
+            0
+        },
     }
 }
 
@@ -154,10 +163,7 @@ fn region_parts<'a>(
 
 /// The corners of a region's outline, where it has one. In a version that knows none it has none,
 /// as the name is unknown there.
-#[tactic(
-    auto,
-    unfolding(crate::specs::RegionKeys::outline_fault, crate::specs::RegionKeys::outline_in)
-)]
+#[tactic(auto, unfolding(crate::specs::RegionKeys::outline_fault, crate::specs::RegionKeys::outline_in))]
 fn outline(
     alloc: Global,
     object: &Value,
@@ -179,10 +185,7 @@ fn outline(
 }
 
 /// The region that an object of that sort is.
-#[tactic(
-    auto,
-    unfolding(crate::specs::RegionKeys::region_fault, crate::specs::RegionKeys::area_in)
-)]
+#[tactic(auto, unfolding(crate::specs::RegionKeys::region_fault, crate::specs::RegionKeys::area_in))]
 fn region(
     alloc: Global,
     object: &Value,
@@ -280,10 +283,12 @@ pub fn regions(
 ) -> Result<Option<Vec<Region>>, CalibError>
     requires value { grid ≡ grid_in (view top.now) }
     requires kept { IfSome grid IsGridSpec }
-    requires given { IfSome (get table.region_list.name (view top.now)) (λ _. IsTrue (is_some grid)) }
+    requires given { IfSome (get table.region_list.name (view top.now))
+        (λ _. IsTrue (is_some grid)) }
     ensures ok { OnOk result (regions_fault (view top.now) ≡ None) }
     ensures value { IfOk result (λ r. option_map (λ v. v.items) r ≡ regions_in (view top.now)) }
-    ensures inside { IfOk result (λ r. IfSome grid (λ spec. IfSome r (λ v. All (IsArea spec) v.items))) }
+    ensures inside { IfOk result
+        (λ r. IfSome grid (λ spec. IfSome r (λ v. All (IsArea spec) v.items))) }
     ensures few { IfOk result (λ r. IfSome r (λ v. length v.items ≤ MAX_REGIONS)) }
     ensures given { IfOk result (λ r. IfSome r (λ _. IsTrue (is_some grid))) }
     ensures fault { IfErr result (λ e. IsFaultOf (regions_fault (view top.now)) e) }

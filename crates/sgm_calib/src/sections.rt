@@ -52,10 +52,13 @@ fn span(first: i64, count: i64) -> Span
     }
 }
 
-/// Checks the key that says whether disparities are made finer, where disparities of that sort are given it.
+/// Checks the key that says whether disparities are made finer, where disparities of that sort are
+/// given it.
 fn check_fine(object: &Value, sort: Sort) -> Result<(), CalibFault>
-    ensures ok { OnOk result (keys_fault PLAIN (view object.now) (given_rows sort (table.fine ∷ [])) ≡ None) }
-    ensures fault { IfErr result (λ f. keys_fault PLAIN (view object.now) (given_rows sort (table.fine ∷ [])) ≡ Some f) }
+    ensures ok { OnOk result (keys_fault PLAIN (view object.now) (given_rows sort (table.fine ∷ []))
+        ≡ None) }
+    ensures fault { IfErr result
+        (λ f. keys_fault PLAIN (view object.now) (given_rows sort (table.fine ∷ [])) ≡ Some f) }
 {
     let row = &FINE;
     if is_given(row, sort) {
@@ -66,9 +69,11 @@ fn check_fine(object: &Value, sort: Sort) -> Result<(), CalibFault>
 
 /// The disparities that an object of that sort is, once its names are known.
 fn span_of(object: &Value, sort: Sort) -> Result<Span, CalibFault>
-    ensures ok { OnOk result (keys_fault PLAIN (view object.now) (rows_in table.disparities sort) ≡ None) }
+    ensures ok { OnOk result (keys_fault PLAIN (view object.now) (rows_in table.disparities sort)
+        ≡ None) }
     ensures value { IfOk result (λ span. span ≡ span_of (view object.now)) }
-    ensures fault { IfErr result (λ f. keys_fault PLAIN (view object.now) (rows_in table.disparities sort) ≡ Some f) }
+    ensures fault { IfErr result
+        (λ f. keys_fault PLAIN (view object.now) (rows_in table.disparities sort) ≡ Some f) }
 {
     let [first, count, _] = &DISPARITIES_KEYS;
     let first = whole(object, first, PLAIN)?;
@@ -81,7 +86,8 @@ fn span_of(object: &Value, sort: Sort) -> Result<Span, CalibFault>
 #[tactic(auto, unfolding(crate::specs::Judge::section_fault))]
 pub fn disparities(top: &Value) -> Result<Span, CalibFault>
     ensures ok { OnOk result (section_fault (view top.now) table.disparities ≡ None) }
-    ensures value { IfOk result (λ span. span ≡ span_of (value_of table.disparities (view top.now))) }
+    ensures value { IfOk result
+        (λ span. span ≡ span_of (value_of table.disparities (view top.now))) }
     ensures fault { IfErr result (λ f. section_fault (view top.now) table.disparities ≡ Some f) }
 {
     let found = object_in(top, &DISPARITIES)?;
@@ -119,7 +125,8 @@ fn sides(width: i64, height: i64) -> Window
 fn window_of(object: &Value) -> Result<Window, CalibFault>
     ensures ok { OnOk result (keys_fault PLAIN (view object.now) table.census_keys ≡ None) }
     ensures value { IfOk result (λ window. window ≡ window_of (view object.now)) }
-    ensures fault { IfErr result (λ f. keys_fault PLAIN (view object.now) table.census_keys ≡ Some f) }
+    ensures fault { IfErr result
+        (λ f. keys_fault PLAIN (view object.now) table.census_keys ≡ Some f) }
 {
     let [width, height] = &CENSUS_KEYS;
     let width = odd_or_whole(object, width, PLAIN)?;
@@ -131,7 +138,8 @@ fn window_of(object: &Value) -> Result<Window, CalibFault>
 #[tactic(auto, unfolding(crate::specs::Judge::section_fault))]
 pub fn census(top: &Value) -> Result<Window, CalibFault>
     ensures ok { OnOk result (section_fault (view top.now) table.census ≡ None) }
-    ensures value { IfOk result (λ window. window ≡ window_of (value_of table.census (view top.now))) }
+    ensures value { IfOk result
+        (λ window. window ≡ window_of (value_of table.census (view top.now))) }
     ensures fault { IfErr result (λ f. section_fault (view top.now) table.census ≡ Some f) }
 {
     let found = object_in(top, &CENSUS)?;
@@ -144,7 +152,11 @@ fn pen(p1: i64, p2: i64, adaptive: bool) -> Pen
     requires low { pos 1 ≤ℤ p1 }
     requires ordered { p1 ≤ℤ p2 }
     requires high { p2 ≤ℤ pos MAX_PENALTY }
-    ensures { seen result ≡ record { p1 = unsigned_abs p1; p2 = unsigned_abs p2; adaptive = adaptive } }
+    ensures { seen result ≡ record {
+      p1 = unsigned_abs p1;
+      p2 = unsigned_abs p2;
+      adaptive = adaptive;
+    } }
 {
     let (p1, p2) = (p1 as u16, p2 as u16);
     let made = if adaptive {
@@ -156,10 +168,13 @@ fn pen(p1: i64, p2: i64, adaptive: bool) -> Pen
     pen
 }
 
-/// Checks the key that says whether P2 follows the image, where penalties of that sort are given it.
+/// Checks the key that says whether P2 follows the image, where penalties of that sort are given
+/// it.
 fn check_adapt(object: &Value, sort: Sort) -> Result<(), CalibFault>
-    ensures ok { OnOk result (keys_fault PLAIN (view object.now) (given_rows sort (table.adapt ∷ [])) ≡ None) }
-    ensures fault { IfErr result (λ f. keys_fault PLAIN (view object.now) (given_rows sort (table.adapt ∷ [])) ≡ Some f) }
+    ensures ok { OnOk result (keys_fault PLAIN (view object.now)
+        (given_rows sort (table.adapt ∷ [])) ≡ None) }
+    ensures fault { IfErr result
+        (λ f. keys_fault PLAIN (view object.now) (given_rows sort (table.adapt ∷ [])) ≡ Some f) }
 {
     let row = &ADAPT;
     if is_given(row, sort) {
@@ -170,9 +185,11 @@ fn check_adapt(object: &Value, sort: Sort) -> Result<(), CalibFault>
 
 /// The penalties that an object of that sort is, once its names are known.
 fn pen_of(object: &Value, sort: Sort) -> Result<Pen, CalibFault>
-    ensures ok { OnOk result (keys_fault PLAIN (view object.now) (rows_in table.penalties sort) ≡ None) }
+    ensures ok { OnOk result (keys_fault PLAIN (view object.now) (rows_in table.penalties sort)
+        ≡ None) }
     ensures value { IfOk result (λ pen. seen pen ≡ penalties_of (view object.now)) }
-    ensures fault { IfErr result (λ f. keys_fault PLAIN (view object.now) (rows_in table.penalties sort) ≡ Some f) }
+    ensures fault { IfErr result
+        (λ f. keys_fault PLAIN (view object.now) (rows_in table.penalties sort) ≡ Some f) }
 {
     let [p1, p2, adapt] = &PENALTIES_KEYS;
     let p1 = whole(object, p1, PLAIN)?;
@@ -185,7 +202,8 @@ fn pen_of(object: &Value, sort: Sort) -> Result<Pen, CalibFault>
 #[tactic(auto, unfolding(crate::specs::Judge::section_fault))]
 pub fn penalties(top: &Value) -> Result<Pen, CalibFault>
     ensures ok { OnOk result (section_fault (view top.now) table.penalties ≡ None) }
-    ensures value { IfOk result (λ pen. seen pen ≡ penalties_of (value_of table.penalties (view top.now))) }
+    ensures value { IfOk result
+        (λ pen. seen pen ≡ penalties_of (value_of table.penalties (view top.now))) }
     ensures fault { IfErr result (λ f. section_fault (view top.now) table.penalties ≡ Some f) }
 {
     let found = object_in(top, &PENALTIES)?;
@@ -215,7 +233,8 @@ fn camera_at(object: &Value) -> Camera
 fn camera_of(object: &Value) -> Result<Camera, CalibFault>
     ensures ok { OnOk result (keys_fault PLAIN (view object.now) table.camera_keys ≡ None) }
     ensures value { IfOk result (λ c. c ≡ camera_of (view object.now)) }
-    ensures fault { IfErr result (λ f. keys_fault PLAIN (view object.now) table.camera_keys ≡ Some f) }
+    ensures fault { IfErr result
+        (λ f. keys_fault PLAIN (view object.now) table.camera_keys ≡ Some f) }
 {
     check_numbers(object, &CAMERA_KEYS, PLAIN)?;
     Ok(camera_at(object))
@@ -227,7 +246,8 @@ pub fn camera(top: &Value) -> Result<Option<Camera>, CalibFault>
     ensures ok { OnOk result (section_fault (view top.now) table.camera ≡ None) }
     ensures value { IfOk result (λ c. c ≡ camera_in (view top.now)) }
     ensures kept { IfOk result (λ c. IfSome c IsCamera) }
-    ensures asked { IfOk result (λ c. IfSome (get table.grid.name (view top.now)) (λ _. IsTrue (is_some c))) }
+    ensures asked { IfOk result
+        (λ c. IfSome (get table.grid.name (view top.now)) (λ _. IsTrue (is_some c))) }
     ensures fault { IfErr result (λ f. section_fault (view top.now) table.camera ≡ Some f) }
 {
     let found = object_in(top, &CAMERA)?;
@@ -303,7 +323,8 @@ pub fn grid(top: &Value) -> Result<Option<GridSpec>, CalibFault>
     ensures ok { OnOk result (section_fault (view top.now) table.grid ≡ None) }
     ensures value { IfOk result (λ g. g ≡ grid_in (view top.now)) }
     ensures kept { IfOk result (λ g. IfSome g IsGridSpec) }
-    ensures asked { IfOk result (λ g. IfSome (get table.region_list.name (view top.now)) (λ _. IsTrue (is_some g))) }
+    ensures asked { IfOk result
+        (λ g. IfSome (get table.region_list.name (view top.now)) (λ _. IsTrue (is_some g))) }
     ensures fault { IfErr result (λ f. section_fault (view top.now) table.grid ≡ Some f) }
 {
     let found = object_in(top, &GRID)?;

@@ -136,7 +136,8 @@ fn mesh(alloc: Global, side: &Value, place: Place) -> Result<Warp, CalibError>
     ensures ok { OnOk result (keys_fault place (view side.now) (rows_of_kind Mesh) ≡ None) }
     ensures value { IfOk result (λ w. w ≡ warp_of_kind Mesh (view side.now)) }
     ensures kept { IfOk result (λ w. IsWarp w) }
-    ensures fault { IfErr result (λ e. IsFaultOf (keys_fault place (view side.now) (rows_of_kind Mesh)) e) }
+    ensures fault { IfErr result
+        (λ e. IsFaultOf (keys_fault place (view side.now) (rows_of_kind Mesh)) e) }
 {
     mesh_by_nodes(alloc, side, place)
 }
@@ -147,7 +148,8 @@ fn warp_of_kind(alloc: Global, side: &Value, place: Place, kind: Kind) -> Result
     ensures ok { OnOk result (keys_fault place (view side.now) (rows_of_kind kind) ≡ None) }
     ensures value { IfOk result (λ w. w ≡ warp_of_kind kind (view side.now)) }
     ensures kept { IfOk result (λ w. IsWarp w) }
-    ensures fault { IfErr result (λ e. IsFaultOf (keys_fault place (view side.now) (rows_of_kind kind)) e) }
+    ensures fault { IfErr result
+        (λ e. IsFaultOf (keys_fault place (view side.now) (rows_of_kind kind)) e) }
 {
     match kind {
         Kind::Identity => Ok(Warp::Identity),
@@ -163,7 +165,8 @@ fn side(alloc: Global, warp: &Value, row: &Row, place: Place) -> Result<Warp, Ca
     ensures ok { OnOk result (side_fault place row.now.name.now (view warp.now) ≡ None) }
     ensures value { IfOk result (λ w. w ≡ side_warp (value_of (meant row.now) (view warp.now))) }
     ensures kept { IfOk result (λ w. IsWarp w) }
-    ensures fault { IfErr result (λ e. IsFaultOf (side_fault place row.now.name.now (view warp.now)) e) }
+    ensures fault { IfErr result
+        (λ e. IsFaultOf (side_fault place row.now.name.now (view warp.now)) e) }
 {
     let left = &LEFT;
     let Some(side) = warp.get(row.name) else {
@@ -185,7 +188,8 @@ fn sides(alloc: Global, warp: &Value) -> Result<(Warp, Warp), CalibError>
     ensures right { IfOk result (λ w. w.1 ≡ side_warp (value_of table.right (view warp.now))) }
     ensures left_kept { IfOk result (λ w. IsWarp w.0) }
     ensures right_kept { IfOk result (λ w. IsWarp w.1) }
-    ensures fault { IfErr result (λ e. IsFaultOf (first_of (side_fault PLAIN table.left.name (view warp.now)
+    ensures fault { IfErr result
+        (λ e. IsFaultOf (first_of (side_fault PLAIN table.left.name (view warp.now)
         ∷ side_fault RIGHT_SIDE table.right.name (view warp.now) ∷ [])) e) }
 {
     let [left, right] = &SIDES;
@@ -194,8 +198,8 @@ fn sides(alloc: Global, warp: &Value) -> Result<(Warp, Warp), CalibError>
     Ok((left, right))
 }
 
-/// The warps of the left and the right image: the identity for both where the value has none. Memory is
-/// taken for the nodes of a mesh alone.
+/// The warps of the left and the right image: the identity for both where the value has none.
+/// Memory is taken for the nodes of a mesh alone.
 #[tactic(auto, unfolding(crate::specs::WarpKeys::warps_fault, crate::specs::WarpKeys::warp_in))]
 pub fn warps(alloc: Global, top: &Value) -> Result<(Warp, Warp), CalibError>
     ensures ok { OnOk result (warps_fault (view top.now) ≡ None) }

@@ -1,6 +1,7 @@
 //! `asc TEXT`: the grid that a grid's text tells, or the text's first fault.
 //!
-//! The answer is `ok` and the text that the grid is written as, in one line; or the fault with its numbers.
+//! The answer is `ok` and the text that the grid is written as, in one line; or the fault with its
+//! numbers.
 
 use crate::escapes;
 use sgm_grid::{AscError, AscFault, Grid, read_asc};

@@ -1,8 +1,8 @@
 //! `cells COLS ROWS CELL KEEP BRIDGE | X,Y,H X,Y,H ..`: the heights of a grid whose west and south
 //! sides are 0, once these points were added and its heights were bridged, row by row from the
-//! north (see `rows`). CELL is the side of a cell, KEEP `highest` or `mean`, and BRIDGE over how many
-//! cells heights are bridged; a case without points ends there. `tests/cells_cases.py` works the
-//! answers out.
+//! north (see `rows`). CELL is the side of a cell, KEEP `highest` or `mean`, and BRIDGE over how
+//! many cells heights are bridged; a case without points ends there. `tests/cells_cases.py` works
+//! the answers out.
 
 ghost use Rattle.std.specs.Prelude.{◌≤◌, ◌^◌, IfSome, IsTrue, length};
 ghost use Rattle.sgm_base.specs.Ranges.{Within};

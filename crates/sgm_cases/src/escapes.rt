@@ -1,5 +1,5 @@
-//! Bytes that are written in one line: `\n`, `\r`, `\t`, `\\`, a byte as `\x0f`, and so many copies of a
-//! piece as `\*1000:PIECE\.`, where the piece has no copies in it.
+//! Bytes that are written in one line: `\n`, `\r`, `\t`, `\\`, a byte as `\x0f`, and so many copies
+//! of a piece as `\*1000:PIECE\.`, where the piece has no copies in it.
 
 use std::alloc::{AllocError, Global};
 use std::fmt::Write;

@@ -1,5 +1,6 @@
-//! `fine WIDTH HEIGHT FIRST COUNT | LEFT | RIGHT | MAP`: the finer values of a map over two planes, ` | `, and their
-//! means. The planes and the map stand there as their values (see `rows`). `tests/fine_cases.py` works the answers out.
+//! `fine WIDTH HEIGHT FIRST COUNT | LEFT | RIGHT | MAP`: the finer values of a map over two planes,
+//! ` | `, and their means. The planes and the map stand there as their values (see `rows`).
+//! `tests/fine_cases.py` works the answers out.
 
 ghost use Rattle.std.specs.Prelude.{◌<◌};
 

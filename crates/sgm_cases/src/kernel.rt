@@ -1,9 +1,10 @@
-//! `kernel NAME LENGTH`: what a kernel gives for so many numbers, at most 130, of a simple generator: the same for each
-//! name and length.
+//! `kernel NAME LENGTH`: what a kernel gives for so many numbers, at most 130, of a simple
+//! generator: the same for each name and length.
 //!
-//! The numbers are drawn one list after the other, in the order of the kernel's parameters, each list whole; what a
-//! kernel writes over is drawn last. The answer is what was written, one space between two numbers, after `add_step`
-//! the values, ` | ` and the sums; or the least value. `tests/kernels.py` works the answers out.
+//! The numbers are drawn one list after the other, in the order of the kernel's parameters, each
+//! list whole; what a kernel writes over is drawn last. The answer is what was written, one space
+//! between two numbers, after `add_step` the values, ` | ` and the sums; or the least value.
+//! `tests/kernels.py` works the answers out.
 
 ghost use Rattle.std.specs.Prelude.{◌≡◌, ◌≤◌, ◌<◌, nat_le, IfOk, vec_len};
 ghost use Rattle.std.specs.List.{list_all};

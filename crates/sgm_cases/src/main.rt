@@ -1,8 +1,10 @@
-//! Compares answers with those that were worked out apart from the program. Standard input has two lines for
-//! each case: `KIND REST`, and the answer as the formats ask for it. A case that is answered otherwise is
-//! printed with its answer. What a kind asks and how its answers are written is said in its module.
+//! Compares answers with those that were worked out apart from the program. Standard input has two
+//! lines for each case: `KIND REST`, and the answer as the formats ask for it. A case that is
+//! answered otherwise is printed with its answer. What a kind asks and how its answers are written
+//! is said in its module.
 //!
-//! The stored input is a test of the crates below. Its last case has a false answer, so it is printed.
+//! The stored input is a test of the crates below. Its last case has a false answer, so it is
+//! printed.
 #![tactic(auto)]
 
 mod asc;

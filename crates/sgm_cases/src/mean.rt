@@ -1,5 +1,5 @@
-//! `mean WIDTH HEIGHT | MAP`: the means of the values of a map, which stands there as its values (see `rows`).
-//! `tests/fine_cases.py` works the answers out.
+//! `mean WIDTH HEIGHT | MAP`: the means of the values of a map, which stands there as its values
+//! (see `rows`). `tests/fine_cases.py` works the answers out.
 
 ghost use Rattle.std.specs.Prelude.{◌<◌};
 

@@ -1,4 +1,5 @@
-//! The values of all pixels in one line: row by row, one space between two, and `-` where there is none.
+//! The values of all pixels in one line: row by row, one space between two, and `-` where there is
+//! none.
 
 use crate::parts::cut;
 use sgm_base::{DispMap, Plane, Size};

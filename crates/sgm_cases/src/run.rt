@@ -1,11 +1,13 @@
-//! `run WORDS ; FIELD ; FIELD ..`: how a run ends in memory, where the files of the worked example are held.
+//! `run WORDS ; FIELD ; FIELD ..`: how a run ends in memory, where the files of the worked example
+//! are held.
 //!
-//! The fields are `file NAME TEXT`, a file that is held besides or in place of one of those; a call that
-//! fails once, `trip fetch NAME`, `trip create NAME`, `trip append NAME LENGTH` or `trip finish NAME`; `sure`
-//! for a shelf where nothing fails and every name is held; `out LENGTH` and `err LENGTH`, where standard output
-//! and standard error fail once, at that length. The answer is the status, what is held under the names o.pgm,
-//! o.asc and o.csv, and what the two streams received, with `\n`, `\\` and bytes as `\x0f`; last, where standard
-//! error hasn't received the line of the outcome, ` | outcome LINE`.
+//! The fields are `file NAME TEXT`, a file that is held besides or in place of one of those; a call
+//! that fails once, `trip fetch NAME`, `trip create NAME`, `trip append NAME LENGTH` or `trip
+//! finish NAME`; `sure` for a shelf where nothing fails and every name is held; `out LENGTH` and
+//! `err LENGTH`, where standard output and standard error fail once, at that length. The answer is
+//! the status, what is held under the names o.pgm, o.asc and o.csv, and what the two streams
+//! received, with `\n`, `\\` and bytes as `\x0f`; last, where standard error hasn't received the
+//! line of the outcome, ` | outcome LINE`.
 
 use crate::line::line_of;
 use crate::parts::{cut, words_of};

@@ -13,7 +13,8 @@ use Rattle.sgm_grid.specs.declared.limits.TheConstants.{MAX_PLACE, MAX_CELL, MAX
 use Rattle.sgm_grid.specs.Cells.{Cells, cells_of}
 use Rattle.sgm_grid.specs.Words.{number_of, words_of}
 
--- what a word of the head has to be: that name in any case of its letters, or a number from the one to the other
+-- what a word of the head has to be: that name in any case of its letters, or a number from the one
+-- to the other
 pub data Place : Type 0 where
   named : List ℕ → Place
   number : ℤ → ℤ → Place
@@ -63,18 +64,22 @@ spec_in words = record {
 
 -- the height that a number tells, none of an empty cell; or none where it tells no cell
 abbrev pub cell_told : ℤ → Option (Option ℤ)
-cell_told z = if int_eq z NO_HEIGHT then Some None else (if is_from_to (neg_ℤ MAX_HEIGHT) MAX_HEIGHT z then Some (Some z) else None)
+cell_told z =
+    if int_eq z NO_HEIGHT then Some None
+    else (if is_from_to (neg_ℤ MAX_HEIGHT) MAX_HEIGHT z then Some (Some z) else None)
 
 abbrev pub cell_in : List ℕ → Option (Option ℤ)
 cell_in word = option_and_then cell_told (number_of word)
 
 -- a cell before others, which stand behind the word with that index
-abbrev pub with_cell : ℕ → Option (Option ℤ) → Result (List (Option ℤ)) AscFault → Result (List (Option ℤ)) AscFault
+abbrev pub with_cell : ℕ → Option (Option ℤ) → Result (List (Option ℤ)) AscFault
+    → Result (List (Option ℤ)) AscFault
 with_cell index None others = Err (Height index)
 with_cell index (Some cell) (Ok cells) = Ok (cell ∷ cells)
 with_cell index (Some cell) (Err fault) = Err fault
 
--- the heights that words tell, counted on from `index`, or the least index of a word that tells none
+-- the heights that words tell, counted on from `index`, or the least index of a word that tells
+-- none
 abbrev pub heights_in : ℕ → List (List ℕ) → Result (List (Option ℤ)) AscFault
 heights_in index [] = Ok []
 heights_in index (word ∷ words) = with_cell index (cell_in word) (heights_in (index + 1) words)
@@ -86,7 +91,8 @@ with_spec spec (Err fault) = Err fault
 -- the grid of those ranges whose heights the words tell, or their first fault
 unfoldable pub grid_of : GridSpec → List (List ℕ) → Result Cells AscFault
 grid_of spec words =
-    if length words == spec.cols * spec.rows then with_spec spec (heights_in 0 words) else Err (Count (length words) (spec.cols * spec.rows))
+    if length words == spec.cols * spec.rows then with_spec spec (heights_in 0 words)
+    else Err (Count (length words) (spec.cols * spec.rows))
 
 -- the first of a fault of the words, a fault of the ranges, and what there is otherwise
 abbrev pub first_of : Option ℕ → Option ℕ → Result Cells AscFault → Result Cells AscFault
@@ -96,7 +102,9 @@ first_of None None otherwise = otherwise
 
 -- the grid that words tell, or their first fault
 unfoldable pub told_by : List (List ℕ) → Result Cells AscFault
-told_by words = first_of (first_failing is_kind 0 head words) (first_failing is_in_range 0 head words) (grid_of (spec_in words) (drop 12 words))
+told_by words =
+    first_of (first_failing is_kind 0 head words) (first_failing is_in_range 0 head words)
+    (grid_of (spec_in words) (drop 12 words))
 
 -- the same of a text
 abbrev pub asc_reading : List ℕ → Result Cells AscFault

@@ -36,7 +36,8 @@ with_height sum h = record { total = sum.total +ℤ h; count = sum.count + 1 }
 abbrev pub summed_in : CellSums → Option (ℕ × ℕ) → ℤ → CellSums
 summed_in held None h = held
 summed_in held (Some cell) h =
-    sums_of held.spec (slice_set held.sums (cell_index held.spec cell.0 cell.1) (with_height (sum_at held cell.0 cell.1) h))
+    sums_of held.spec (slice_set held.sums (cell_index held.spec cell.0 cell.1)
+    (with_height (sum_at held cell.0 cell.1) h))
 
 -- the sums after a point: its cell's has its height too, every other stays
 abbrev pub summed : CellSums → Point → CellSums

@@ -20,7 +20,8 @@ pub record HasNumber (words : List (List ℕ)) (value : ℤ) (rest : List (List 
   pub value_is : value ≡ capped real
 
 -- a name and a number
-pub record HasLine (name : List ℕ) (words : List (List ℕ)) (value : ℤ) (rest : List (List ℕ)) : Type 0 where
+pub record HasLine (name : List ℕ) (words : List (List ℕ)) (value : ℤ)
+    (rest : List (List ℕ)) : Type 0 where
   pub word : List ℕ
   pub more : List (List ℕ)
   pub is : words ≡ word ∷ more
@@ -36,14 +37,18 @@ LacksAt at places words (Height index) = ⊥
 
 -- no number, whatever its range and whatever stands behind it
 abbrev pub LacksNumber : ℕ → List (List ℕ) → AscFault → Type 0
-LacksNumber at words fault = (low high : ℤ) (places : List Place) → LacksAt at (number low high ∷ places) words fault
+LacksNumber at words fault =
+    (low high : ℤ) (places : List Place) → LacksAt at (number low high ∷ places) words fault
 
 -- not that name, or no number behind it
 abbrev pub LacksLine : List ℕ → ℕ → List (List ℕ) → AscFault → Type 0
-LacksLine name at words fault = (low high : ℤ) (places : List Place) → LacksAt at (named name ∷ number low high ∷ places) words fault
+LacksLine name at words fault =
+    (low high : ℤ) (places : List Place)
+    → LacksAt at (named name ∷ number low high ∷ places) words fault
 
 -- the six numbers of a head, what stands for each, and the words behind it
-pub record HasNumbers (words : List (List ℕ)) (numbers : Numbers) (rest : List (List ℕ)) : Type 0 where
+pub record HasNumbers (words : List (List ℕ)) (numbers : Numbers)
+    (rest : List (List ℕ)) : Type 0 where
   pub behind_cols : List (List ℕ)
   pub behind_rows : List (List ℕ)
   pub behind_west : List (List ℕ)

@@ -33,9 +33,11 @@ heights_into spec points col row = map (λ p. p.h) (filter (falls_into spec col 
 abbrev pub cell_after : Keep → GridSpec → List Point → ℕ → ℕ → Option ℤ
 cell_after keep spec points col row = kept keep (heights_into spec points col row)
 
--- the grid in which each cell holds what it keeps of the points that fall into it, or is empty where none does
+-- the grid in which each cell holds what it keeps of the points that fall into it, or is empty
+-- where none does
 unfoldable pub gridded : Keep → GridSpec → List Point → Cells
-gridded keep spec points = cells_of spec (row_by_row spec.cols spec.rows (cell_after keep spec points))
+gridded keep spec points =
+    cells_of spec (row_by_row spec.cols spec.rows (cell_after keep spec points))
 
 -- the range of what says how points become heights
 abbrev pub IsGridding : Gridding → Type 0

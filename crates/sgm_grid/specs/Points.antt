@@ -23,7 +23,8 @@ abbrev pub from_north : GridSpec → Option ℕ → Option ℕ → Option (ℕ �
 from_north spec (Some col) (Some south) = Some (col, spec.rows - 1 - south)
 from_north spec _ _ = None
 
--- the column, and the row from the north, of the cell into which a point falls, or none where it is outside
+-- the column, and the row from the north, of the cell into which a point falls, or none where it is
+-- outside
 abbrev pub cell_of : GridSpec → Point → Option (ℕ × ℕ)
 cell_of spec p = from_north spec (col_of spec p) (row_from_south spec p)
 
@@ -53,7 +54,8 @@ higher (Some held) h = int_max held h
 abbrev pub raised : Cells → Option (ℕ × ℕ) → ℤ → Cells
 raised grid None h = grid
 raised grid (Some cell) h =
-    cells_of grid.spec (slice_set grid.heights (cell_index grid.spec cell.0 cell.1) (Some (higher (height_at grid cell.0 cell.1) h)))
+    cells_of grid.spec (slice_set grid.heights (cell_index grid.spec cell.0 cell.1)
+    (Some (higher (height_at grid cell.0 cell.1) h)))
 
 -- the grid after a point: its cell keeps the higher, every other cell stays
 abbrev pub added : Cells → Point → Cells

@@ -11,15 +11,19 @@ line bytes = bytes ++ (10 ∷ [])
 
 -- the lines with the numbers of columns and rows
 abbrev pub size_text : GridSpec → List ℕ
-size_text spec = line (codes "ncols " ++ decimal spec.cols) ++ line (codes "nrows " ++ decimal spec.rows)
+size_text spec =
+    line (codes "ncols " ++ decimal spec.cols) ++ line (codes "nrows " ++ decimal spec.rows)
 
 -- the lines on where the grid lies
 abbrev pub corner_text : GridSpec → List ℕ
-corner_text spec = line (codes "xllcorner " ++ signed_decimal spec.west) ++ line (codes "yllcorner " ++ signed_decimal spec.south)
+corner_text spec =
+    line (codes "xllcorner " ++ signed_decimal spec.west)
+    ++ line (codes "yllcorner " ++ signed_decimal spec.south)
 
 -- the lines on a cell's side and on what stands for an empty cell
 abbrev pub cell_text : GridSpec → List ℕ → List ℕ
-cell_text spec empty = line (codes "cellsize " ++ signed_decimal spec.cell) ++ line (codes "NODATA_value " ++ empty)
+cell_text spec empty =
+    line (codes "cellsize " ++ signed_decimal spec.cell) ++ line (codes "NODATA_value " ++ empty)
 
 -- the six lines that stand before the rows
 abbrev pub head_text : GridSpec → List ℕ → List ℕ

@@ -11,12 +11,12 @@ use crate::words::{count_words, number, split_word};
 use crate::{AscError, AscFault, Grid, GridSpec, MAX_HEIGHT, NO_HEIGHT};
 use std::alloc::{AllocError, Global};
 
-/// The grid of which a text tells, or its first fault. Words are the longest runs of bytes other than
-/// space, TAB, CR and LF. The first twelve are `ncols`, `nrows`, `xllcorner`, `yllcorner`, `cellsize` and
-/// `NODATA_value`, in any case of their letters, each with a number behind it; the others are the heights
-/// of all cells, row by row from the north, in micrometres, -2147483648 where a cell is empty. A number
-/// is one or more digits, as many as stand there, with or without a `-` before them. The text is gone
-/// over once, and memory is taken for the grid alone.
+/// The grid of which a text tells, or its first fault. Words are the longest runs of bytes other
+/// than space, TAB, CR and LF. The first twelve are `ncols`, `nrows`, `xllcorner`, `yllcorner`,
+/// `cellsize` and `NODATA_value`, in any case of their letters, each with a number behind it; the
+/// others are the heights of all cells, row by row from the north, in micrometres, -2147483648
+/// where a cell is empty. A number is one or more digits, as many as stand there, with or without a
+/// `-` before them. The text is gone over once, and memory is taken for the grid alone.
 pub fn read_asc(alloc: Global, bytes: &[u8]) -> Result<Grid, AscError>
     ensures { Gives (asc_reading bytes.now) result }
 {
@@ -50,8 +50,10 @@ fn split_heights(
     most: usize,
 ) -> Result<(Vec<Option<i32>>, &[u8]), AllocError>
     ensures heights { IfOk result (λ split. split.0.items ≡ leading most (words_of text.now)) }
-    ensures rest { IfOk result (λ split. words_of split.1.now ≡ drop (length split.0.items) (words_of text.now)) }
-    ensures within { IfOk result (λ split. length split.0.items + length split.1.now ≤ length text.now) }
+    ensures rest { IfOk result
+        (λ split. words_of split.1.now ≡ drop (length split.0.items) (words_of text.now)) }
+    ensures within { IfOk result
+        (λ split. length split.0.items + length split.1.now ≤ length text.now) }
 {
     let mut heights = Vec::new(alloc);
     // A height is a byte at least, and has one before it or behind it.
@@ -67,11 +69,12 @@ fn split_heights(
     Ok((heights, rest))
 }
 
-/// The height that the first word tells, None of an empty cell, and the bytes behind it; None where it
-/// tells none.
+/// The height that the first word tells, None of an empty cell, and the bytes behind it; None where
+/// it tells none.
 fn split_height(text: &[u8]) -> Option<(Option<i32>, &[u8])>
     ensures height { MatchOption result ((n : ℕ) → leading n (words_of text.now) ≡ []) (λ split.
-        (word : List ℕ) × (words_of text.now ≡ word ∷ words_of split.1.now) × (cell_in word ≡ Some split.0)) }
+        (word : List ℕ) × (words_of text.now ≡ word ∷ words_of split.1.now)
+        × (cell_in word ≡ Some split.0)) }
     ensures shorter { IfSome result (λ split. length split.1.now < length text.now) }
 {
     let Some((word, rest)) = split_word(text) else {

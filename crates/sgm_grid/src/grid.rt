@@ -12,8 +12,8 @@ use sgm_base::Point;
 use std::alloc::{AllocError, Global};
 use std::marker::Model;
 
-/// The highest point of each cell, or None where a cell is empty, row by row from the north. Heights
-/// are in micrometres, each within 2000000000 of 0.
+/// The highest point of each cell, or None where a cell is empty, row by row from the north.
+/// Heights are in micrometres, each within 2000000000 of 0.
 #[derive(Drop)]
 pub struct Grid {
     spec: GridSpec,
@@ -57,8 +57,8 @@ impl Grid {
         self.spec
     }
 
-    /// The height of the cell in the column `col`, from the west, and the row `row`, from the north;
-    /// None where it is empty.
+    /// The height of the cell in the column `col`, from the west, and the row `row`, from the
+    /// north; None where it is empty.
     pub fn get(&self, col: u32, row: u32) -> Option<i32>
         requires col_in { col < self.now.spec.cols }
         requires row_in { row < self.now.spec.rows }
@@ -96,8 +96,8 @@ impl Grid {
     }
 
     /// Adds the grid's text: six lines on its ranges, then a line for each row from the north, its
-    /// heights with a space between each two, and -2147483648 for an empty cell. `into` is unchanged
-    /// on Err.
+    /// heights with a space between each two, and -2147483648 for an empty cell. `into` is
+    /// unchanged on Err.
     pub fn write_asc(&self, into: &mut Vec<u8>) -> Result<(), AllocError>
         ensures ok { OnOk result (into.new.items ≡ into.old.items ++ grid_text self.now) }
         ensures err { OnErr result (into.new.items ≡ into.old.items) }

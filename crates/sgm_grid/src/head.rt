@@ -25,7 +25,8 @@ pub struct Numbers {
 
 /// The numbers of the head with which a text begins, and the bytes behind it.
 pub fn split_head(text: &[u8]) -> Result<(Numbers, &[u8]), AscFault>
-    ensures ok { IfOk result (λ split. HasNumbers (words_of text.now) split.0 (words_of split.1.now)) }
+    ensures ok { IfOk result (λ split. HasNumbers (words_of text.now) split.0
+        (words_of split.1.now)) }
     ensures err { IfErr result (λ fault. IsWordFault (words_of text.now) fault) }
 {
     let (cols, text) = split_line(text, b"ncols", 0)?;
@@ -45,7 +46,8 @@ pub fn split_head(text: &[u8]) -> Result<(Numbers, &[u8]), AscFault>
     Ok((numbers, text))
 }
 
-/// The number behind a name, which has to be the word at the place `at`, and the bytes behind the two.
+/// The number behind a name, which has to be the word at the place `at`, and the bytes behind the
+/// two.
 fn split_line<'a>(text: &'a [u8], name: &[u8], at: usize) -> Result<(i64, &'a [u8]), AscFault>
     requires { at ≤ 10 }
     ensures ok { IfOk result (λ split.
@@ -63,7 +65,8 @@ fn split_line<'a>(text: &'a [u8], name: &[u8], at: usize) -> Result<(i64, &'a [u
 
 /// The number that has to be the word at the place `at`, and the bytes behind it.
 fn split_number(text: &[u8], at: usize) -> Result<(i64, &[u8]), AscFault>
-    ensures ok { IfOk result (λ split. HasNumber (words_of text.now) split.0 (words_of split.1.now)) }
+    ensures ok { IfOk result (λ split. HasNumber (words_of text.now) split.0
+        (words_of split.1.now)) }
     ensures err { IfErr result (λ fault. LacksNumber at (words_of text.now) fault) }
 {
     let Some((word, text)) = split_word(text) else {

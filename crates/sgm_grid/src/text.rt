@@ -26,9 +26,9 @@ pub fn append_text(grid: &Grid, into: &mut Vec<u8>) -> Result<(), AllocError>
     append_rows(grid, into)
 }
 
-/// Adds the six lines that stand before the rows of a grid's text: the numbers of columns and rows, where
-/// the grid lies, a cell's side, and `empty`, which stands for an empty cell. On Err a part of them may
-/// have been added.
+/// Adds the six lines that stand before the rows of a grid's text: the numbers of columns and rows,
+/// where the grid lies, a cell's side, and `empty`, which stands for an empty cell. On Err a part
+/// of them may have been added.
 pub fn append_head(spec: GridSpec, empty: &[u8], into: &mut Vec<u8>) -> Result<(), AllocError>
     requires { IsGridSpec spec }
     ensures ok { OnOk result (into.new.items ≡ into.old.items ++ head_text spec empty.now) }

@@ -5,8 +5,8 @@ ghost use Rattle.std.specs.Option.{option_map};
 ghost use Rattle.sgm_grid.specs.Capped.{capped, capped_size};
 ghost use Rattle.sgm_grid.specs.Words.{is_space, digits_of, number_of, words_of};
 
-/// Stands for all numbers that are greater; its negative for all that are less. None of a grid's text may
-/// be as far from 0.
+/// Stands for all numbers that are greater; its negative for all that are less. None of a grid's
+/// text may be as far from 0.
 pub const TOO_GREAT: u64 = 10_000_000_000;
 
 /// The first word, and the bytes behind it.
@@ -37,8 +37,8 @@ pub fn count_words(bytes: &[u8]) -> usize
     count
 }
 
-/// The number that a word writes, `TOO_GREAT` or its negative where it is further from 0; None where it
-/// writes none.
+/// The number that a word writes, `TOO_GREAT` or its negative where it is further from 0; None
+/// where it writes none.
 pub fn number(word: &[u8]) -> Option<i64>
     ensures { result ≡ option_map capped (number_of word.now) }
 {
@@ -48,8 +48,8 @@ pub fn number(word: &[u8]) -> Option<i64>
     Some(-(size(&word[1..])? as i64))
 }
 
-/// The number that digits write, `TOO_GREAT` where it is greater; None where there is no digit or another
-/// byte.
+/// The number that digits write, `TOO_GREAT` where it is greater; None where there is no digit or
+/// another byte.
 fn size(digits: &[u8]) -> Option<u64>
     ensures value { result ≡ option_map capped_size (digits_of digits.now) }
     ensures within { IfSome result (λ n. n ≤ TOO_GREAT) }

@@ -1,7 +1,7 @@
 -- How far from 0 products and rounded quotients lie.
-use Rattle.std.proofs.Common.{◌≡◌, ℕ, ◌^◌, ◌≤◌, ◌*◌, ℤ, pos, negsuc, ◌+ℤ◌, ◌*ℤ◌, ◌≤ℤ◌, arith, lit<, unsigned_abs, FitsSigned, w64, to_z, of_z, mul-le-mul, subst, sym, ap, ◌∙◌}
-use Rattle.std.specs.Int.{int_div_euclid, w128}
-use Rattle.std.proofs.lemmas.Int.{ints, to_z-of_z, unsigned_abs-mul, fits_signed_from_abs, fits_signed_mul}
+use Rattle.std.proofs.Common.{◌≡◌, ℕ, ◌^◌, ◌≤◌, ◌*◌, ℤ, pos, negsuc, ◌+ℤ◌, ◌*ℤ◌, ◌≤ℤ◌, arith, unsigned_abs, FitsSigned, w64, to_z, of_z, mul-le-mul, sym, ap, ◌∙◌}
+use Rattle.std.specs.Int.{int_div_euclid}
+use Rattle.std.proofs.lemmas.Int.{ints, to_z-of_z, unsigned_abs-mul, fits_signed_from_abs}
 use Rattle.std.proofs.Math.Nat.{div-le_self}
 use Rattle.sgm_base.specs.Rounding.{rounded}
 use Rattle.sgm_base.specs.Ranges.{Within}
@@ -33,34 +33,41 @@ quotient_within a b d ha hb hd =
     let top : Within (2 ^ 60) ((pos 2 *ℤ (a *ℤ b)) +ℤ d) = (omega (arith, ints, product.0, hd.0), omega (arith, ints, product.1, hd.1)) in
     divided_within _ _ _ top (omega (arith, ints, hd.0))
 
-abs_fits : (z : ℤ) → FitsSigned w64 z → unsigned_abs z ≤ 2 ^ 63
-abs_fits (pos n) f = omega (arith, f.sfits)
-abs_fits (negsuc n) f = omega (arith, f.sfits)
+-- a number as the code's 64 bits hold it
+abbrev pub held : ℤ → ℤ
+held z = to_z w64 (of_z w64 z)
 
--- the product that the code's 128 bits give
-product_is : (a b : ℤ) → FitsSigned w64 a → FitsSigned w64 b
-    → to_z w128 (of_z w128 (to_z w128 (of_z w128 (to_z w64 (of_z w64 a))) *ℤ to_z w128 (of_z w128 (to_z w64 (of_z w64 b))))) ≡ a *ℤ b
-product_is a b fa fb =
-    let wa : FitsSigned w128 a = record { sfits = omega (arith, fa.sfits) } in
-    let wb : FitsSigned w128 b = record { sfits = omega (arith, fb.sfits) } in
-    let wp : FitsSigned w128 (a *ℤ b) = fits_signed_mul w128 a b (2 ^ 63) (2 ^ 63) (abs_fits a fa) (abs_fits b fb) (lit< tt) in
+-- the product that they give
+product_is : (a b : ℤ) → FitsSigned w64 a → FitsSigned w64 b → Within (2 ^ 25) a → (pos 1 ≤ℤ b) × (b ≤ℤ pos 2000000000)
+    → held (held a *ℤ held b) ≡ a *ℤ b
+product_is a b fa fb ha hb =
+    let wide : Within 2000000000 b = (omega (arith, ints, hb.0), hb.1) in
+    let fits : FitsSigned w64 (a *ℤ b) = fits_signed_from_abs w64 (a *ℤ b) (omega (arith, product_within a b (2 ^ 25) 2000000000 ha wide)) in
     simp to_z-of_z
 
--- and how far from 0 it lies
-pub product_in : (a b : ℤ) → FitsSigned w64 a → FitsSigned w64 b → Within (2 ^ 25) a → (pos 1 ≤ℤ b) × (b ≤ℤ pos 2000000000)
-    → Within (2 ^ 120) (to_z w128 (of_z w128 (to_z w128 (of_z w128 (to_z w64 (of_z w64 a))) *ℤ to_z w128 (of_z w128 (to_z w64 (of_z w64 b))))))
-product_in a b fa fb ha hb =
-    let wide : Within 2000000000 b = (omega (arith, ints, hb.0), hb.1) in
-    let near = product_within a b (2 ^ 25) 2000000000 ha wide in
-    subst (Within (2 ^ 120)) (sym (product_is a b fa fb)) (within_abs _ _ (omega arith))
+doubled : (t d : ℤ) → Within (2 ^ 25 * 2000000000) t → (pos 1 ≤ℤ d) × (d ≤ℤ pos (2 ^ 25))
+    → held (held (pos 2 *ℤ t) +ℤ held d) ≡ (pos 2 *ℤ t) +ℤ d
+doubled t d ht hd = omega (arith, ints, ht.0, ht.1, hd.0, hd.1)
 
--- the quotient that the code's 128 bits give
-pub quotient_is : (a b d r : ℤ) → FitsSigned w64 a → FitsSigned w64 b → FitsSigned w64 d
-    → r ≡ rounded (to_z w128 (of_z w128 (to_z w128 (of_z w128 (to_z w64 (of_z w64 a))) *ℤ to_z w128 (of_z w128 (to_z w64 (of_z w64 b)))))) (to_z w128 (of_z w128 (to_z w64 (of_z w64 d))))
-    → r ≡ rounded (a *ℤ b) d
-quotient_is a b d r fa fb fd e =
-    let wd : FitsSigned w128 d = record { sfits = omega (arith, fd.sfits) } in
-    simp to_z-of_z at (e ∙ ap (λ (t : ℤ). rounded t (to_z w128 (of_z w128 (to_z w64 (of_z w64 d))))) (product_is a b fa fb))
+-- what is divided, and by what
+pub dividend_is : (a b d : ℤ) → FitsSigned w64 a → FitsSigned w64 b → Within (2 ^ 25) a → (pos 1 ≤ℤ b) × (b ≤ℤ pos 2000000000)
+    → (pos 1 ≤ℤ d) × (d ≤ℤ pos (2 ^ 25)) → held (held (pos 2 *ℤ held (held a *ℤ held b)) +ℤ held d) ≡ (pos 2 *ℤ (a *ℤ b)) +ℤ d
+dividend_is a b d fa fb ha hb hd =
+    let wide : Within 2000000000 b = (omega (arith, ints, hb.0), hb.1) in
+    let product : Within (2 ^ 25 * 2000000000) (a *ℤ b) = within_abs _ _ (product_within a b (2 ^ 25) 2000000000 ha wide) in
+    ap (λ (t : ℤ). held (held (pos 2 *ℤ t) +ℤ held d)) (product_is a b fa fb ha hb) ∙ doubled (a *ℤ b) d product hd
+
+pub divisor_is : (d : ℤ) → (pos 1 ≤ℤ d) × (d ≤ℤ pos (2 ^ 25)) → held (pos 2 *ℤ held d) ≡ pos 2 *ℤ d
+divisor_is d hd = omega (arith, ints, hd.0, hd.1)
+
+-- a divisor that isn't -1
+above_2 : (z : ℤ) → pos 2 ≤ℤ z → z ≤ℤ pos (2 ^ 26) → of_z w64 z ≡ 18446744073709551615 → ⊥
+above_2 (pos n) low high same = omega (arith, ints, low, high, same)
+above_2 (negsuc n) low high same = absurd (omega (arith, ints, low))
+
+pub divisor_above : (d : ℤ) → (pos 1 ≤ℤ d) × (d ≤ℤ pos (2 ^ 25)) → of_z w64 (held (pos 2 *ℤ held d)) ≡ 18446744073709551615 → ⊥
+divisor_above d hd same =
+    above_2 (pos 2 *ℤ d) (omega (arith, ints, hd.0)) (omega (arith, ints, hd.1)) (ap (λ (z : ℤ). of_z w64 z) (sym (divisor_is d hd)) ∙ same)
 
 pub fits_within : (z : ℤ) → Within (2 ^ 60) z → FitsSigned w64 z
 fits_within z h = fits_signed_from_abs w64 z (omega (arith, abs_within (2 ^ 60) z h))

@@ -4,7 +4,7 @@ ghost use Rattle.sgm_base.specs.declared.limits.TheConstants.{MAX_SIDE};
 ghost use Rattle.sgm_height.specs.Camera.{IsCamera, point_of, point_with};
 ghost use Rattle.sgm_base.specs.Ranges.{Within};
 
-use sgm_base::{Point, round_div};
+use sgm_base::Point;
 
 /// A pair of rectified cameras that look down. Focal length, centre and offset are in 1/256 of a
 /// pixel, lengths in micrometres.
@@ -83,5 +83,6 @@ fn scaled(offset: i64, baseline: i64, shift: i64) -> i64
     ensures exact { result ≡ rounded (offset *ℤ baseline) shift }
     ensures near { Within (2 ^ 60) result }
 {
-    round_div(offset as i128 * baseline as i128, shift as i128) as i64
+    // What is divided stays below 2^58. A division of 128 bits takes several times as long.
+    (2 * (offset * baseline) + shift).div_euclid(2 * shift)
 }

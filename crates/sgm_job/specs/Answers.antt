@@ -9,7 +9,13 @@ use Rattle.sgm_job.specs.declared.job.Surveyed.{Surveyed}
 
 -- what is seen of a survey
 abbrev pub seen : Surveyed → Survey
-seen survey = record { disp = survey.disp; grid = survey.grid; tallies = option_map (λ v. v.items) survey.tallies }
+seen survey =
+    record {
+      disp = survey.disp;
+      grid = survey.grid;
+      tallies = option_map
+          (λ v. v.items) survey.tallies;
+    }
 
 abbrev pub Answers : Result Survey SurveyFault → Result Surveyed SurveyError → Type 0
 Answers wanted (Ok survey) = wanted ≡ Ok (seen survey)

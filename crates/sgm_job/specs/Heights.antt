@@ -11,20 +11,24 @@ use Rattle.sgm_grid.specs.declared.keep.Keep.{Keep}
 use Rattle.sgm_grid.specs.Cells.{Cells}
 use Rattle.sgm_grid.specs.Keeping.{gridded}
 
--- the point that a pixel shows at a disparity; the value is in sixteenths, and 0 is that of the first disparity
+-- the point that a pixel shows at a disparity; the value is in sixteenths, and 0 is that of the
+-- first disparity
 abbrev pub point_at : Camera → ℤ → ℕ → ℕ → ℕ → Option Point
 point_at camera first x y value = point_of camera x y ((pos 16 *ℤ first) +ℤ pos value)
 
 -- the points of the row y: of each pixel that has a disparity and a point
 abbrev pub points_of_row : Camera → ℤ → Values → ℕ → List Point
 points_of_row camera first map y =
-    filter_map (λ x. option_and_then (point_at camera first x y) (value_at map x y)) (range_with_len 0 map.width)
+    filter_map (λ x. option_and_then (point_at camera first x y) (value_at map x y))
+    (range_with_len 0 map.width)
 
 -- the points of all pixels, row by row
 unfoldable pub points_of : Camera → ℤ → Values → List Point
 points_of camera first map = flat_map (points_of_row camera first map) (range_with_len 0 map.height)
 
--- the grid of a map, of what each cell keeps of its points, where there is a camera and a grid is asked for
+-- the grid of a map, of what each cell keeps of its points, where there is a camera and a grid is
+-- asked for
 abbrev pub grid_of : Option Camera → Option GridSpec → Keep → ℤ → Values → Option Cells
-grid_of (Some camera) (Some spec) keep first map = Some (gridded keep spec (points_of camera first map))
+grid_of (Some camera) (Some spec) keep first map =
+    Some (gridded keep spec (points_of camera first map))
 grid_of _ _ keep first map = None

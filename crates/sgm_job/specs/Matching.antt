@@ -17,19 +17,23 @@ use Rattle.sgm_strip.specs.Strips.{AreComplete, IsStripOf}
 use Rattle.sgm_board.specs.Ready.{IsNewFront}
 
 -- the plane is the rectified image, and the codes are those of its pixels
-pub record IsMade (image : Picture) (warp : Warp) (window : WindowSides) (rule : CostRule) (plane : Values) (codes : Codes) : Type 0 where
+pub record IsMade (image : Picture) (warp : Warp) (window : WindowSides) (rule : CostRule)
+    (plane : Values) (codes : Codes) : Type 0 where
   pub rectified : plane ≡ rectified_values image warp
   pub coded : codes ≡ codes_of plane window rule
 
 -- the parcel of a strip, with the two level directions done and no other
-pub record IsNewParcel (scene : SceneParts) (cut : CutParts) (strip : ℕ) (parcel : ParcelParts) : Type 0 where
+pub record IsNewParcel (scene : SceneParts) (cut : CutParts) (strip : ℕ)
+    (parcel : ParcelParts) : Type 0 where
   pub is : IsStripOf scene cut strip parcel
   pub level : parcel.done ≡ level_done
 
 -- the fronts are the six, in order, and have visited no strip
-pub record AreNewFronts (scene : SceneParts) (cut : CutParts) (fronts : List FrontParts) : Type 0 where
+pub record AreNewFronts (scene : SceneParts) (cut : CutParts)
+    (fronts : List FrontParts) : Type 0 where
   pub six : length fronts ≡ 6
-  pub new : (dir : Dir) (place : ℕ) (front : FrontParts) → front_of dir ≡ Some place → slice_get fronts place ≡ Some front
+  pub new : (dir : Dir) (place : ℕ) (front : FrontParts) → front_of dir ≡ Some place
+      → slice_get fronts place ≡ Some front
       → IsNewFront scene cut dir front
 
 -- the parcels are all strips of a scene, each complete, and the planes have its sides

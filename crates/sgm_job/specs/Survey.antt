@@ -1,4 +1,5 @@
--- The survey of a pair of images: the disparities, the grid of heights and the tallies, or why the pair is refused.
+-- The survey of a pair of images: the disparities, the grid of heights and the tallies, or why the
+-- pair is refused.
 use Rattle.std.specs.Prelude.{ℕ, ◌*◌, Bool, false, ◌==◌, nat_lt, ◌&&◌, not, if◌then◌else◌, List, map, Option, Some, None, option_map, Result, Ok, Err}
 use Rattle.std.specs.Option.{option_or}
 use Rattle.sgm_base.specs.declared.limits.TheConstants.{MAX_VOLUME}
@@ -42,30 +43,36 @@ right_plane right calib = rectified_values right calib.right
 -- the problem of matching them; where the penalties follow the image, it is the left one
 abbrev pub problem : Picture → Picture → Calibration → Problem
 problem left right calib =
-    plane_problem (left_plane left calib) (right_plane right calib) calib.window calib.rule calib.span calib.penalties left.maxval
+    plane_problem (left_plane left calib)
+    (right_plane right calib) calib.window calib.rule calib.span calib.penalties left.maxval
 
 -- the disparities of two planes, made finer where that is asked for
 abbrev pub made_disparities : Problem → Values → Values → Disparities → Bool → Values
-made_disparities g left right span fine = made_finer fine left right (disparities_of g left right span.first) span
+made_disparities g left right span fine =
+    made_finer fine left right (disparities_of g left right span.first) span
 
 -- those of the left image
 abbrev pub disparities : Picture → Picture → Calibration → Values
 disparities left right calib =
-    made_disparities (problem left right calib) (left_plane left calib) (right_plane right calib) calib.span calib.fine
+    made_disparities (problem left right calib) (left_plane left calib)
+    (right_plane right calib) calib.span calib.fine
 
 -- the disparities of two planes, refined
 abbrev pub refined_disparities : Problem → Values → Values → Disparities → Bool → Refining → Values
 refined_disparities g left right span fine refine =
-    refined (made_disparities g left right span fine) (matches_of g span.first) left span.first span.count refine
+    refined (made_disparities g left right span fine)
+    (matches_of g span.first) left span.first span.count refine
 
 -- those of the left image
 abbrev pub final : Picture → Picture → Calibration → Refining → Values
 final left right calib refine =
-    refined_disparities (problem left right calib) (left_plane left calib) (right_plane right calib) calib.span calib.fine refine
+    refined_disparities (problem left right calib) (left_plane left calib)
+    (right_plane right calib) calib.span calib.fine refine
 
 -- ---- what is matched
 
--- the problem, the disparities that its indices stand for, and the grey values that penalties may follow
+-- the problem, the disparities that its indices stand for, and the grey values that penalties may
+-- follow
 pub record Prepared : Type 0 where
   pub problem : Problem
   pub span : Disparities
@@ -73,11 +80,17 @@ pub record Prepared : Type 0 where
 
 abbrev pub prepared_of : Picture → Picture → Calibration → Prepared
 prepared_of left right calib =
-    record { problem = problem left right calib; span = calib.span; guide = guide_of (left_plane left calib) left.maxval }
+    record {
+      problem = problem left right calib;
+      span = calib.span;
+      guide = guide_of
+          (left_plane left calib) left.maxval;
+    }
 
 -- ---- what a survey answers
 
--- the refined disparities, their grid with its bridges where one is asked for, and its tallies where regions are
+-- the refined disparities, their grid with its bridges where one is asked for, and its tallies
+-- where regions are
 pub record Survey : Type 0 where
   pub disp : Values
   pub grid : Option Cells
@@ -119,7 +132,8 @@ same_sides left right = (left.width == right.width) && (left.height == right.hei
 abbrev pub cells_of : Sides → ℕ → ℕ
 cells_of sides count = sides.width * sides.height * count
 
--- whether a volume of so many cells is too large: its limit stands for the plain rule of costs alone
+-- whether a volume of so many cells is too large: its limit stands for the plain rule of costs
+-- alone
 abbrev pub is_too_large : CostRule → ℕ → Bool
 is_too_large Plain cells = nat_lt MAX_VOLUME cells
 is_too_large Smoothed cells = false
@@ -128,12 +142,13 @@ is_too_large Smoothed cells = false
 abbrev pub side_fault : Side → Warp → Sides → Option SurveyFault
 side_fault side warp sides = option_map (λ found. fault.Warp side found) (warp_fault warp sides)
 
--- The fault of a pair: the sides differ; or else the volume is too large; or else the left image can't be rectified, or
--- else the right one.
+-- The fault of a pair: the sides differ; or else the volume is too large; or else the left image
+-- can't be rectified, or else the right one.
 unfoldable pub pair_fault : Sides → Sides → Calibration → Option SurveyFault
 pair_fault left right calib =
     if not (same_sides left right) then Some (fault.SizesDiffer left right)
-    else if is_too_large calib.rule (cells_of left calib.span.count) then Some (fault.VolumeTooLarge (cells_of left calib.span.count))
+    else if is_too_large calib.rule (cells_of left calib.span.count)
+    then Some (fault.VolumeTooLarge (cells_of left calib.span.count))
     else option_or (side_fault Left calib.left left) (side_fault Right calib.right right)
 
 abbrev pub unless : {X : Type 0} → Option SurveyFault → X → Result X SurveyFault
@@ -142,8 +157,10 @@ unless (Some found) made = Err found
 
 -- what is matched of two images, or the fault of the pair
 unfoldable pub prepared : Picture → Picture → Calibration → Result Prepared SurveyFault
-prepared left right calib = unless (pair_fault (sides_of left) (sides_of right) calib) (prepared_of left right calib)
+prepared left right calib =
+    unless (pair_fault (sides_of left) (sides_of right) calib) (prepared_of left right calib)
 
 -- the survey of two images, or the fault of the pair
 unfoldable pub surveyed : Picture → Picture → Calibration → Refining → Result Survey SurveyFault
-surveyed left right calib refine = unless (pair_fault (sides_of left) (sides_of right) calib) (survey_of left right calib refine)
+surveyed left right calib refine =
+    unless (pair_fault (sides_of left) (sides_of right) calib) (survey_of left right calib refine)

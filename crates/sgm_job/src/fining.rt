@@ -35,7 +35,8 @@ fn make_row(
 )
     requires row { y < map.now.height }
     requires into_length { length into.old ≡ map.now.width }
-    ensures { EachIndex into.new (λ x. slice_index_or into.new x None ≡ made_at step left.now right.now map.now span x y) }
+    ensures { EachIndex into.new
+        (λ x. slice_index_or into.new x None ≡ made_at step left.now right.now map.now span x y) }
 {
     match step {
         Step::Finer => finer_row(left, right, map, span, y, into),
@@ -98,7 +99,8 @@ fn make_strip(
 ) -> Result<Vec<Option<u16>>, AllocError>
     requires height { cut.height ≡ map.now.height }
     requires strip { strip < cut.strips }
-    ensures { IfOk result (λ rows. rows.items ≡ rows_of_strip (made step left.now right.now map.now span) cut strip) }
+    ensures { IfOk result (λ rows. rows.items
+        ≡ rows_of_strip (made step left.now right.now map.now span) cut strip) }
 {
     let width = map.size().width as usize;
     let (first, rows) = (cut.first(strip), cut.rows(strip));
@@ -129,7 +131,8 @@ fn strip_at(
 ) -> Option<Vec<Option<u16>>>
     requires height { cut.height ≡ map.now.height }
     requires strip { strip < cut.strips }
-    ensures { IfSome result (λ rows. rows.items ≡ rows_of_strip (made step left.now right.now map.now span) cut strip) }
+    ensures { IfSome result (λ rows. rows.items
+        ≡ rows_of_strip (made step left.now right.now map.now span) cut strip) }
 {
     make_strip(alloc, step, left, right, map, span, cut, strip as u32).ok()
 }
@@ -151,7 +154,8 @@ fn make_places<R: Threads + Sync>(
     requires height { cut.height ≡ map.now.height }
     requires count { length places.old ≡ cut.strips }
     ensures count { length places.new ≡ cut.strips }
-    ensures made { (strip : ℕ) (d : _) → strip < cut.strips → IfSome (slice_index_or places.new strip d) (λ rows. rows.items ≡
+    ensures made { (strip : ℕ) (d : _) → strip < cut.strips
+        → IfSome (slice_index_or places.new strip d) (λ rows. rows.items ≡
         rows_of_strip (made step left.now right.now map.now span) cut strip) }
 {
     for_each_mut(

@@ -16,7 +16,8 @@ use sgm_grid::{Grid, bridge};
 use sgm_report::{Region, RegionTally, tally};
 use std::alloc::{AllocError, Global};
 
-/// The grid with its bridges, where one is asked for, and the tallies of its regions, where these are.
+/// The grid with its bridges, where one is asked for, and the tallies of its regions, where these
+/// are.
 #[derive(Drop)]
 pub(crate) struct Ground {
     pub(crate) grid: Option<Grid>,
@@ -32,7 +33,8 @@ fn tally_all(
 ) -> Result<Vec<RegionTally>, AllocError>
     requires same { measured.now.spec ≡ grid.now.spec }
     requires regions { All (IsArea grid.now.spec) regions.now }
-    ensures { IfOk result (λ tallies. tallies.items ≡ map (tally_of grid.now measured.now) regions.now) }
+    ensures { IfOk result (λ tallies. tallies.items
+        ≡ map (tally_of grid.now measured.now) regions.now) }
 {
     let mut tallies = Vec::with_capacity(alloc, regions.len())?;
     for region in regions {

@@ -45,7 +45,8 @@ fn pixel_point(camera: &Camera, first: i32, x: u32, y: u32, value: Option<u16>) 
     }
 }
 
-/// Adds the points of a row of disparities, each in sixteenths from the first disparity of the span on.
+/// Adds the points of a row of disparities, each in sixteenths from the first disparity of the span
+/// on.
 fn add_row(camera: &Camera, span: Span, y: u32, row: &[Option<u16>], bins: &mut Bins)
     requires camera { IsCamera camera.now }
     requires y { y < MAX_SIDE }
@@ -53,7 +54,8 @@ fn add_row(camera: &Camera, span: Span, y: u32, row: &[Option<u16>], bins: &mut 
     requires values { AtMost MAX_DISPARITY row.now }
     requires room { HasRoom bins.old (length row.now) }
     ensures value { bins.new ≡ fold with_point bins.old
-        (filter_map (λ x. option_and_then (point_at camera.now span.first x y) (slice_index_or row.now x None))
+        (filter_map (λ x. option_and_then (point_at camera.now span.first x y)
+        (slice_index_or row.now x None))
         (range_with_len 0 (length row.now))) }
     ensures room { (more : ℕ) → HasRoom bins.old (more + length row.now) → HasRoom bins.new more }
 {
@@ -89,7 +91,8 @@ pub(crate) fn heights(
     requires camera { IsCamera camera.now }
     requires spec { IsGridSpec spec }
     requires values { AtMost MAX_DISPARITY map.now.entries }
-    ensures { IfOk result (λ grid. grid ≡ gridded keep spec (points_of camera.now span.first map.now)) }
+    ensures { IfOk result (λ grid. grid
+        ≡ gridded keep spec (points_of camera.now span.first map.now)) }
 {
     // Known from here on: that it has at most 4096 x 4096 pixels.
     let _size = map.size();

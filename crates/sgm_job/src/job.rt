@@ -87,7 +87,8 @@ fn side_fault(side: Side, warp: &Warp, size: Size) -> Option<SurveyFault>
     }
 }
 
-/// Whether a volume of so many cells is refused. Where costs are smoothed it has no limit of its own.
+/// Whether a volume of so many cells is refused. Where costs are smoothed it has no limit of its
+/// own.
 fn is_too_large(rule: CostRule, cells: u64) -> bool
     ensures { result ≡ is_too_large rule cells }
 {
@@ -115,7 +116,8 @@ fn pair_fault(left: Size, right: Size, calib: &Calib) -> Option<SurveyFault>
     }
 }
 
-/// The refined disparity of each pixel of the left plane of a scene, made finer before that where `fine` is true.
+/// The refined disparity of each pixel of the left plane of a scene, made finer before that where
+/// `fine` is true.
 fn scene_map<R: Threads + Sync, G: Gate + Sync>(
     rt: &R,
     alloc: Global,
@@ -134,7 +136,9 @@ fn scene_map<R: Threads + Sync, G: Gate + Sync>(
     requires right_height { right.now.height ≡ scene.now.left.height }
     requires strips { (1 ≤ strips) × (strips ≤ MAX_STRIPS) }
     requires workers { (1 ≤ workers) × (workers ≤ MAX_WORKERS) }
-    ensures { IfOk result (λ m. m ≡ refined_disparities (problem_of scene.now) left.now right.now scene.now.span fine refine) }
+    ensures { IfOk result (λ m. m
+        ≡ refined_disparities (problem_of scene.now) left.now right.now scene.now.span fine
+        refine) }
 {
     let parcels = complete_parcels(rt, alloc, scene, strips, workers, gate)?;
     let map = select_all(rt, alloc, left, right, &parcels, workers as usize)?;
@@ -199,15 +203,15 @@ fn disparity_map<R: Threads + Sync, G: Gate + Sync>(
     )
 }
 
-/// Surveys a pair of images: rectifies them, matches them, and gives for each pixel of the left one its
-/// disparity, less the first, in sixteenths, or None where the match isn't the same from the right or a pixel is
-/// void; the grid of heights where the calibration has one, of what each cell keeps of its
-/// points and of what is bridged; and the tally of each region where it has
-/// regions. Faults are seen to before memory is taken, in the order of [`SurveyFault`]. The image is cut into
-/// `strips`, or as many as it has rows, and the work is shared among so many `workers`, each in a thread of its
-/// own where one can be made; neither they nor the strips change the answer. The workers come to the gate as
-/// [`sgm_work::scan`] says. Where the calibration asks for it, the disparities are made finer before anything is
-/// made of them, in at most so many threads too.
+/// Surveys a pair of images: rectifies them, matches them, and gives for each pixel of the left one
+/// its disparity, less the first, in sixteenths, or None where the match isn't the same from the
+/// right or a pixel is void; the grid of heights where the calibration has one, of what each cell
+/// keeps of its points and of what is bridged; and the tally of each region where it has regions.
+/// Faults are seen to before memory is taken, in the order of [`SurveyFault`]. The image is cut
+/// into `strips`, or as many as it has rows, and the work is shared among so many `workers`, each
+/// in a thread of its own where one can be made; neither they nor the strips change the answer. The
+/// workers come to the gate as [`sgm_work::scan`] says. Where the calibration asks for it, the
+/// disparities are made finer before anything is made of them, in at most so many threads too.
 pub fn survey<R: Threads + Sync, G: Gate + Sync>(
     rt: &R,
     alloc: Global,
@@ -230,9 +234,9 @@ pub fn survey<R: Threads + Sync, G: Gate + Sync>(
     survey_refined(rt, alloc, left, right, calib, strips, workers, refine, gate)
 }
 
-/// As [`survey`], with the refined map in the place of the disparities: what is less than a segment of
-/// `refine.peak` pixels is removed, and then, where `refine.fill` is true, pixels without a disparity are
-/// filled. The grid and the tallies are those of the refined map.
+/// As [`survey`], with the refined map in the place of the disparities: what is less than a segment
+/// of `refine.peak` pixels is removed, and then, where `refine.fill` is true, pixels without a
+/// disparity are filled. The grid and the tallies are those of the refined map.
 pub fn survey_refined<R: Threads + Sync, G: Gate + Sync>(
     rt: &R,
     alloc: Global,
@@ -267,8 +271,8 @@ pub fn survey_refined<R: Threads + Sync, G: Gate + Sync>(
     })
 }
 
-/// The scene that [`survey`] matches, or the fault that it answers. It is made in one thread. Faults are seen to
-/// before memory is taken, in the order of [`SurveyFault`].
+/// The scene that [`survey`] matches, or the fault that it answers. It is made in one thread.
+/// Faults are seen to before memory is taken, in the order of [`SurveyFault`].
 pub fn prepare(
     alloc: Global,
     left: &Image,

@@ -1,5 +1,5 @@
-//! The survey of a pair of images: the disparity of each pixel of the left one, refined where that is asked for,
-//! the grid of heights and the tallies of its regions.
+//! The survey of a pair of images: the disparity of each pixel of the left one, refined where that
+//! is asked for, the grid of heights and the tallies of its regions.
 #![tactic(auto)]
 
 mod fining;

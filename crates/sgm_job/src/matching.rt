@@ -41,7 +41,8 @@ fn make_parcels<R: Threads + Sync>(
     requires count { length places.old ≡ cut.strips }
     ensures count { length places.new ≡ cut.strips }
     ensures made { (strip : ℕ) (d : Option ParcelParts) → strip < cut.strips
-        → IfSome (slice_index_or places.new strip d) (λ parcel. IsNewParcel scene.now cut strip parcel) }
+        → IfSome (slice_index_or places.new strip d)
+        (λ parcel. IsNewParcel scene.now cut strip parcel) }
 {
     for_each_mut(
         rt,
@@ -85,8 +86,9 @@ fn fronts(alloc: Global, scene: &Scene, cut: Cut) -> Result<Vec<Front>, AllocErr
     Ok(fronts)
 }
 
-/// The parcels of all strips of a scene, each with the sums of all eight directions. So many workers
-/// hand the fronts through them. The image is cut into so many strips, or as many as it has rows.
+/// The parcels of all strips of a scene, each with the sums of all eight directions. So many
+/// workers hand the fronts through them. The image is cut into so many strips, or as many as it has
+/// rows.
 pub(crate) fn complete_parcels<R: Threads + Sync, G: Gate + Sync>(
     rt: &R,
     alloc: Global,

@@ -48,8 +48,12 @@ pub(crate) fn prepare_each(
 ) -> Result<(Coded, Coded), AllocError>
     requires left { warp_fault calib.now.left (sides_of left.now) ≡ None }
     requires right { warp_fault calib.now.right (sides_of right.now) ≡ None }
-    ensures left { IfOk result (λ made. IsMade left.now calib.now.left calib.now.window calib.now.rule made.0.plane made.0.codes) }
-    ensures right { IfOk result (λ made. IsMade right.now calib.now.right calib.now.window calib.now.rule made.1.plane made.1.codes) }
+    ensures left { IfOk result
+        (λ made. IsMade left.now calib.now.left calib.now.window calib.now.rule made.0.plane
+        made.0.codes) }
+    ensures right { IfOk result
+        (λ made. IsMade right.now calib.now.right calib.now.window calib.now.rule made.1.plane
+        made.1.codes) }
 {
     let window = calib.window();
     let rule = calib.rule();
@@ -68,8 +72,12 @@ pub(crate) fn prepare_both<R: Threads>(
 ) -> Result<(Coded, Coded), AllocError>
     requires left { warp_fault calib.now.left (sides_of left.now) ≡ None }
     requires right { warp_fault calib.now.right (sides_of right.now) ≡ None }
-    ensures left { IfOk result (λ made. IsMade left.now calib.now.left calib.now.window calib.now.rule made.0.plane made.0.codes) }
-    ensures right { IfOk result (λ made. IsMade right.now calib.now.right calib.now.window calib.now.rule made.1.plane made.1.codes) }
+    ensures left { IfOk result
+        (λ made. IsMade left.now calib.now.left calib.now.window calib.now.rule made.0.plane
+        made.0.codes) }
+    ensures right { IfOk result
+        (λ made. IsMade right.now calib.now.right calib.now.window calib.now.rule made.1.plane
+        made.1.codes) }
 {
     let window = calib.window();
     let rule = calib.rule();
@@ -83,7 +91,8 @@ pub(crate) fn prepare_both<R: Threads>(
     Ok((left?, right?))
 }
 
-/// The scene of two planes of codes, with the left plane, whose values go up to `maxval`, as the guide.
+/// The scene of two planes of codes, with the left plane, whose values go up to `maxval`, as the
+/// guide.
 pub(crate) fn guided_scene(
     alloc: Global,
     left: CodePlane,
@@ -100,7 +109,8 @@ pub(crate) fn guided_scene(
     requires plane_height { plane.now.height ≡ left.height }
     requires maxval { 1 ≤ maxval }
     requires values { AtMost maxval plane.now.entries }
-    ensures { IfOk result (λ scene. scene ≡ scene_of left right calib.now.span calib.now.penalties (guide_of plane.now maxval)) }
+    ensures { IfOk result (λ scene. scene
+        ≡ scene_of left right calib.now.span calib.now.penalties (guide_of plane.now maxval)) }
 {
     let guide = Guide::make(alloc, plane, maxval)?;
     Ok(Scene::make(left, right, calib.span(), calib.pen(), guide))

@@ -41,7 +41,9 @@ pub(crate) fn refined_map(
     requires map_height { map.height ≡ scene.now.left.height }
     requires left_width { left.now.width ≡ scene.now.left.width }
     requires left_height { left.now.height ≡ scene.now.left.height }
-    ensures { IfOk result (λ m. m ≡ refined map (matches_of (problem_of scene.now) scene.now.span.first) left.now scene.now.span.first scene.now.span.count refine) }
+    ensures { IfOk result (λ m. m
+        ≡ refined map (matches_of (problem_of scene.now) scene.now.span.first) left.now
+        scene.now.span.first scene.now.span.count refine) }
 {
     let map = without_peaks(alloc, map, refine.peak)?;
     if !refine.fill {

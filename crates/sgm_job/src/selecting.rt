@@ -25,7 +25,8 @@ fn rows_at(
 ) -> Option<Vec<Option<u16>>>
     requires can_select { CanSelect left.now right.now parcels.now }
     requires strip { strip < length parcels.now }
-    ensures { (scene : SceneParts) (cut : CutParts) → AreStrips scene cut parcels.now → IfSome result (λ rows. rows.items ≡
+    ensures { (scene : SceneParts) (cut : CutParts) → AreStrips scene cut parcels.now
+        → IfSome result (λ rows. rows.items ≡
         rows_of_strip (disparities_of (problem_of scene) left.now right.now scene.span.first) cut strip) }
 {
     select_strip(alloc, left, right, &parcels[strip]).ok()
@@ -46,7 +47,8 @@ fn select_places<R: Threads + Sync>(
     requires can_select { CanSelect left.now right.now parcels.now }
     requires count { length places.old ≡ length parcels.now }
     ensures count { length places.new ≡ length parcels.now }
-    ensures found { (scene : SceneParts) (cut : CutParts) → AreStrips scene cut parcels.now → (strip : ℕ) (d : _) → strip < length parcels.now
+    ensures found { (scene : SceneParts) (cut : CutParts) → AreStrips scene cut parcels.now
+        → (strip : ℕ) (d : _) → strip < length parcels.now
         → IfSome (slice_index_or places.new strip d) (λ rows. rows.items ≡
         rows_of_strip (disparities_of (problem_of scene) left.now right.now scene.span.first) cut strip) }
 {
@@ -69,9 +71,11 @@ pub(crate) fn select_all<R: Threads + Sync>(
 ) -> Result<DispMap, AllocError>
     requires threads { 0 < threads }
     requires can_select { CanSelect left.now right.now parcels.now }
-    ensures { (scene : SceneParts) (cut : CutParts) → AreStrips scene cut parcels.now → left.now.width ≡ scene.left.width
+    ensures { (scene : SceneParts) (cut : CutParts) → AreStrips scene cut parcels.now
+        → left.now.width ≡ scene.left.width
         → left.now.height ≡ scene.left.height
-        → IfOk result (λ map. map ≡ disparities_of (problem_of scene) left.now right.now scene.span.first) }
+        → IfOk result (λ map. map ≡ disparities_of
+        (problem_of scene) left.now right.now scene.span.first) }
 {
     let mut places = empty_places(alloc, parcels.len())?;
     select_places(

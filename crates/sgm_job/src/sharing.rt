@@ -1,4 +1,5 @@
-//! Values that are made side by side: a place for each, which is filled where its value can be made.
+//! Values that are made side by side: a place for each, which is filled where its value can be
+//! made.
 
 ghost use Rattle.std.specs.Prelude.{◌≡◌, IfOk, map, Some, vec_len};
 

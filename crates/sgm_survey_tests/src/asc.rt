@@ -1,4 +1,5 @@
-//! Faults of grids' texts. The others are in the tests of `sgm_app`, and more texts are stored cases of `sgm_cases`.
+//! Faults of grids' texts. The others are in the tests of `sgm_app`, and more texts are stored
+//! cases of `sgm_cases`.
 
 use sgm_grid::{AscError, AscFault, read_asc};
 use std::alloc::Global;

@@ -57,7 +57,8 @@ fn images_keep_their_maxval(rt: HostRuntime) -> Result<(), Fail> {
     Ok(())
 }
 
-/// Whether a blank plane of two columns and three rows has entries in its middle row alone, once that is written.
+/// Whether a blank plane of two columns and three rows has entries in its middle row alone, once
+/// that is written.
 fn plane_is_written(plane: &mut Plane) -> bool {
     if plane.size().height != 3 {
         return false;
@@ -66,7 +67,8 @@ fn plane_is_written(plane: &mut Plane) -> bool {
     plane.entries() == [None, None, Some(9), Some(9), None, None].as_slice()
 }
 
-/// Whether a blank map of two columns and three rows has entries in its last row alone, once that is written.
+/// Whether a blank map of two columns and three rows has entries in its last row alone, once that
+/// is written.
 fn map_is_written(map: &mut DispMap) -> bool {
     if map.size().height != 3 {
         return false;

@@ -1,4 +1,5 @@
-//! Codes and costs of small planes. Stored cases of `sgm_cases` have windows of all sides, and disparities beyond the row.
+//! Codes and costs of small planes. Stored cases of `sgm_cases` have windows of all sides, and
+//! disparities beyond the row.
 
 ghost use Rattle.std.specs.Prelude.{◌≡◌, ◌*◌, ◌<◌, ◌≤◌, length, IsTrue};
 
@@ -54,7 +55,8 @@ fn are_alike(one: &CodePlane, other: &CodePlane, y: u32) -> bool
     one.size() == other.size() && one.window() == other.window() && y < one.size().height
 }
 
-/// Whether the row `y` of two planes has these costs, at most ten, with so many disparities from `first` on.
+/// Whether the row `y` of two planes has these costs, at most ten, with so many disparities from
+/// `first` on.
 fn have_costs(
     left: &CodePlane,
     right: &CodePlane,
@@ -75,8 +77,8 @@ fn have_costs(
     &*costs == want
 }
 
-/// Whether the codes of two planes differ, pixel by pixel of the row `y`, in so many places, or in as many as a
-/// code has where one has none.
+/// Whether the codes of two planes differ, pixel by pixel of the row `y`, in so many places, or in
+/// as many as a code has where one has none.
 fn differ_by(one: &CodePlane, other: &CodePlane, y: u32, want: &[u8]) -> bool {
     have_costs(one, other, (0, 1), y, want)
 }
@@ -91,7 +93,8 @@ fn windows_have_these_sides_alone(rt: HostRuntime) {
     }
 }
 
-/// Whether the codes in the row 1 of two planes, with a window as large as they are, differ in so many places.
+/// Whether the codes in the row 1 of two planes, with a window as large as they are, differ in so
+/// many places.
 fn planes_differ_by(
     alloc: Global,
     sides: (u32, u32),
@@ -152,8 +155,8 @@ fn costs_of_negative_disparities(rt: HostRuntime) -> Result<(), Fail> {
     Ok(())
 }
 
-/// Whether the codes of a plane of equal values with these voids are there where the differences from
-/// themselves are 0.
+/// Whether the codes of a plane of equal values with these voids are there where the differences
+/// from themselves are 0.
 fn voids_give(alloc: Global, entries: &[Option<u16>; 15], want: &[u8; 5]) -> Result<bool, Fail> {
     let plane = codes_of_entries(alloc, (5, 3), entries.to_vec(alloc)?, (3, 3))?;
     Ok(differ_by(&plane, &plane, 1, want))

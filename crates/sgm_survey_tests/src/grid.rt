@@ -54,8 +54,8 @@ fn small_with(
     Ok(grid)
 }
 
-/// Whether the small grid has these heights in its row in the north and in that in the south, once these points were
-/// added.
+/// Whether the small grid has these heights in its row in the north and in that in the south, once
+/// these points were added.
 fn has_heights(
     rt: &impl Abort,
     alloc: Global,

@@ -1,5 +1,5 @@
-//! Real files, standard streams, and devices that fail in midstream. Shelves and sinks in memory, and their trips, are
-//! those of the stored runs of `sgm_cases` and of the tests of `sgm_app`.
+//! Real files, standard streams, and devices that fail in midstream. Shelves and sinks in memory,
+//! and their trips, are those of the stored runs of `sgm_cases` and of the tests of `sgm_app`.
 
 ghost use Rattle.std.specs.Prelude.{◌≡◌, OnOk};
 ghost use Rattle.sgm_io.specs.Unfinished.{without_name};
@@ -57,7 +57,8 @@ fn unlike(alloc: Global, length: usize) -> Result<Vec<u8>, AllocError> {
     Ok(bytes)
 }
 
-// Whether a file that is written is then these bytes alone, and refused where one byte less is allowed.
+// Whether a file that is written is then these bytes alone, and refused where one byte less is
+// allowed.
 fn comes_back<S: Shelf>(alloc: Global, shelf: &mut S, name: &str, bytes: &[u8]) -> bool {
     let less = bytes.len().saturating_sub(1);
     keep(shelf, name, bytes) == Ok(())
@@ -66,7 +67,8 @@ fn comes_back<S: Shelf>(alloc: Global, shelf: &mut S, name: &str, bytes: &[u8]) 
         && gives(alloc, shelf, name, less, Err(FetchError::TooLong))
 }
 
-// Each file is shorter than the one that stood there; what is read goes over a chunk of 65536 bytes, and over two.
+// Each file is shorter than the one that stood there; what is read goes over a chunk of 65536
+// bytes, and over two.
 #[test]
 fn a_real_file_is_begun_anew_and_read_whole(rt: HostRuntime) -> Result<(), Fail> {
     let name = scratch(&rt)?;
@@ -82,7 +84,8 @@ fn a_real_file_is_begun_anew_and_read_whole(rt: HostRuntime) -> Result<(), Fail>
     Ok(())
 }
 
-// Whether a shelf gives no file of an absent name and no folder, and makes no file of a folder's name.
+// Whether a shelf gives no file of an absent name and no folder, and makes no file of a folder's
+// name.
 fn refuses<S: Shelf>(alloc: Global, shelf: &mut S, absent: &str) -> bool {
     gives(alloc, shelf, absent, 100, Err(FetchError::Failed))
         && gives(alloc, shelf, "/", 100, Err(FetchError::Failed))

@@ -1,5 +1,6 @@
-//! The worked example at several numbers of strips and workers. Other surveys, and pairs that are refused, are stored
-//! runs of `sgm_cases`, and certificates there have the costs and the penalties of single pixels.
+//! The worked example at several numbers of strips and workers. Other surveys, and pairs that are
+//! refused, are stored runs of `sgm_cases`, and certificates there have the costs and the penalties
+//! of single pixels.
 
 ghost use Rattle.std.specs.Prelude.{◌≤◌};
 ghost use Rattle.sgm_base.specs.declared.limits.TheConstants.{MAX_STRIPS, MAX_WORKERS};
@@ -63,8 +64,8 @@ fn has_tallies(found: &Surveyed, wanted: &[RegionTally]) -> bool {
 /// A row of the map of the worked example: the indices 0, 0, 1, 1, 1.
 const MAP: [Option<u16>; 5] = [Some(0), Some(0), Some(16), Some(16), Some(16)];
 
-/// The height of its index 1, which lies at a depth of 100000, at x = 1000 * column and y = -1000 * row. The index 0 has
-/// no point.
+/// The height of its index 1, which lies at a depth of 100000, at x = 1000 * column and y = -1000 *
+/// row. The index 0 has no point.
 const HEIGHT: Option<i32> = Some(50_000);
 
 /// The tallies of its two regions, of all cells and of one empty cell in the east.

@@ -1,5 +1,5 @@
-//! Each kernel over a chunk of sixteen and a rest, by numbers worked out by hand. Stored cases of `sgm_cases` have each
-//! kernel at each length up to 130.
+//! Each kernel over a chunk of sixteen and a rest, by numbers worked out by hand. Stored cases of
+//! `sgm_cases` have each kernel at each length up to 130.
 
 ghost use Rattle.std.specs.Prelude.{◌≡◌, ◌<◌, ◌≤◌, length, All};
 

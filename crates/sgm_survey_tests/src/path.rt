@@ -1,5 +1,6 @@
-//! Path values of worked rows. The table is printed by tests/least_energies.py at the top of the repository, which tries
-//! every sequence along whole rays; certificates of rays in all directions are stored cases of `sgm_cases`.
+//! Path values of worked rows. The table is printed by tests/least_energies.py at the top of the
+//! repository, which tries every sequence along whole rays; certificates of rays in all directions
+//! are stored cases of `sgm_cases`.
 
 ghost use Rattle.std.specs.Prelude.{◌≡◌, ◌+◌, ◌/◌, ◌%◌, ◌^◌, ◌<◌, ◌≤◌, length, All, IfSome, IsTrue, false};
 ghost use Rattle.sgm_energy.specs.Dirs.{is_level};
@@ -63,7 +64,8 @@ fn runs_to(
     &*values == want
 }
 
-/// Whether these are the path values of a row of at most 12 costs to the right and to the left, by their sums.
+/// Whether these are the path values of a row of at most 12 costs to the right and to the left, by
+/// their sums.
 fn adds_up(
     pen: Pen,
     costs: &[u8],
@@ -192,7 +194,8 @@ const BELOW: [u16; 6] = [0, 9, 9, 0, 9, 9];
 
 #[test]
 fn penalties_that_follow_two_rows(rt: HostRuntime) {
-    // Upwards to the right: the column 1 comes from the column 0 of the row below, with the grey value 10.
+    // Upwards to the right: the column 1 comes from the column 0 of the row below, with the grey
+    // value 10.
     let pen = Pen::adaptive(1, 6).expect(&rt, "in range");
     let (guide, guide_below) = ([Some(99), Some(13)], [Some(10), Some(14)]);
     let mut values = [0; 6];

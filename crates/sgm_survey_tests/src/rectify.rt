@@ -1,4 +1,5 @@
-//! Places, faults and values of warps. Stored cases of `sgm_cases` have whole runs with warps of all kinds.
+//! Places, faults and values of warps. Stored cases of `sgm_cases` have whole runs with warps of
+//! all kinds.
 
 ghost use Rattle.std.specs.Prelude.{◌↔◌, ◌≤◌, IsTrue, All};
 ghost use Rattle.sgm_rectify.specs.Faults.{Suits};
