@@ -4,10 +4,10 @@
 //! many cells heights are bridged; a case without points ends there. `tests/cells_cases.py` works
 //! the answers out.
 
-ghost use Rattle.std.specs.Prelude.{◌≤◌, ◌^◌, IfSome, IsTrue, length};
+ghost use Rattle.std.specs.Prelude.{◌≡◌, ◌≤◌, ◌^◌, IfSome, IsTrue, length};
 ghost use Rattle.sgm_base.specs.Ranges.{Within};
 ghost use Rattle.sgm_base.specs.declared.limits.TheConstants.{MAX_GRID_LINES};
-ghost use Rattle.sgm_grid.specs.Binning.{HasRoom, most_points};
+ghost use Rattle.sgm_grid.specs.Binning.{HasRoom, grid_in, most_points};
 ghost use Rattle.sgm_grid.specs.Cells.{IsGridSpec, IsHeight};
 ghost use Rattle.sgm_grid.specs.declared.limits.TheConstants.{MAX_BRIDGE};
 
@@ -133,6 +133,7 @@ fn read_point(word: &str) -> Option<Point>
 pub fn add_points(bins: &mut Bins, words: &[String]) -> bool
     requires few { length words.now ≤ 1000 }
     requires room { HasRoom bins.old most_points }
+    ensures { (grid_in bins.new).spec ≡ (grid_in bins.old).spec }
 {
     for word in words {
         match read_point(word.as_str()) {

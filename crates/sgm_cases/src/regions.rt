@@ -24,9 +24,10 @@ fn tally_all(
 ) -> Result<Vec<RegionTally>, AllocError>
     requires same { measured.now.spec ≡ grid.now.spec }
     requires regions { All (IsArea grid.now.spec) regions.now }
-    ensures { IfOk result (λ tallies. length tallies.items ≡ length regions.now) }
+    ensures { IfOk result (λ tallies. tallies.items
+        ≡ map (tally_of grid.now measured.now) regions.now) }
 {
-    let mut tallies = Vec::new(alloc);
+    let mut tallies = Vec::with_capacity(alloc, regions.len())?;
     for region in regions {
         let found = tally(alloc, grid, measured, region)?;
         tallies.push(found)?;
