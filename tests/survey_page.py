@@ -7,8 +7,10 @@ python3-selenium).
 The page is that of examples/stockpile/expected. Rectangles are drawn with the mouse, moved by keys and picked by
 their names; bases are typed and taken from the mean of the ground. What the page counts is compared with OUT.csv
 and with what this script counts in OUT.asc, digit by digit. Pages of other surveys have to warn of what is wrong
-with them, and a page of a difference is drawn on as well. Nothing may be fetched, and the browser may not complain.
-Without --screenshot the picture goes into a new file, whose name is printed. Takes half a minute.
+with them, and a page of a difference is drawn on as well. The words of an outline that was drawn on examples/slope
+go through tools/opencv_calibration.py into a calibration, by which its pair is matched again: by the program that
+the variable SGM names, or else by the separate implementation. Nothing may be fetched, and the browser may not
+complain. Without --screenshot the picture goes into a new file, whose name is printed. Takes a minute.
 """
 
 import argparse
@@ -17,14 +19,18 @@ import math
 import os
 import random
 import shutil
+import subprocess
 import sys
 import tempfile
+import types
 
 HERE = os.path.dirname(os.path.abspath(__file__))
 TOP = os.path.dirname(HERE)
 HEAP = os.path.join(TOP, "examples", "stockpile")
+SLOPE = os.path.join(TOP, "examples", "slope")
 sys.path.insert(0, os.path.join(TOP, "tools"))
 
+import opencv_calibration
 import sgm_files
 import sgm_regions
 import survey_page
@@ -541,6 +547,71 @@ def try_outlines(driver, check, folder):
     check.equal("its counts", page.shown(), counted_inside(grid, region)[0])
 
 
+def matched(name, calibration, folder):
+    """Matches the pair of examples/slope with a calibration: OUT. By the program that the variable SGM
+    names, or else by the separate implementation."""
+    out = os.path.join(folder, name)
+    with open(out + ".json", "w") as file:
+        json.dump(calibration, file)
+    reference = [sys.executable, os.path.join(HERE, "quick_reference.py")]
+    program = [os.environ["SGM"]] if "SGM" in os.environ else reference
+    pair = [os.path.join(SLOPE, side) for side in ("left.pgm", "right.pgm")]
+    subprocess.run([*program, "match", *pair, out + ".json", out], check=True, capture_output=True)
+    return out
+
+
+def region_of_words(words, grid):
+    """The region that the tool for calibrations makes of the page's words."""
+    name, source = opencv_calibration.outline_words(words[words.index("--outline") + 1])
+    at = words.index("--plane")
+    plane = opencv_calibration.plane_words(words[at + 1 : at + 5], [name])
+    numbers = [grid[key] for key in ("west", "south", "cell", "cols", "rows")]
+    told = types.SimpleNamespace(
+        region=[],
+        version=3,
+        grid=numbers,
+        keep=grid["keep"],
+        bridge=grid["bridge"],
+        outline=[(name, source)],
+        outline_origin=None,
+        plane=[plane],
+        plane_from=None,
+    )
+    (made,), lines = opencv_calibration.regions_of(told)
+    return made, lines
+
+
+def try_again(driver, check, folder):
+    """An outline is drawn over measured heights, on the plane of measured ground; its words become a
+    calibration, and the pair is matched again: the report says what the page said."""
+    with open(os.path.join(SLOPE, "calibration.json")) as file:
+        calibration = json.load(file)
+    out = matched("slope", calibration, folder)
+    page = page_of(driver, out, calibration)
+    names = [it["name"] for it in calibration["regions"]]
+    driver.find_elements("css selector", "#regions button")[names.index("ground")].click()
+    page.element("plane").click()
+    page.element("mode-outline").click()
+    page.element("anew").click()
+    driver.execute_script('document.getElementById("map").scrollIntoView({block: "center"})')
+    cols, rows = (calibration["grid"][key] for key in ("cols", "rows"))
+    places = [(0.3, 0.3), (0.65, 0.25), (0.7, 0.6), (0.5, 0.5), (0.35, 0.75)]
+    for east, south in places:
+        click(page, round(east * cols), round(south * rows))
+    click(page, *(round(part * side) for part, side in zip(places[0], (cols, rows))))
+    page.type("name", "again")
+    words = page.element("words").get_attribute("value").split(" ")
+    region, lines = region_of_words(words, calibration["grid"])
+    check.equal("what the tool says of the page's words", lines, [])
+    check.equal("the tool's region is the page's", region, page.region())
+    again = matched("again", {**calibration, "regions": [region]}, folder)
+    (line,) = sgm_files.read_report(again + ".csv")
+    shown = page.shown()
+    check.equal("matched again", {key: line[key] for key in shown}, shown)
+    check.equal("some cells", line["cells"] > 1000, True)
+    check.equal("bridged again", page.exact("bridged"), line["bridged"])
+
+
 def try_large_numbers(driver, check, folder):
     """The highest and the lowest that can be, in cells of half a metre: sums far above 2^53."""
     heights = numpy.full((40, 50), 1999999999)
@@ -654,6 +725,7 @@ def run(screenshot, folder):
         try_warnings(driver, check, folder)
         try_bridged(driver, check, folder)
         try_outlines(driver, check, folder)
+        try_again(driver, check, folder)
         try_large_numbers(driver, check, folder)
         try_reduced(driver, check, folder)
         try_change(driver, check, folder)
