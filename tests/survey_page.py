@@ -575,7 +575,7 @@ def region_of_words(words, grid):
         outline=[(name, source)],
         outline_origin=None,
         plane=[plane],
-        plane_from=None,
+        base_from=None,
     )
     (made,), lines = opencv_calibration.regions_of(told)
     return made, lines

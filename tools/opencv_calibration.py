@@ -27,7 +27,7 @@ NAME=E0,N0,E1,N1,.. from its corners in micrometres. A file has metres in the gr
 that frame moved by --outline-origin. Holes and several parts become one outline, with seams that
 are run twice. The region's rectangle is the least one that holds the outline. Each region has a
 base plane: its height at the grid's south-west corner and its rises to the east and to the north in
-micrometres a metre. --plane NAME says it for one region; --plane-from OUT.asc CALIB.json gives all
+micrometres a metre. --plane NAME says it for one region; --base-from OUT.asc CALIB.json gives all
 others the plane that lies nearest to the cells of an earlier match, by least squares over its
 regions whose name begins with `ground`. Else it is level, at the BASE of --region, or at 0.
 
@@ -378,8 +378,8 @@ def regions_of(words):
         if is_beyond(outline, grid):
             lines.append(f"the outline {name} reaches beyond the grid: what lies there has no part")
         made.append({**region_of([name, *least, 0]), "outline": outline})
-    if words.plane_from is not None:
-        taken, said = plane_from(*words.plane_from, grid)
+    if words.base_from is not None:
+        taken, said = base_from(*words.base_from, grid)
         lines.append(said)
     planes = dict(words.plane)
     for region in made:
@@ -540,7 +540,7 @@ def outline_from(name, source, origin):
     return outline
 
 
-def plane_from(heights, earlier, grid):
+def base_from(heights, earlier, grid):
     """The plane of the ground of an earlier match, at this grid's south-west corner, and a line
     about it."""
     calibration, found = sgm_files.read_json(earlier), sgm_files.read_grid(heights)
@@ -750,7 +750,7 @@ def words_of():
     ground = (
         "with --version 3: the base plane of all other regions is that of the ground of this match"
     )
-    option("--plane-from", nargs=2, metavar=("OUT.asc", "CALIB.json"), help=ground)
+    option("--base-from", nargs=2, metavar=("OUT.asc", "CALIB.json"), help=ground)
     keep = f"with --version 3 and --grid: what a cell keeps of its points ({KEEP})"
     option("--keep", choices=("highest", "mean"), help=keep)
     bridge = f"with --version 3 and --grid: over how many cells heights are bridged, 0 to 8 ({BRIDGE})"
@@ -771,7 +771,7 @@ def words_of():
     for (name, (low, high)), value in zip(GRID.items(), words.grid or ()):
         if not low <= value <= high:
             parser.error(f"--grid: {name} {value} isn't from {low} to {high}")
-    for name in ("outline", "outline_origin", "plane", "plane_from"):
+    for name in ("outline", "outline_origin", "plane", "base_from"):
         if getattr(words, name) and (words.version != 3 or words.grid is None):
             parser.error(f"--{name.replace('_', '-')}: needs --version 3 and --grid")
     if len(words.region) + len(words.outline) > MOST_REGIONS:

@@ -317,7 +317,7 @@ class WithoutDistortion(unittest.TestCase):
             )
             self.assertEqual((made, said[: len(line)]), (None, line))
 
-    def test_plane_from(self):
+    def test_base_from(self):
         """The plane of an earlier match whose grid begins a metre further west and half a metre
         further south."""
         grid = {"west": -2000000, "south": -1000000, "cell": 100000, "cols": 6, "rows": 5}
@@ -330,7 +330,7 @@ class WithoutDistortion(unittest.TestCase):
         head += "NODATA_value -2147483648\n"
         asc = head + "".join(" ".join(map(str, row)) + "\n" for row in rows)
         words = (
-            "--region a 0 0 9 9 7 --region b 0 0 9 9 7 --plane b 8 0 0 --plane-from o.asc c.json"
+            "--region a 0 0 9 9 7 --region b 0 0 9 9 7 --plane b 8 0 0 --base-from o.asc c.json"
         )
         earlier = {"grid": grid, "regions": regions}
         made, said = self.run_with(words, o_asc=asc, c_json=earlier)
@@ -487,7 +487,7 @@ class WithoutDistortion(unittest.TestCase):
             (ten + 1001 * " --region a 0 0 1 1 0", "--region: 1001 of them, 1000 at most"),
             (ten + " --outline a=1,1,2,2,1,3", "--outline: needs --version 3 and --grid"),
             (ten + " --plane a 0 0 0", "--plane: needs --version 3 and --grid"),
-            (" --version 3 --plane-from a b", "--plane-from: needs --version 3 and --grid"),
+            (" --version 3 --base-from a b", "--base-from: needs --version 3 and --grid"),
             (third + " --outline a", "--outline: a isn't NAME=FILE or NAME=E0,N0,E1,N1,.."),
             (
                 third + " --outline a/b=c",
