@@ -26,11 +26,11 @@ divided_within (pos a) (negsuc b) m h p = absurd (omega (arith, ints))
 divided_within (negsuc a) (negsuc b) m h p = absurd (omega (arith, ints))
 
 -- a rounded quotient of that product
-pub quotient_within : (a b d : ℤ) → Within (2 ^ 25) a → (pos 1 ≤ℤ b) × (b ≤ℤ pos 2000000000) → (pos 1 ≤ℤ d) × (d ≤ℤ pos (2 ^ 25)) → Within (2 ^ 60) (rounded (a *ℤ b) d)
+pub quotient_within : (a b d : ℤ) → Within (2 ^ 25) a → (pos 1 ≤ℤ b) × (b ≤ℤ pos 2000000000) → (pos 1 ≤ℤ d) × (d ≤ℤ pos (2 ^ 25)) → Within (2 ^ 57) (rounded (a *ℤ b) d)
 quotient_within a b d ha hb hd =
     let wide : Within 2000000000 b = (omega (arith, ints, hb.0), hb.1) in
     let product : Within (2 ^ 25 * 2000000000) (a *ℤ b) = within_abs _ _ (product_within a b (2 ^ 25) 2000000000 ha wide) in
-    let top : Within (2 ^ 60) ((pos 2 *ℤ (a *ℤ b)) +ℤ d) = (omega (arith, ints, product.0, hd.0), omega (arith, ints, product.1, hd.1)) in
+    let top : Within (2 ^ 57) ((pos 2 *ℤ (a *ℤ b)) +ℤ d) = (omega (arith, ints, product.0, hd.0), omega (arith, ints, product.1, hd.1)) in
     divided_within _ _ _ top (omega (arith, ints, hd.0))
 
 -- a number as the code's 64 bits hold it

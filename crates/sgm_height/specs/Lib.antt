@@ -1,1 +1,4 @@
 pub mod Camera
+pub mod Laws
+pub mod Pose
+pub mod Station

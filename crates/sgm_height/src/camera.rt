@@ -39,8 +39,8 @@ pub fn point(camera: &Camera, x: u32, y: u32, disparity16: i32) -> Option<Point>
     requires disparity { Within 32768 disparity16 }
     ensures exact { result ≡ point_of camera.now x y disparity16 }
     ensures height { IfSome result (λ p. Within 2000000000 p.h) }
-    ensures east { IfSome result (λ p. Within (2 ^ 60) p.x) }
-    ensures north { IfSome result (λ p. Within (2 ^ 60) p.y) }
+    ensures east { IfSome result (λ p. Within (2 ^ 57) p.x) }
+    ensures north { IfSome result (λ p. Within (2 ^ 57) p.y) }
 {
     point_at(camera, x, y, 16 * disparity16 as i64 + camera.doffs)
 }
@@ -53,8 +53,8 @@ fn point_at(camera: &Camera, x: u32, y: u32, shift: i64) -> Option<Point>
     requires shift { Within (2 ^ 25) shift }
     ensures exact { result ≡ point_with camera.now x y shift }
     ensures height { IfSome result (λ p. Within 2000000000 p.h) }
-    ensures east { IfSome result (λ p. Within (2 ^ 60) p.x) }
-    ensures north { IfSome result (λ p. Within (2 ^ 60) p.y) }
+    ensures east { IfSome result (λ p. Within (2 ^ 57) p.x) }
+    ensures north { IfSome result (λ p. Within (2 ^ 57) p.y) }
 {
     if shift <= 0 {
         return None;
@@ -81,7 +81,7 @@ fn scaled(offset: i64, baseline: i64, shift: i64) -> i64
     requires baseline { (pos 1 ≤ℤ baseline) × (baseline ≤ℤ pos 2000000000) }
     requires shift { (pos 1 ≤ℤ shift) × (shift ≤ℤ pos (2 ^ 25)) }
     ensures exact { result ≡ rounded (offset *ℤ baseline) shift }
-    ensures near { Within (2 ^ 60) result }
+    ensures near { Within (2 ^ 57) result }
 {
     // What is divided stays below 2^58. A division of 128 bits takes several times as long.
     (2 * (offset * baseline) + shift).div_euclid(2 * shift)

@@ -14,3 +14,10 @@ pub const MAX_MOUNT: i64 = 2_000_000_000;
 
 /// The greatest depth, in micrometres.
 pub const MAX_DEPTH: i64 = 2_000_000_000;
+
+/// How far east, north and up of the site's point a camera's own point lies at most, and how high
+/// or low a point in the frame of the site, in micrometres.
+pub const MAX_SITE: i64 = 2_000_000_000;
+
+/// The greatest number of an axis, in 1/2^30.
+pub const MAX_AXIS: i64 = 1_073_741_824;

@@ -17,4 +17,4 @@ returns-clause-exact c =
     (divisor_is c.args.shift c.requires.shift)
 
 pub returns-clause-near : goal.returns-clause-near
-returns-clause-near c = subst (Within (2 ^ 60)) (sym (returns-clause-exact c)) (quotient_within _ _ _ c.requires.offset c.requires.baseline c.requires.shift)
+returns-clause-near c = subst (Within (2 ^ 57)) (sym (returns-clause-exact c)) (quotient_within _ _ _ c.requires.offset c.requires.baseline c.requires.shift)
