@@ -7,6 +7,7 @@ pub mod ListLemmas
 pub mod Names
 pub mod Numbers
 pub mod Objects
+pub mod PoseLemmas
 pub mod RegionLemmas
 pub mod Short
 pub mod TableLemmas

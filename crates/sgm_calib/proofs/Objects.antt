@@ -20,6 +20,10 @@ pub rows_in-camera : (sort : Sort) → rows_in table.camera sort ≡ table.camer
 unfolding rows_in keys
 rows_in-camera sort = refl
 
+pub rows_in-pose : (sort : Sort) → rows_in table.pose sort ≡ table.pose_keys
+unfolding rows_in keys
+rows_in-pose sort = refl
+
 pub rows_in-grid : (sort : Sort) → rows_in table.grid sort ≡ table.place_keys ++ given_rows sort table.gridding_keys
 unfolding rows_in keys
 rows_in-grid sort = refl

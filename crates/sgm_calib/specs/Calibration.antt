@@ -1,5 +1,5 @@
 -- What contracts see of a calibration, and what every calibration keeps.
-use Rattle.std.specs.Prelude.{◌≤◌, pos, Bool, false, List, All, Option, None, IfSome, is_some, IsTrue, length}
+use Rattle.std.specs.Prelude.{◌≤◌, pos, Bool, false, List, All, Option, None, option_map, IfSome, is_some, IsTrue, length}
 use Rattle.sgm_base.specs.Disparities.{Disparities}
 use Rattle.sgm_base.specs.declared.limits.TheConstants.{MAX_REGIONS}
 use Rattle.sgm_census.specs.Windows.{WindowSides}
@@ -10,7 +10,10 @@ use Rattle.sgm_rectify.specs.declared.warp.Warp.{Warp}
 use Rattle.sgm_rectify.specs.declared.warp.Warp.TheVariants.{Identity}
 use Rattle.sgm_rectify.specs.Warps.{IsWarp}
 use Rattle.sgm_height.specs.declared.camera.Camera.{Camera}
+use Rattle.sgm_height.specs.declared.pose.Pose.{Pose}
+use Rattle.sgm_height.specs.declared.station.Station.{Station}
 use Rattle.sgm_height.specs.Camera.{IsCamera}
+use Rattle.sgm_height.specs.Pose.{IsPose}
 use Rattle.sgm_grid.specs.declared.grid_spec.GridSpec.{GridSpec}
 use Rattle.sgm_grid.specs.declared.keep.Gridding.{Gridding}
 use Rattle.sgm_grid.specs.declared.keep.Keep.TheVariants.{Highest}
@@ -29,6 +32,7 @@ pub record Calibration : Type 0 where
   pub left : Warp
   pub right : Warp
   pub camera : Option Camera
+  pub pose : Option Pose
   pub grid : Option GridSpec
   pub gridding : Gridding
   pub columns : Columns
@@ -49,18 +53,24 @@ plain = record {
   left = Identity;
   right = Identity;
   camera = None;
+  pose = None;
   grid = None;
   gridding = plain_gridding;
   columns = columns.Plain;
   regions = None;
 }
 
--- the ranges of warps, camera and grid; a camera where there is a grid; a grid where there are
+-- the camera and how it stands, where there is one
+abbrev pub station_of : Calibration → Option Station
+station_of calib = option_map (λ camera. record { camera = camera; pose = calib.pose }) calib.camera
+
+-- the ranges of warps, camera, pose and grid; a camera where there is a grid; a grid where there are
 -- regions, and each of them in it
 pub record IsCalibration (calib : Calibration) : Type 0 where
   pub left_kept : IsWarp calib.left
   pub right_kept : IsWarp calib.right
   pub camera_kept : IfSome calib.camera IsCamera
+  pub pose_kept : IfSome calib.pose IsPose
   pub grid_kept : IfSome calib.grid IsGridSpec
   pub gridding_kept : IsGridding calib.gridding
   pub grid_has_camera : IfSome calib.grid (λ _. IsTrue (is_some calib.camera))

@@ -6,6 +6,7 @@ use Rattle.std.specs.Option.{option_or}
 use Rattle.std.specs.Result.{result_err}
 use Rattle.serde_json.specs.Data.{Data, null, Items, no_items, item, Members, no_members, member}
 use Rattle.serde_json.specs.Find.{get, as_array, as_bool, as_object, as_str}
+use Rattle.sgm_height.specs.Pose.{axes_of, is_nearly_rotation}
 use Rattle.sgm_calib.specs.declared.keys.Key.{Key}
 use Rattle.sgm_calib.specs.declared.keys.CalibFault.{CalibFault}
 use Rattle.sgm_calib.specs.declared.keys.CalibFault.TheVariants.{Missing, Unknown, Type_, Range}
@@ -16,7 +17,7 @@ use Rattle.sgm_calib.specs.declared.sort.Sort.{Sort}
 use Rattle.sgm_calib.specs.declared.sort.Sort.TheVariants.{Version}
 use Rattle.sgm_calib.specs.Keeps.{is_keep}
 use Rattle.sgm_calib.specs.Kinds.{is_kind}
-use Rattle.sgm_calib.specs.Rows.{Row, Form, object as object_form, warps, kind, name as name_form, keep as keep_form, truth, regions, matrix, nodes, key_at, corners, whole, count_of, is_in_range}
+use Rattle.sgm_calib.specs.Rows.{Row, Form, object as object_form, warps, kind, name as name_form, keep as keep_form, truth, regions, matrix, rotation, nodes, key_at, corners, whole, count_of, is_in_range}
 use Rattle.sgm_calib.specs.declared.lists.Amount.{Amount}
 use Rattle.sgm_calib.specs.declared.lists.Amount.TheVariants.{Exactly, Corners}
 use Rattle.sgm_report.specs.Areas.{is_region_name}
@@ -137,6 +138,18 @@ numbers_fault place holder row amount =
 
 -- ---- keys whose values have no keys of their own
 
+-- the value of a key in its object
+abbrev pub value_of : Row → Data → Data
+value_of row d = unwrap_or (get row.name d) null
+
+-- the text of a key in its object
+abbrev pub text_of : Row → Data → List ℕ
+text_of row d = unwrap_or (as_str (value_of row d)) []
+
+-- the whole numbers of a key in its object
+abbrev pub numbers_at : Row → Data → List ℤ
+numbers_at row d = numbers (value_of row d)
+
 -- the text of a key in its object, or what is wrong: it is missing, its type, its range
 unfoldable pub text_in : (List ℕ → Bool) → Place → Data → Row → Result (List ℕ) CalibFault
 text_in range place holder row =
@@ -145,6 +158,17 @@ text_in range place holder row =
 -- how many numbers the nodes of a mesh are: two for each
 abbrev pub node_numbers : Data → ℕ
 node_numbers side = 2 * count_of mesh_cols side * count_of mesh_rows side
+
+-- what is wrong with the axes that nine numbers are: they aren't nearly those of a rotation
+abbrev pub axes_fault : Place → Data → Row → Option CalibFault
+axes_fault place holder row =
+    if is_nearly_rotation (axes_of (numbers_at row holder)) then None
+    else Some (Range (key_at place row))
+
+-- what is wrong with nine numbers that are to be nearly a rotation
+unfoldable pub rotation_fault : Place → Data → Row → Option CalibFault
+rotation_fault place holder row =
+    option_or (numbers_fault place holder row (Exactly 9)) (axes_fault place holder row)
 
 abbrev pub key_fault_of : Form → Place → Data → Row → Option CalibFault
 key_fault_of object_form place holder row = None
@@ -155,6 +179,7 @@ key_fault_of name_form place holder row = result_err (text_in is_region_name pla
 key_fault_of keep_form place holder row = result_err (text_in is_keep place holder row)
 key_fault_of truth place holder row = result_err (typed_in as_bool place holder row)
 key_fault_of (matrix low high) place holder row = numbers_fault place holder row (Exactly 9)
+key_fault_of (rotation low high) place holder row = rotation_fault place holder row
 key_fault_of (nodes low high) place holder row =
     numbers_fault place holder row (Exactly (node_numbers holder))
 key_fault_of (corners low high) place holder row = numbers_fault place holder row Corners
@@ -175,17 +200,9 @@ wholes_fault place holder rows =
 
 -- ---- values
 
--- the objects of a value go by its version
+-- a value and its objects go by its version
 unfoldable pub sort_of : Data → Sort
 sort_of top = Version (count_of version top)
-
--- the value of a key in its object
-abbrev pub value_of : Row → Data → Data
-value_of row d = unwrap_or (get row.name d) null
-
--- the text of a key in its object
-abbrev pub text_of : Row → Data → List ℕ
-text_of row d = unwrap_or (as_str (value_of row d)) []
 
 -- ---- answers
 

@@ -8,6 +8,8 @@ use Rattle.serde_json.specs.Find.{get, as_object}
 use Rattle.sgm_census.specs.declared.rule.CostRule.{CostRule}
 use Rattle.sgm_census.specs.declared.rule.CostRule.TheVariants.{Plain, Smoothed}
 use Rattle.sgm_height.specs.declared.camera.Camera.{Camera}
+use Rattle.sgm_height.specs.declared.pose.Pose.{Pose}
+use Rattle.sgm_height.specs.Pose.{axes_of}
 use Rattle.sgm_grid.specs.declared.grid_spec.GridSpec.{GridSpec}
 use Rattle.sgm_grid.specs.declared.keep.Gridding.{Gridding}
 use Rattle.sgm_grid.specs.declared.keep.Keep.TheVariants.{Highest}
@@ -18,13 +20,12 @@ use Rattle.sgm_calib.specs.declared.keys.CalibFault.{CalibFault}
 use Rattle.sgm_calib.specs.declared.keys.CalibFault.TheVariants.{Version, Missing}
 use Rattle.sgm_calib.specs.declared.place.TheConstants.{PLAIN}
 use Rattle.sgm_calib.specs.declared.sort.Sort.{Sort}
-use Rattle.sgm_calib.specs.declared.sort.Sort.TheVariants as sort
 use Rattle.sgm_calib.specs.Calibration.{Calibration, plain_gridding}
 use Rattle.sgm_calib.specs.Keeps.{keep_named}
 use Rattle.sgm_calib.specs.Table as table
 use Rattle.sgm_calib.specs.Table.{rows_in, span_of, window_of, penalties_of, camera_of, grid_of}
-use Rattle.sgm_calib.specs.Rows.{Row, Form, object, warps, regions, key_at, whole, count_of, truth_of, is_in_range, is_required, is_since}
-use Rattle.sgm_calib.specs.Checks.{first_of, typed_in, or_out_of_range, object_fault, type_fault, keys_fault, sort_of, value_of, text_of}
+use Rattle.sgm_calib.specs.Rows.{Row, Form, object, warps, regions, key_at, whole, number_of, count_of, truth_of, is_in_range, is_required, is_since}
+use Rattle.sgm_calib.specs.Checks.{first_of, typed_in, or_out_of_range, object_fault, type_fault, keys_fault, sort_of, value_of, text_of, numbers_at}
 use Rattle.sgm_calib.specs.WarpKeys.{warps_fault, warp_in}
 use Rattle.sgm_calib.specs.RegionKeys.{regions_fault, regions_in}
 
@@ -74,11 +75,11 @@ entry_fault top row = entry_fault_of row.form top row
 
 -- ---- the value
 
--- what is wrong with the value itself: its type, its version, an unknown name
+-- what is wrong with the value itself: its type, its version, a name that its version doesn't know
 unfoldable pub top_fault : Data → Option CalibFault
 top_fault top =
     first_of (type_fault (key_at PLAIN table.top) (as_object top) ∷ version_fault top
-    ∷ object_fault PLAIN table.top sort.Plain top ∷ [])
+    ∷ object_fault PLAIN table.top (sort_of top) top ∷ [])
 
 -- what is wrong with what stands in it
 unfoldable pub entries_fault : Data → Option CalibFault
@@ -90,9 +91,21 @@ fault_in top = option_or (top_fault top) (entries_fault top)
 
 -- ---- the calibration that a value without a fault is
 
--- the camera and the grid of a value, where it has them
+-- the pose that an object is
+unfoldable pub pose_of : Data → Pose
+pose_of d = record {
+  axes = axes_of (numbers_at table.pose_matrix d);
+  east = number_of table.pose_east d;
+  north = number_of table.pose_north d;
+  up = number_of table.pose_up d;
+}
+
+-- the camera, its pose and the grid of a value, where it has them
 unfoldable pub camera_in : Data → Option Camera
 camera_in top = option_map camera_of (get table.camera.name top)
+
+unfoldable pub pose_in : Data → Option Pose
+pose_in top = option_map pose_of (get table.pose.name top)
 
 unfoldable pub grid_in : Data → Option GridSpec
 grid_in top = option_map grid_of (get table.grid.name top)
@@ -120,6 +133,7 @@ calibration_in top = record {
   left = warp_in table.left top;
   right = warp_in table.right top;
   camera = camera_in top;
+  pose = pose_in top;
   grid = grid_in top;
   gridding = gridding_in top;
   columns = columns_in top;

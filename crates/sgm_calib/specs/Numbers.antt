@@ -4,7 +4,7 @@ use Rattle.std.specs.Str.{bytes_eq}
 use Rattle.sgm_calib.specs.declared.keys.Key.{Key}
 use Rattle.sgm_calib.specs.Paths.{path_of}
 use Rattle.sgm_calib.specs.Rows.{Row}
-use Rattle.sgm_calib.specs.Table.{keys, region, region_keys}
+use Rattle.sgm_calib.specs.Table.{keys, region, all_region_keys}
 
 -- the numbers of the keys, in the order of the checks
 unfoldable pub numbers : List ℕ
@@ -26,4 +26,4 @@ region_path index = codes "regions[" ++ decimal index ++ codes "]"
 pub record HasRegionPaths (index : ℕ) : Type 0 where
   pub itself : path_of (key_with index region) ≡ region_path index
   pub keys : All (λ row. path_of (key_with index row) ≡ region_path index ++ codes "." ++ row.name)
-      region_keys
+      all_region_keys

@@ -1,5 +1,5 @@
 -- The rows of the key table: what a row says, and what the code's rows mean.
-use Rattle.std.specs.Prelude.{ℕ, ◌+◌, ◌%◌, ◌==◌, nat_le, ℤ, pos, ◌-ℤ◌, unsigned_abs, int_le, Bool, true, false, ◌&&◌, List, Option, option_and_then, unwrap_or, is_some}
+use Rattle.std.specs.Prelude.{ℕ, ◌+◌, ◌%◌, ◌==◌, nat_le, ℤ, pos, ◌-ℤ◌, unsigned_abs, int_le, Bool, true, false, ◌&&◌, ◌||◌, List, Option, option_and_then, unwrap_or, is_some}
 use Rattle.std.specs.Str.{bytes_eq}
 use Rattle.serde_json.specs.Data.{Data}
 use Rattle.serde_json.specs.Find.{get, as_bool, as_number, as_i64}
@@ -19,8 +19,8 @@ use Rattle.sgm_calib.specs.declared.table.Presence.TheVariants as code_presence
 -- the name of a kind of warp, or of a region, or what a cell keeps; a truth value; the list of the
 -- regions; a whole number, which is between two, odd and between two, from that of another key of
 -- the object on, a column or a row of the grid, or so many of them as are left from another key's
--- on; nine numbers, two for each node of a mesh, or two for each corner of an outline, each between
--- two.
+-- on; nine numbers, nine that are nearly a rotation, two for each node of a mesh, or two for each
+-- corner of an outline, each between two.
 pub data Form : Type 0 where
   object : Form
   warps : Form
@@ -37,16 +37,18 @@ pub data Form : Type 0 where
   columns_from : List ℕ → Form
   lines_from : List ℕ → Form
   matrix : ℤ → ℤ → Form
+  rotation : ℤ → ℤ → Form
   nodes : ℤ → ℤ → Form
   corners : ℤ → ℤ → Form
 
--- whether a key has to be there: always, never, where another key stands in the object, or in the
--- sides of one kind or the objects from one version on, to which alone it is given, or never there
--- either
+-- whether a key has to be there: always, never, where another key stands in the object, or either
+-- of two, or in the sides of one kind or the objects from one version on, to which alone it is
+-- given, or never there either
 pub data Presence : Type 0 where
   required : Presence
   optional : Presence
   with : List ℕ → Presence
+  with_either : List ℕ → List ℕ → Presence
   of_kind : List ℕ → Presence
   since : ℕ → Presence
   optional_since : ℕ → Presence
@@ -77,6 +79,7 @@ form_meant code.Line = line
 form_meant (code.ColumnsFrom key) = columns_from key.now
 form_meant (code.LinesFrom key) = lines_from key.now
 form_meant (code.Matrix low high) = matrix low high
+form_meant (code.Rotation low high) = rotation low high
 form_meant (code.Nodes low high) = nodes low high
 form_meant (code.Corners low high) = corners low high
 
@@ -84,6 +87,7 @@ abbrev pub presence_meant : CodePresence → Presence
 presence_meant code_presence.Required = required
 presence_meant code_presence.Optional = optional
 presence_meant (code_presence.With key) = with key.now
+presence_meant (code_presence.WithEither key other) = with_either key.now other.now
 presence_meant (code_presence.OfKind key) = of_kind key.now
 presence_meant (code_presence.Since version) = since version
 presence_meant (code_presence.OptionalSince version) = optional_since version
@@ -140,6 +144,7 @@ least (between low high) d = low
 least (odd low high) d = low
 least (from key high) d = whole_at key d
 least (matrix low high) d = low
+least (rotation low high) d = low
 least (nodes low high) d = low
 least (corners low high) d = low
 least column d = pos 0
@@ -151,6 +156,7 @@ greatest (between low high) place d = high
 greatest (odd low high) place d = high
 greatest (from key high) place d = high
 greatest (matrix low high) place d = high
+greatest (rotation low high) place d = high
 greatest (nodes low high) place d = high
 greatest (corners low high) place d = high
 greatest column place d = pos place.cols -ℤ pos 1
@@ -174,6 +180,7 @@ abbrev pub is_required : Presence → Data → Bool
 is_required required d = true
 is_required optional d = false
 is_required (with key) d = is_some (get key d)
+is_required (with_either key other) d = is_some (get key d) || is_some (get other d)
 is_required (of_kind key) d = true
 is_required (since version) d = true
 is_required (optional_since version) d = false

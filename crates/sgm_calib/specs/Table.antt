@@ -13,10 +13,10 @@ use Rattle.sgm_calib.specs.declared.sort.Sort.{Sort}
 use Rattle.sgm_grid.specs.declared.grid_spec.GridSpec.{GridSpec}
 use Rattle.sgm_grid.specs.declared.limits.TheConstants.{MAX_BRIDGE, MAX_CELL, MAX_HEIGHT, MAX_PLACE}
 use Rattle.sgm_height.specs.declared.camera.Camera.{Camera}
-use Rattle.sgm_height.specs.declared.limits.TheConstants.{MAX_BASELINE, MAX_DEPTH, MAX_FOCAL, MAX_MOUNT, MAX_OFFSET}
+use Rattle.sgm_height.specs.declared.limits.TheConstants.{MAX_AXIS, MAX_BASELINE, MAX_DEPTH, MAX_FOCAL, MAX_MOUNT, MAX_OFFSET, MAX_SITE}
 use Rattle.sgm_report.specs.declared.base.TheConstants.{MAX_RISE}
 use Rattle.sgm_rectify.specs.declared.limits.TheConstants.{MAX_ENTRY, MAX_NODE, MAX_NODE_COUNT, MAX_STEP, MIN_ENTRY, MIN_NODE, MIN_NODE_COUNT, MIN_STEP}
-use Rattle.sgm_calib.specs.Rows.{Form, object, warps, kind, name, keep as keep_form, truth, regions, between, odd, from, column, line, columns_from, lines_from, matrix, nodes, corners, Presence, required, optional, with, of_kind, since, optional_since, Row, is_given, number_of, count_of, truth_of}
+use Rattle.sgm_calib.specs.Rows.{Form, object, warps, kind, name, keep as keep_form, truth, regions, between, odd, from, column, line, columns_from, lines_from, matrix, rotation, nodes, corners, Presence, required, optional, with, with_either, of_kind, since, optional_since, Row, is_given, number_of, count_of, truth_of}
 
 -- the row of a key of the value itself, and of a key of an object
 abbrev pub entry : ℕ → List ℕ → Form → Presence → Row
@@ -125,7 +125,7 @@ abbrev on_right : Row → Row
 on_right row = given right (row.number + 7) row.name row.form row.presence
 
 abbrev pub camera : Row
-camera = entry 27 (codes "camera") object (with (codes "grid"))
+camera = entry 27 (codes "camera") object (with_either (codes "grid") (codes "pose"))
 
 abbrev pub focal : Row
 focal = key_of camera 28 (codes "focal") (between (pos 1) MAX_FOCAL)
@@ -150,6 +150,21 @@ near = key_of camera 34 (codes "near") (between (pos 1) MAX_DEPTH)
 
 abbrev pub far : Row
 far = key_of camera 35 (codes "far") (from (codes "near") MAX_DEPTH)
+
+abbrev pub pose : Row
+pose = entry 54 (codes "pose") object (optional_since 3)
+
+abbrev pub pose_matrix : Row
+pose_matrix = key_of pose 55 (codes "matrix") (rotation (neg_ℤ MAX_AXIS) MAX_AXIS)
+
+abbrev pub pose_east : Row
+pose_east = key_of pose 56 (codes "east") (within MAX_SITE)
+
+abbrev pub pose_north : Row
+pose_north = key_of pose 57 (codes "north") (within MAX_SITE)
+
+abbrev pub pose_up : Row
+pose_up = key_of pose 58 (codes "up") (within MAX_SITE)
 
 abbrev pub grid : Row
 grid = entry 36 (codes "grid") object (with (codes "regions"))
@@ -219,7 +234,7 @@ region_outline =
 
 -- the keys of each object, of the value itself those after its version
 abbrev pub top_keys : List Row
-top_keys = disparities ∷ census ∷ penalties ∷ warp ∷ camera ∷ grid ∷ region_list ∷ []
+top_keys = disparities ∷ census ∷ penalties ∷ warp ∷ camera ∷ pose ∷ grid ∷ region_list ∷ []
 
 abbrev pub disparities_keys : List Row
 disparities_keys = first ∷ count ∷ fine ∷ []
@@ -236,6 +251,13 @@ side_keys = side_kind ∷ side_matrix ∷ mesh_step ∷ mesh_cols ∷ mesh_rows 
 abbrev pub camera_keys : List Row
 camera_keys = focal ∷ baseline ∷ cx ∷ cy ∷ doffs ∷ mount ∷ near ∷ far ∷ []
 
+-- where the point below a camera lies
+abbrev pub shift_keys : List Row
+shift_keys = pose_east ∷ pose_north ∷ pose_up ∷ []
+
+abbrev pub pose_keys : List Row
+pose_keys = pose_matrix ∷ shift_keys
+
 abbrev pub place_keys : List Row
 place_keys = west ∷ south ∷ cell ∷ grid_cols ∷ grid_rows ∷ []
 
@@ -251,6 +273,9 @@ region_keys = region_name ∷ region_col ∷ region_row ∷ region_cols ∷ regi
 abbrev pub rise_keys : List Row
 rise_keys = region_rise_east ∷ region_rise_north ∷ []
 
+abbrev pub all_region_keys : List Row
+all_region_keys = region_keys ++ rise_keys ++ region_outline ∷ []
+
 -- the table
 unfoldable pub keys : List Row
 keys =
@@ -262,15 +287,17 @@ keys =
     ++ (left ∷ side_keys)
     ++ (right ∷ map on_right side_keys)
     ++ (camera ∷ camera_keys)
+    ++ (pose ∷ pose_keys)
     ++ (grid ∷ grid_keys)
     ++ (region_list ∷ [])
-    ++ (region ∷ region_keys ++ rise_keys ++ region_outline ∷ [])
+    ++ (region ∷ all_region_keys)
 
--- their numbers in that order: from 1 to 49, with 51 behind 5, 50 behind 11, and 52 and 53 behind
--- 41; then 59 to 61
+-- their numbers in that order: from 1 to 49, with 51 behind 5, 50 behind 11, 54 to 58 behind 35, and
+-- 52 and 53 behind 41; then 59 to 61
 abbrev pub order : List ℕ
 order =
-    range_with_len 1 5 ++ 51 ∷ range_with_len 6 6 ++ 50 ∷ range_with_len 12 30
+    range_with_len 1 5 ++ 51 ∷ range_with_len 6 6 ++ 50 ∷ range_with_len 12 24
+    ++ range_with_len 54 5 ++ range_with_len 36 6
     ++ 52 ∷ 53 ∷ range_with_len 42 8 ++ range_with_len 59 3
 
 -- those of some keys that an object of that sort is given

@@ -17,7 +17,7 @@ use Rattle.sgm_calib.specs.declared.place.TheConstants.{PLAIN, RIGHT_SIDE}
 use Rattle.sgm_calib.specs.Kinds.{kind_name, kind_named}
 use Rattle.sgm_calib.specs.Table as table
 use Rattle.sgm_calib.specs.Rows.{Row, Presence, of_kind, key_at, count_of}
-use Rattle.sgm_calib.specs.Checks.{first_of, object_fault, type_fault, key_fault, keys_fault, numbers, value_of, text_of}
+use Rattle.sgm_calib.specs.Checks.{first_of, object_fault, type_fault, key_fault, keys_fault, numbers_at, value_of, text_of}
 
 -- the kind of a side
 unfoldable pub kind_of : Data → Kind
@@ -87,10 +87,10 @@ pairs (u ∷ []) = []
 pairs (u ∷ v ∷ more) = (u, v) ∷ pairs more
 
 unfoldable pub matrix_in : Data → List ℤ
-matrix_in side = numbers (value_of table.side_matrix side)
+matrix_in side = numbers_at table.side_matrix side
 
 unfoldable pub nodes_in : Data → List (ℤ × ℤ)
-nodes_in side = pairs (numbers (value_of table.mesh_nodes side))
+nodes_in side = pairs (numbers_at table.mesh_nodes side)
 
 abbrev pub warp_of_kind : Kind → Data → Warp
 warp_of_kind Identity side = warp.Identity

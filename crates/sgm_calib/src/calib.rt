@@ -1,20 +1,21 @@
-ghost use Rattle.std.specs.Prelude.{◌≡◌, option_map};
+ghost use Rattle.std.specs.Prelude.{◌≡◌, IfSome, option_map};
 ghost use Rattle.sgm_rectify.specs.Warps.{IsWarp};
+ghost use Rattle.sgm_height.specs.Station.{IsStation};
 ghost use Rattle.sgm_energy.specs.Pens.{penalties_of};
 ghost use Rattle.sgm_grid.specs.Keeping.{IsGridding};
-ghost use Rattle.sgm_calib.specs.Calibration.{plain, IsCalibration};
+ghost use Rattle.sgm_calib.specs.Calibration.{plain, station_of, IsCalibration};
 
 use sgm_base::Span;
 use sgm_census::{CostRule, Window};
 use sgm_energy::Pen;
 use sgm_grid::{GridSpec, Gridding, Keep};
-use sgm_height::Camera;
+use sgm_height::{Camera, Pose, Station};
 use sgm_rectify::Warp;
 use sgm_report::{Columns, Region};
 use std::marker::Model;
 
-/// The settings of a survey. Warps, camera and grid keep their ranges. There is a camera where
-/// there is a grid, and a grid where there are regions, each of which lies in it.
+/// The settings of a survey. Warps, camera, pose and grid keep their ranges. There is a camera
+/// where there is a grid, and a grid where there are regions, each of which lies in it.
 #[derive(Drop)]
 pub struct Calib {
     pub(crate) span: Span,
@@ -25,6 +26,7 @@ pub struct Calib {
     pub(crate) left: Warp,
     pub(crate) right: Warp,
     pub(crate) camera: Option<Camera>,
+    pub(crate) pose: Option<Pose>,
     pub(crate) grid: Option<GridSpec>,
     pub(crate) gridding: Gridding,
     pub(crate) columns: Columns,
@@ -47,6 +49,7 @@ impl Model for Calib {
       left = c.left;
       right = c.right;
       camera = c.camera;
+      pose = c.pose;
       grid = c.grid;
       gridding = c.gridding;
       columns = c.columns;
@@ -62,6 +65,7 @@ impl Model for Calib {
       left = c.left;
       right = c.right;
       camera = c.camera;
+      pose = c.pose;
       grid = c.grid;
       gridding = c.gridding;
       columns = c.columns;
@@ -94,6 +98,7 @@ impl Calib {
             left: Warp::Identity,
             right: Warp::Identity,
             camera: None,
+            pose: None,
             grid: None,
             gridding: Gridding {
                 keep: Keep::Highest,
@@ -161,6 +166,28 @@ impl Calib {
         ensures kept { IsCalibration self.now }
     {
         self.camera
+    }
+
+    /// How the cameras stand in the frame of the site, where that is said.
+    pub fn pose(&self) -> Option<Pose>
+        ensures value { result ≡ self.now.pose }
+        ensures kept { IsCalibration self.now }
+    {
+        self.pose
+    }
+
+    /// The cameras and how they stand, where heights can be told.
+    pub fn station(&self) -> Option<Station>
+        ensures value { result ≡ station_of self.now }
+        ensures kept { IfSome result IsStation }
+    {
+        match self.camera {
+            None => None,
+            Some(camera) => Some(Station {
+                camera,
+                pose: self.pose,
+            }),
+        }
     }
 
     /// The grid of heights, where one is asked for.

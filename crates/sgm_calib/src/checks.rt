@@ -58,6 +58,7 @@ fn least(row: &Row, object: &Value) -> i64
         Form::Between(low, _)
         | Form::Odd(low, _)
         | Form::Matrix(low, _)
+        | Form::Rotation(low, _)
         | Form::Nodes(low, _)
         | Form::Corners(low, _) => low,
         Form::From(name, _) => number_at(object, name),
@@ -74,6 +75,7 @@ fn greatest(row: &Row, place: Place, object: &Value) -> i128
         | Form::Odd(_, high)
         | Form::From(_, high)
         | Form::Matrix(_, high)
+        | Form::Rotation(_, high)
         | Form::Nodes(_, high)
         | Form::Corners(_, high) => i128::from(high),
         Form::Column => i128::from(place.cols) - 1,
@@ -265,7 +267,7 @@ pub fn check_object(value: &Value, object: &Row, place: Place, sort: Sort) -> Re
     }
 }
 
-/// The sort of the objects that a value holds: they go by its version.
+/// The sort of a value and of the objects that it holds: they go by its version.
 #[tactic(auto, unfolding(crate::specs::Checks::sort_of))]
 pub fn sort_of(top: &Value) -> Sort
     ensures { result ≡ sort_of (view top.now) }
@@ -304,6 +306,9 @@ fn is_required(row: &Row, object: &Value) -> bool
     match row.presence {
         Presence::Optional | Presence::OptionalSince(_) => false,
         Presence::With(name) => object.get(name).is_some(),
+        Presence::WithEither(name, other) => {
+            object.get(name).is_some() || object.get(other).is_some()
+        }
         _ => true,
     }
 }
@@ -344,7 +349,8 @@ fn check_version(top: &Value) -> Result<(), CalibFault>
     }
 }
 
-/// Checks the value itself: that it is an object, its version, and that it has no unknown name.
+/// Checks the value itself: that it is an object, its version, and that it has no name but those
+/// that its version knows.
 #[tactic(auto, unfolding(crate::specs::Judge::top_fault))]
 pub fn check_top(top: &Value) -> Result<(), CalibFault>
     ensures ok { OnOk result (top_fault (view top.now) ≡ None) }
@@ -355,5 +361,5 @@ pub fn check_top(top: &Value) -> Result<(), CalibFault>
         return Err(CalibFault::Type_(key_at(row, PLAIN)));
     };
     check_version(top)?;
-    check_object(top, row, PLAIN, Sort::Plain)
+    check_object(top, row, PLAIN, sort_of(top))
 }

@@ -10,6 +10,7 @@ mod kind;
 pub mod laws;
 mod lists;
 mod place;
+mod pose;
 mod reading;
 mod regions;
 mod sections;

@@ -4,9 +4,10 @@ ghost use Rattle.std.specs.Prelude.{◌≡◌, ◌+◌, ◌/◌, ◌<◌, ◌&&�
 ghost use Rattle.std.specs.List.{list_all};
 ghost use Rattle.serde_json.specs.View.{view};
 ghost use Rattle.serde_json.specs.Find.{as_array};
+ghost use Rattle.sgm_calib.specs.declared.lists.Amount.TheVariants.{Exactly};
 ghost use Rattle.sgm_calib.specs.Table as table;
 ghost use Rattle.sgm_calib.specs.Rows.{whole, least, greatest, is_in_range, meant, form_meant, presence_meant};
-ghost use Rattle.sgm_calib.specs.Checks.{Allows, elements, may_have, numbers, numbers_fault, value_of};
+ghost use Rattle.sgm_calib.specs.Checks.{Allows, elements, may_have, numbers, numbers_fault, numbers_at, value_of};
 ghost use Rattle.sgm_calib.specs.WarpKeys.{IsWithin32, pairs};
 
 use crate::checks::{is_in_range, key_at};
@@ -134,6 +135,27 @@ pub fn numbers<'a>(
     } else {
         Err(CalibFault::Range(key_at(row, place)))
     }
+}
+
+/// The nine whole numbers of a list in an object; or what is wrong, as of [`numbers`].
+pub fn nine(object: &Value, row: &Row, place: Place) -> Result<[i64; 9], CalibFault>
+    requires { row.now.number + place.shift < 256 }
+    ensures ok { OnOk result
+        (numbers_fault place (view object.now) (meant row.now) (Exactly 9) ≡ None) }
+    ensures value { IfOk result (λ entries. entries ≡ numbers_at (meant row.now) (view object.now)) }
+    ensures count { IfOk result (λ entries. length entries ≡ 9) }
+    ensures range { IfOk result (λ entries. All (λ z.
+        (least (form_meant row.now.form) (view object.now) ≤ℤ z)
+        × (z ≤ℤ greatest (form_meant row.now.form) place (view object.now))) entries) }
+    ensures fault { IfErr result
+        (λ f. numbers_fault place (view object.now) (meant row.now) (Exactly 9) ≡ Some f) }
+{
+    let items = numbers(object, row, place, Amount::Exactly(9))?;
+    let mut entries = [0; 9];
+    for index in 0..9 {
+        entries[index] = number(&items[index]);
+    }
+    Ok(entries)
 }
 
 /// Two numbers as a pair.

@@ -11,6 +11,7 @@ ghost use Rattle.sgm_calib.specs.declared.keys.CalibFault.{CalibFault};
 use crate::calib::Calib;
 use crate::checks::{check_top, columns, rule};
 use crate::keys::{CalibError, CalibFault};
+use crate::pose::pose;
 use crate::regions::regions;
 use crate::sections::{camera, census, disparities, fine, grid, gridding, penalties};
 use crate::warps::warps;
@@ -28,6 +29,7 @@ fn entries(alloc: Global, top: &Value) -> Result<Calib, CalibError>
     let pen = penalties(top)?;
     let (left, right) = warps(alloc, top)?;
     let camera = camera(top)?;
+    let pose = pose(top)?;
     let grid = grid(top)?;
     let regions = regions(alloc, top, grid)?;
     Ok(Calib {
@@ -39,6 +41,7 @@ fn entries(alloc: Global, top: &Value) -> Result<Calib, CalibError>
         left,
         right,
         camera,
+        pose,
         grid,
         gridding: gridding(top),
         columns: columns(top),

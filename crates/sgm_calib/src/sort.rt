@@ -7,6 +7,6 @@ pub enum Sort {
     Plain,
     /// A side of the warps goes by its kind.
     Side(Kind),
-    /// An object that the value itself holds goes by the version.
+    /// The value itself and the objects that it holds go by the version.
     Version(u64),
 }

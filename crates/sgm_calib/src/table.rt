@@ -12,7 +12,7 @@ use sgm_base::{
     MIN_FIRST, MIN_WINDOW_SIDE,
 };
 use sgm_grid::{MAX_BRIDGE, MAX_CELL, MAX_HEIGHT, MAX_PLACE};
-use sgm_height::{MAX_BASELINE, MAX_DEPTH, MAX_FOCAL, MAX_MOUNT, MAX_OFFSET};
+use sgm_height::{MAX_AXIS, MAX_BASELINE, MAX_DEPTH, MAX_FOCAL, MAX_MOUNT, MAX_OFFSET, MAX_SITE};
 use sgm_rectify::{
     MAX_ENTRY, MAX_NODE, MAX_NODE_COUNT, MAX_STEP, MIN_ENTRY, MIN_NODE, MIN_NODE_COUNT, MIN_STEP,
 };
@@ -51,6 +51,8 @@ pub enum Form {
     LinesFrom(&'static str),
     /// A list of nine whole numbers, each from the first to the second.
     Matrix(i64, i64),
+    /// A list of nine whole numbers, each from the first to the second, that are nearly a rotation.
+    Rotation(i64, i64),
     /// A list of two whole numbers for each node of a mesh, each from the first to the second.
     Nodes(i64, i64),
     /// A list of two whole numbers for each corner of an outline, each from the first to the
@@ -65,6 +67,8 @@ pub enum Presence {
     Optional,
     /// Required where the key of that name stands in the same object.
     With(&'static str),
+    /// Required where one of the keys of those names stands in the same object.
+    WithEither(&'static str, &'static str),
     /// Required by that kind of warp, and an unknown name to the others.
     OfKind(&'static str),
     /// Required from that version on, and an unknown name in the earlier ones.
@@ -121,6 +125,10 @@ const COORDINATES: Form = Form::Nodes(MIN_NODE as i64, MAX_NODE as i64);
 
 const OFFSETS: Form = Form::Between(-MAX_OFFSET, MAX_OFFSET);
 
+const AXES: Form = Form::Rotation(-MAX_AXIS, MAX_AXIS);
+
+const SHIFTS: Form = Form::Between(-MAX_SITE, MAX_SITE);
+
 const PLACES: Form = Form::Between(-MAX_PLACE, MAX_PLACE);
 
 const GRID_LINES: Form = Form::Between(1, MAX_GRID_LINES as i64);
@@ -132,6 +140,8 @@ const BASES: Form = Form::Between(-MAX_HEIGHT, MAX_HEIGHT);
 const RISES: Form = Form::Between(-MAX_RISE, MAX_RISE);
 
 const CORNERS: Form = Form::Corners(-MAX_PLACE, MAX_PLACE);
+
+const OF_GROUND: Presence = Presence::WithEither("grid", "pose");
 
 const OF_MATRIX: Presence = Presence::OfKind("projective");
 
@@ -209,7 +219,7 @@ const RIGHT_ROWS: Row = key_row!(25 in 20 "warp.right." "rows": NODE_COUNTS, OF_
 
 const RIGHT_NODES: Row = key_row!(26 in 20 "warp.right." "nodes": COORDINATES, OF_MESH);
 
-pub const CAMERA: Row = key_row!(27 in 1 "" "camera": Form::Object, Presence::With("grid"));
+pub const CAMERA: Row = key_row!(27 in 1 "" "camera": Form::Object, OF_GROUND);
 
 const FOCAL: Row = key_row!(28 in 27 "camera." "focal": Form::Between(1, MAX_FOCAL));
 
@@ -229,6 +239,19 @@ const FAR: Row = key_row!(35 in 27 "camera." "far": Form::From("near", MAX_DEPTH
 
 /// The keys of a camera, in the order of the checks.
 pub static CAMERA_KEYS: [Row; 8] = [FOCAL, BASELINE, CX, CY, DOFFS, MOUNT, NEAR, FAR];
+
+pub const POSE: Row = key_row!(54 in 1 "" "pose": Form::Object, Presence::OptionalSince(3));
+
+pub const POSE_MATRIX: Row = key_row!(55 in 54 "pose." "matrix": AXES);
+
+const POSE_EAST: Row = key_row!(56 in 54 "pose." "east": SHIFTS);
+
+const POSE_NORTH: Row = key_row!(57 in 54 "pose." "north": SHIFTS);
+
+const POSE_UP: Row = key_row!(58 in 54 "pose." "up": SHIFTS);
+
+/// The keys of a pose behind its matrix, in the order of the checks.
+pub static SHIFT_KEYS: [Row; 3] = [POSE_EAST, POSE_NORTH, POSE_UP];
 
 pub const GRID: Row = key_row!(36 in 1 "" "grid": Form::Object, Presence::With("regions"));
 
@@ -285,7 +308,7 @@ pub static REGION_NUMBERS: [Row; 5] = [
 ];
 
 /// The table, in the order of the checks.
-static KEYS: [Row; 56] = [
+static KEYS: [Row; 61] = [
     TOP,
     VERSION,
     DISPARITIES,
@@ -323,6 +346,11 @@ static KEYS: [Row; 56] = [
     MOUNT,
     NEAR,
     FAR,
+    POSE,
+    POSE_MATRIX,
+    POSE_EAST,
+    POSE_NORTH,
+    POSE_UP,
     GRID,
     WEST,
     SOUTH,

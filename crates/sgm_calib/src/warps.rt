@@ -14,7 +14,7 @@ ghost use Rattle.sgm_calib.specs.WarpKeys.{kind_of, rows_of_kind, shape_keys, me
 use crate::checks::{check_numbers, check_object, count_at, key_at, text};
 use crate::keys::{CalibError, CalibFault};
 use crate::kind::{Kind, kind_named};
-use crate::lists::{Amount, number, numbers, pairs};
+use crate::lists::{Amount, nine, numbers, pairs};
 use crate::place::{PLAIN, Place, RIGHT_SIDE};
 use crate::sort::Sort;
 use crate::table::{KIND, LEFT, MATRIX, NODES, Row, SHAPE_KEYS, SIDES, WARP};
@@ -57,12 +57,7 @@ fn matrix(side: &Value, place: Place) -> Result<[i64; 9], CalibFault>
     ensures fault { IfErr result
         (λ f. numbers_fault place (view side.now) table.side_matrix (Exactly 9) ≡ Some f) }
 {
-    let items = numbers(side, &MATRIX, place, Amount::Exactly(9))?;
-    let mut entries = [0; 9];
-    for index in 0..9 {
-        entries[index] = number(&items[index]);
-    }
-    Ok(entries)
+    nine(side, &MATRIX, place)
 }
 
 /// The step, the columns and the rows of a side that is a mesh, where they have no fault.

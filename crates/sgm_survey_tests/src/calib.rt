@@ -89,6 +89,7 @@ fn paths_of_keys(rt: HostRuntime) {
         (49, "regions[", "].base"),
         (50, "penalties.adapt", ""),
         (51, "disparities.fine", ""),
+        (55, "pose.matrix", ""),
         (255, "", ""),
     ] {
         let key = Key {

@@ -12,7 +12,7 @@ use Rattle.sgm_calib.specs.Table.{keys, rows_in, is_known}
 use Rattle.sgm_calib.specs.Checks.{number_in, text_in, object_fault, elements, sort_of}
 use Rattle.sgm_calib.specs.WarpKeys.{warps_fault, warp_in}
 use Rattle.sgm_calib.specs.RegionKeys.{regions_fault, regions_in}
-use Rattle.sgm_calib.specs.Judge.{rule_in, version_fault, itself_fault, section_fault, top_fault, entries_fault, camera_in, grid_in, gridding_in, columns_in, judged}
+use Rattle.sgm_calib.specs.Judge.{rule_in, version_fault, itself_fault, section_fault, top_fault, entries_fault, camera_in, pose_in, grid_in, gridding_in, columns_in, judged}
 use Rattle.sgm_calib.proofs.laws.plain_text.Goals as goal
 
 abbrev text : List ℕ
@@ -25,5 +25,5 @@ is_ascii bytes tested =
     (AllPass-from_list_all (λ byte. nat_lt byte 128) bytes tested))
 
 pub returns : goal.returns
-unfolding serde_json_on_literals keys rows_in is_known number_in text_in object_fault elements warps_fault warp_in regions_fault regions_in sort_of rule_in version_fault itself_fault section_fault top_fault entries_fault camera_in grid_in gridding_in columns_in judged
+unfolding serde_json_on_literals keys rows_in is_known number_in text_in object_fault elements warps_fault warp_in regions_fault regions_in sort_of rule_in version_fault itself_fault section_fault top_fault entries_fault camera_in pose_in grid_in gridding_in columns_in judged
 returns c = value _ (record { text = IsUtf8-from_ascii text (is_ascii text refl); value = refl }) refl

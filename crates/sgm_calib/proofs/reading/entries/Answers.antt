@@ -7,6 +7,7 @@ invariant_of-result c = record {
   left_kept = c.in_ok-left.ensures.left_kept;
   right_kept = c.in_ok-left.ensures.right_kept;
   camera_kept = c.in_ok-camera.ensures.kept;
+  pose_kept = c.in_ok-pose.ensures.kept;
   grid_kept = c.in_ok-grid.ensures.kept;
   gridding_kept = c.gridding.ensures.kept;
   grid_has_camera = grid_has_camera (view c.args.top.now) c.in_ok-grid.grid c.in_ok-camera.camera c.in_ok-grid.ensures.value c.in_ok-camera.ensures.asked;

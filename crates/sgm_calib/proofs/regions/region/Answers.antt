@@ -1,4 +1,4 @@
-use Rattle.std.proofs.Common.{◌≡◌, IsTrue, rules, ℕ, ◌+◌, ◌≤◌, Bool, true, false, not, List, Option, None, Some, ap, subst, sym, ◌∙◌}
+use Rattle.std.proofs.Common.{◌≡◌, IsTrue, rules, ℕ, ◌+◌, ◌≤◌, true, false, Option, Some, ap, subst, sym, ◌∙◌}
 use Rattle.std.proofs.lemmas.Result.{err_from_is_err_and}
 use Rattle.serde_json.specs.View.{view}
 use Rattle.sgm_report.specs.Areas.{IsRegionName, has_base}
@@ -6,7 +6,7 @@ use Rattle.sgm_calib.specs.declared.keys.CalibFault.{CalibFault}
 use Rattle.sgm_calib.specs.declared.keys.CalibFault.TheVariants.{Range}
 use Rattle.sgm_calib.specs.declared.place.Place.{Place}
 use Rattle.sgm_calib.specs.Checks.{IsFaultOf}
-use Rattle.sgm_calib.specs.RegionKeys.{area_in, parts_fault, region_fault, outline_fault, region_place}
+use Rattle.sgm_calib.specs.RegionKeys.{area_in, region_fault, outline_fault, region_place}
 use Rattle.sgm_calib.proofs.RegionLemmas.{base-right, base-wrong, outlined, same_base}
 use Rattle.sgm_calib.proofs.regions.region.Goals as goal
 

@@ -1,7 +1,7 @@
 use Rattle.std.proofs.Common.{◌≡◌, ℕ, ◌<◌, pos, map, length, get_or}
 use Rattle.serde_json.specs.View.{view}
 use Rattle.sgm_calib.proofs.ListLemmas.{amount}
-use Rattle.sgm_calib.proofs.warps.matrix.Given as goal
+use Rattle.sgm_calib.proofs.lists.nine.Given as goal
 
 abbrev pub invariant-loop-index : goal.invariant-loop-index
 invariant-loop-index l =
