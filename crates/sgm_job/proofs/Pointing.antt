@@ -9,7 +9,7 @@ use Rattle.std.proofs.Math.Nat.{mul-le-mul_right}
 use Rattle.sgm_base.specs.Values.{Values, row_of, value_at}
 use Rattle.sgm_base.specs.declared.point.Point.{Point}
 use Rattle.sgm_census.proofs.InWindow.{get_or-row_of}
-use Rattle.sgm_height.specs.declared.camera.Camera.{Camera}
+use Rattle.sgm_height.specs.declared.station.Station.{Station}
 use Rattle.sgm_grid.specs.Binning.{Binned, with_point}
 use Rattle.sgm_job.specs.Heights.{point_at, points_of_row}
 
@@ -81,13 +81,13 @@ same_points f g a (suc n) h =
     rw (here, rest) refl
 
 -- the points of a row of the map are those of its pixels
-pub row_points : (camera : Camera) (first : ℤ) (map : Values) (y n : ℕ) (row : List (Option ℕ)) → y < map.height → row ≡ row_of map y → n ≡ map.width
-    → filter_map (λ x. option_and_then (point_at camera first x y) (get_or row x None)) (range_with_len 0 n) ≡ points_of_row camera first map y
-row_points camera first map y n row inside is wide =
-    ap (λ k. filter_map (λ x. option_and_then (point_at camera first x y) (get_or row x None)) (range_with_len 0 k)) wide
-    ∙ ap (λ r. filter_map (λ x. option_and_then (point_at camera first x y) (get_or r x None)) (range_with_len 0 map.width)) is
-    ∙ same_points (λ x. option_and_then (point_at camera first x y) (get_or (row_of map y) x None)) (λ x. option_and_then (point_at camera first x y) (value_at map x y)) 0 map.width
-    (λ x l. ap (option_and_then (point_at camera first x y)) (get_or-row_of map x y (omega arith) inside))
+pub row_points : (station : Station) (first : ℤ) (map : Values) (y n : ℕ) (row : List (Option ℕ)) → y < map.height → row ≡ row_of map y → n ≡ map.width
+    → filter_map (λ x. option_and_then (point_at station first x y) (get_or row x None)) (range_with_len 0 n) ≡ points_of_row station first map y
+row_points station first map y n row inside is wide =
+    ap (λ k. filter_map (λ x. option_and_then (point_at station first x y) (get_or row x None)) (range_with_len 0 k)) wide
+    ∙ ap (λ r. filter_map (λ x. option_and_then (point_at station first x y) (get_or r x None)) (range_with_len 0 map.width)) is
+    ∙ same_points (λ x. option_and_then (point_at station first x y) (get_or (row_of map y) x None)) (λ x. option_and_then (point_at station first x y) (value_at map x y)) 0 map.width
+    (λ x l. ap (option_and_then (point_at station first x y)) (get_or-row_of map x y (omega arith) inside))
 
 -- a row of a map that has more rows takes no more than is left
 pub row_fits : (y height width : ℕ) → y < height → width + y * width ≤ height * width

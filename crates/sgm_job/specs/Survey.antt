@@ -26,7 +26,7 @@ use Rattle.sgm_grid.specs.Cells.{Cells}
 use Rattle.sgm_report.specs.Areas.{Area}
 use Rattle.sgm_report.specs.Tallies.{tally_of}
 use Rattle.sgm_report.specs.declared.volumes.RegionTally.{RegionTally}
-use Rattle.sgm_calib.specs.Calibration.{Calibration}
+use Rattle.sgm_calib.specs.Calibration.{Calibration, station_of}
 use Rattle.sgm_job.specs.Heights.{grid_of}
 use Rattle.sgm_job.specs.declared.job.SurveyFault.{SurveyFault}
 use Rattle.sgm_job.specs.declared.job.SurveyFault.TheVariants as fault
@@ -98,7 +98,7 @@ pub record Survey : Type 0 where
 
 -- the grid of the points that a map shows, where one is asked for
 abbrev pub measured : Calibration → Values → Option Cells
-measured calib disp = grid_of calib.camera calib.grid calib.gridding.keep calib.span.first disp
+measured calib disp = grid_of (station_of calib) calib.grid calib.gridding.keep calib.span.first disp
 
 -- the same with its bridges
 abbrev pub ground : Calibration → Values → Option Cells

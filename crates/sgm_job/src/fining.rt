@@ -23,146 +23,111 @@ enum Step {
     Mean,
 }
 
-/// Writes what a step makes of the row `y`.
-fn make_row(
+/// A step and what it reads: the planes, the map as it was, and the disparities that are tried.
+#[derive(Clone, Copy)]
+struct Making<'a> {
     step: Step,
-    left: &Plane,
-    right: &Plane,
-    map: &DispMap,
+    left: &'a Plane,
+    right: &'a Plane,
+    map: &'a DispMap,
     span: Span,
-    y: u32,
-    into: &mut [Option<u16>],
-)
-    requires row { y < map.now.height }
-    requires into_length { length into.old ≡ map.now.width }
-    ensures { EachIndex into.new
-        (λ x. slice_index_or into.new x None ≡ made_at step left.now right.now map.now span x y) }
+}
+
+/// Writes what a step makes of the row `y`.
+fn make_row(making: &Making, y: u32, into: &mut [Option<u16>])
+    requires row { y < making.now.map.now.height }
+    requires into_length { length into.old ≡ making.now.map.now.width }
+    ensures { EachIndex into.new (λ x. slice_index_or into.new x None
+        ≡ made_at making.now.step making.now.left.now making.now.right.now making.now.map.now
+        making.now.span x y) }
 {
-    match step {
-        Step::Finer => finer_row(left, right, map, span, y, into),
-        Step::Mean => mean_row(map, y, into),
+    match making.step {
+        Step::Finer => finer_row(making.left, making.right, making.map, making.span, y, into),
+        Step::Mean => mean_row(making.map, y, into),
     }
 }
 
 /// Writes what a step makes of one of the rows from `first` on to its place among them.
-fn make_at(
-    step: Step,
-    left: &Plane,
-    right: &Plane,
-    map: &DispMap,
-    span: Span,
-    first: u32,
-    place: u32,
-    into: &mut [Option<u16>],
-)
-    requires row { first + place < map.now.height }
-    requires inside { (place + 1) * map.now.width ≤ length into.old }
-    ensures { HoldsMade step left.now right.now map.now span first place into.old
-        → HoldsMade step left.now right.now map.now span first (place + 1) into.new }
+fn make_at(making: &Making, first: u32, place: u32, into: &mut [Option<u16>])
+    requires row { first + place < making.now.map.now.height }
+    requires inside { (place + 1) * making.now.map.now.width ≤ length into.old }
+    ensures { HoldsMade making.now.step making.now.left.now making.now.right.now making.now.map.now
+        making.now.span first place into.old
+        → HoldsMade making.now.step making.now.left.now making.now.right.now making.now.map.now
+        making.now.span first (place + 1) into.new }
 {
-    let width = map.size().width as usize;
+    let width = making.map.size().width as usize;
     let (_, rest) = into.split_at_mut(place as usize * width);
     let (here, _) = rest.split_at_mut(width);
-    make_row(step, left, right, map, span, first + place, here);
+    make_row(making, first + place, here);
 }
 
 /// Writes what a step makes of so many rows from `first` on.
-fn make_rows(
-    step: Step,
-    left: &Plane,
-    right: &Plane,
-    map: &DispMap,
-    span: Span,
-    first: u32,
-    rows: u32,
-    into: &mut [Option<u16>],
-)
-    requires rows { first + rows ≤ map.now.height }
-    requires whole { length into.old ≡ rows * map.now.width }
-    ensures { HoldsMade step left.now right.now map.now span first rows into.new }
+fn make_rows(making: &Making, first: u32, rows: u32, into: &mut [Option<u16>])
+    requires rows { first + rows ≤ making.now.map.now.height }
+    requires whole { length into.old ≡ rows * making.now.map.now.width }
+    ensures { HoldsMade making.now.step making.now.left.now making.now.right.now making.now.map.now
+        making.now.span first rows into.new }
 {
     for place in 0..rows {
-        make_at(step, left, right, map, span, first, place, into);
+        make_at(making, first, place, into);
     }
 }
 
 /// What a step makes of a strip's rows.
 fn make_strip(
     alloc: Global,
-    step: Step,
-    left: &Plane,
-    right: &Plane,
-    map: &DispMap,
-    span: Span,
+    making: &Making,
     cut: Cut,
     strip: u32,
 ) -> Result<Vec<Option<u16>>, AllocError>
-    requires height { cut.height ≡ map.now.height }
+    requires height { cut.height ≡ making.now.map.now.height }
     requires strip { strip < cut.strips }
     ensures { IfOk result (λ rows. rows.items
-        ≡ rows_of_strip (made step left.now right.now map.now span) cut strip) }
+        ≡ rows_of_strip (made making.now.step making.now.left.now making.now.right.now
+        making.now.map.now making.now.span) cut strip) }
 {
-    let width = map.size().width as usize;
+    let width = making.map.size().width as usize;
     let (first, rows) = (cut.first(strip), cut.rows(strip));
     let mut entries = vec![in alloc; None; rows as usize * width]?;
-    make_rows(
-        step,
-        left,
-        right,
-        map,
-        span,
-        first,
-        rows,
-        entries.as_mut_slice(),
-    );
+    make_rows(making, first, rows, entries.as_mut_slice());
     Ok(entries)
 }
 
 /// As [`make_strip`]; None where there is no memory.
-fn strip_at(
-    alloc: Global,
-    step: Step,
-    left: &Plane,
-    right: &Plane,
-    map: &DispMap,
-    span: Span,
-    cut: Cut,
-    strip: usize,
-) -> Option<Vec<Option<u16>>>
-    requires height { cut.height ≡ map.now.height }
+fn strip_at(alloc: Global, making: &Making, cut: Cut, strip: usize) -> Option<Vec<Option<u16>>>
+    requires height { cut.height ≡ making.now.map.now.height }
     requires strip { strip < cut.strips }
     ensures { IfSome result (λ rows. rows.items
-        ≡ rows_of_strip (made step left.now right.now map.now span) cut strip) }
+        ≡ rows_of_strip (made making.now.step making.now.left.now making.now.right.now
+        making.now.map.now making.now.span) cut strip) }
 {
-    make_strip(alloc, step, left, right, map, span, cut, strip as u32).ok()
+    make_strip(alloc, making, cut, strip as u32).ok()
 }
 
-/// What a step makes of each strip's rows.
+/// What a step makes of each strip's rows, each in its place, in at most so many threads.
 fn make_places<R: Threads + Sync>(
     rt: &R,
     alloc: Global,
-    step: Step,
-    left: &Plane,
-    right: &Plane,
-    map: &DispMap,
-    span: Span,
+    making: &Making,
     cut: Cut,
     threads: usize,
     places: &mut [Option<Vec<Option<u16>>>],
 )
     requires threads { 0 < threads }
-    requires height { cut.height ≡ map.now.height }
+    requires height { cut.height ≡ making.now.map.now.height }
     requires count { length places.old ≡ cut.strips }
     ensures count { length places.new ≡ cut.strips }
     ensures made { (strip : ℕ) (d : _) → strip < cut.strips
-        → IfSome (slice_index_or places.new strip d) (λ rows. rows.items ≡
-        rows_of_strip (made step left.now right.now map.now span) cut strip) }
+        → IfSome (slice_index_or places.new strip d) (λ rows. rows.items
+        ≡ rows_of_strip (made making.now.step making.now.left.now making.now.right.now
+        making.now.map.now making.now.span) cut strip) }
 {
     for_each_mut(
         rt,
         places,
         threads,
-        &|strip, place| { *place = strip_at(alloc, step, left, right, map, span, cut, strip) },
+        &|strip, place| { *place = strip_at(alloc, making, cut, strip) },
     );
 }
 
@@ -170,33 +135,19 @@ fn make_places<R: Threads + Sync>(
 fn made_map<R: Threads + Sync>(
     rt: &R,
     alloc: Global,
-    step: Step,
-    left: &Plane,
-    right: &Plane,
-    map: &DispMap,
-    span: Span,
+    making: &Making,
     cut: Cut,
     threads: usize,
 ) -> Result<DispMap, AllocError>
     requires threads { 0 < threads }
-    requires height { cut.height ≡ map.now.height }
-    ensures { IfOk result (λ m. m ≡ made step left.now right.now map.now span) }
+    requires height { cut.height ≡ making.now.map.now.height }
+    ensures { IfOk result (λ m. m ≡ made making.now.step making.now.left.now making.now.right.now
+        making.now.map.now making.now.span) }
 {
     let mut places = empty_places(alloc, cut.strips as usize)?;
-    make_places(
-        rt,
-        alloc,
-        step,
-        left,
-        right,
-        map,
-        span,
-        cut,
-        threads,
-        places.as_mut_slice(),
-    );
+    make_places(rt, alloc, making, cut, threads, places.as_mut_slice());
     let strips = all_of(alloc, places)?;
-    join_strips(alloc, map.size(), &strips)
+    join_strips(alloc, making.map.size(), &strips)
 }
 
 /// The map, made finer by the planes where `fine` is true, in at most so many threads.
@@ -219,26 +170,18 @@ pub(crate) fn finer_map<R: Threads + Sync>(
         return Ok(map);
     }
     let cut = Cut::even(map.size().height, strips);
-    let finer = made_map(
-        rt,
-        alloc,
-        Step::Finer,
+    let making = Making {
+        step: Step::Finer,
         left,
         right,
-        &map,
+        map: &map,
         span,
-        cut,
-        threads,
-    )?;
-    made_map(
-        rt,
-        alloc,
-        Step::Mean,
-        left,
-        right,
-        &finer,
-        span,
-        cut,
-        threads,
-    )
+    };
+    let finer = made_map(rt, alloc, &making, cut, threads)?;
+    let making = Making {
+        step: Step::Mean,
+        map: &finer,
+        ..making
+    };
+    made_map(rt, alloc, &making, cut, threads)
 }

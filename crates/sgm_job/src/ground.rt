@@ -100,13 +100,13 @@ pub(crate) fn ground_of(alloc: Global, calib: &Calib, map: &DispMap) -> Result<G
     ensures tallies { IfOk result
         (λ found. option_map (λ v. v.items) found.tallies ≡ tallies calib.now map.now) }
 {
-    let (Some(camera), Some(spec)) = (calib.camera(), calib.grid()) else {
+    let (Some(station), Some(spec)) = (calib.station(), calib.grid()) else {
         return Ok(Ground {
             grid: None,
             tallies: None,
         });
     };
     let gridding = calib.gridding();
-    let measured = heights(alloc, &camera, spec, gridding.keep, calib.span(), map)?;
+    let measured = heights(alloc, &station, spec, gridding.keep, calib.span(), map)?;
     ground_over(alloc, measured, gridding.bridge, calib.regions())
 }

@@ -2,7 +2,7 @@
 
 ghost use Rattle.std.specs.Prelude.{◌≡◌, ℕ, ◌+◌, ◌*◌, ◌≤◌, ◌<◌, ◌^◌, pos, ◌+ℤ◌, ◌*ℤ◌, IfOk, IfSome, fold, length, Option, option_and_then, slice_index_or, None};
 ghost use Rattle.std.specs.List.{filter_map, range_with_len};
-ghost use Rattle.sgm_height.specs.Camera.{IsCamera};
+ghost use Rattle.sgm_height.specs.Station.{IsStation};
 ghost use Rattle.sgm_base.specs.Ranges.{Within};
 ghost use Rattle.sgm_grid.specs.Cells.{IsGridSpec};
 ghost use Rattle.sgm_grid.specs.Binning.{HasRoom, with_point};
@@ -14,7 +14,7 @@ ghost use Rattle.sgm_job.specs.Heights.{point_at, points_of};
 
 use sgm_base::{DispMap, Point, Span};
 use sgm_grid::{Bins, Grid, GridSpec, Keep};
-use sgm_height::{Camera, point};
+use sgm_height::Station;
 use std::alloc::{AllocError, Global};
 
 /// The disparity in sixteenths of a pixel that a value of the map stands for.
@@ -28,39 +28,39 @@ fn sixteenths(first: i32, value: u16) -> i32
 }
 
 /// The point that a pixel shows, where it has a disparity and a point.
-fn pixel_point(camera: &Camera, first: i32, x: u32, y: u32, value: Option<u16>) -> Option<Point>
-    requires camera { IsCamera camera.now }
+fn pixel_point(station: &Station, first: i32, x: u32, y: u32, value: Option<u16>) -> Option<Point>
+    requires station { IsStation station.now }
     requires first { IsFirst first }
     requires x { x < MAX_SIDE }
     requires y { y < MAX_SIDE }
     requires value { IfSome value (λ v. v ≤ MAX_DISPARITY) }
-    ensures exact { result ≡ option_and_then (point_at camera.now first x y) value }
+    ensures exact { result ≡ option_and_then (point_at station.now first x y) value }
     ensures height { IfSome result (λ p. Within 2000000000 p.h) }
     ensures east { IfSome result (λ p. Within (2 ^ 60) p.x) }
     ensures north { IfSome result (λ p. Within (2 ^ 60) p.y) }
 {
     match value {
         None => None,
-        Some(value) => point(camera, x, y, sixteenths(first, value)),
+        Some(value) => station.point(x, y, sixteenths(first, value)),
     }
 }
 
 /// Adds the points of a row of disparities, each in sixteenths from the first disparity of the span
 /// on.
-fn add_row(camera: &Camera, span: Span, y: u32, row: &[Option<u16>], bins: &mut Bins)
-    requires camera { IsCamera camera.now }
+fn add_row(station: &Station, span: Span, y: u32, row: &[Option<u16>], bins: &mut Bins)
+    requires station { IsStation station.now }
     requires y { y < MAX_SIDE }
     requires width { length row.now ≤ MAX_SIDE }
     requires values { AtMost MAX_DISPARITY row.now }
     requires room { HasRoom bins.old (length row.now) }
     ensures value { bins.new ≡ fold with_point bins.old
-        (filter_map (λ x. option_and_then (point_at camera.now span.first x y)
+        (filter_map (λ x. option_and_then (point_at station.now span.first x y)
         (slice_index_or row.now x None))
         (range_with_len 0 (length row.now))) }
     ensures room { (more : ℕ) → HasRoom bins.old (more + length row.now) → HasRoom bins.new more }
 {
     for x in 0..row.len() {
-        if let Some(found) = pixel_point(camera, span.first, x as u32, y, row[x]) {
+        if let Some(found) = pixel_point(station, span.first, x as u32, y, row[x]) {
             bins.add(found);
         }
     }
@@ -68,35 +68,35 @@ fn add_row(camera: &Camera, span: Span, y: u32, row: &[Option<u16>], bins: &mut 
 
 /// Adds the points of a map of disparities.
 #[tactic(auto, unfolding(crate::specs::Heights::points_of))]
-fn add_points(camera: &Camera, span: Span, map: &DispMap, bins: &mut Bins)
-    requires camera { IsCamera camera.now }
+fn add_points(station: &Station, span: Span, map: &DispMap, bins: &mut Bins)
+    requires station { IsStation station.now }
     requires values { AtMost MAX_DISPARITY map.now.entries }
     requires room { HasRoom bins.old (map.now.height * map.now.width) }
-    ensures { bins.new ≡ fold with_point bins.old (points_of camera.now span.first map.now) }
+    ensures { bins.new ≡ fold with_point bins.old (points_of station.now span.first map.now) }
 {
     for y in 0..map.size().height {
-        add_row(camera, span, y, map.row(y), bins);
+        add_row(station, span, y, map.row(y), bins);
     }
 }
 
 /// The grid of a map of disparities: of each cell what it keeps of the points that fall into it.
 pub(crate) fn heights(
     alloc: Global,
-    camera: &Camera,
+    station: &Station,
     spec: GridSpec,
     keep: Keep,
     span: Span,
     map: &DispMap,
 ) -> Result<Grid, AllocError>
-    requires camera { IsCamera camera.now }
+    requires station { IsStation station.now }
     requires spec { IsGridSpec spec }
     requires values { AtMost MAX_DISPARITY map.now.entries }
     ensures { IfOk result (λ grid. grid
-        ≡ gridded keep spec (points_of camera.now span.first map.now)) }
+        ≡ gridded keep spec (points_of station.now span.first map.now)) }
 {
     // Known from here on: that it has at most 4096 x 4096 pixels.
     let _size = map.size();
     let mut bins = Bins::make(alloc, spec, keep)?;
-    add_points(camera, span, map, &mut bins);
+    add_points(station, span, map, &mut bins);
     bins.grid(alloc)
 }

@@ -13,9 +13,9 @@ join_strips-requires g c =
     let strips : c.cut.inside.strips ≡ cut.strips = ap (λ (k : CutParts). k.strips) c.cut.view_is in
     let new = c.make_places.new.places in
     let same = with_items_is c.in_ok-places.places new (omega (arith, c.in_ok-places.ensures, c.make_places.ensures.count, strips)) in
-    let whole = made c.args.step c.args.left.now c.args.right.now c.args.map.now c.args.span in
+    let whole = made c.args.making.now.step c.args.making.now.left.now c.args.making.now.right.now c.args.making.now.map.now c.args.making.now.span in
     let are =
-    rows_found (λ v. v.items) whole cut new c.in_ok-strips.strips.items kept c.requires.height (full_made c.args.step c.args.left.now c.args.right.now c.args.map.now c.args.span)
+    rows_found (λ v. v.items) whole cut new c.in_ok-strips.strips.items kept c.requires.height (full_made c.args.making.now.step c.args.making.now.left.now c.args.making.now.right.now c.args.making.now.map.now c.args.making.now.span)
     (c.in_ok-strips.ensures ∙ same) c.make_places.ensures.count c.make_places.ensures.made in
     record {
       rows = (
@@ -34,8 +34,8 @@ returns g c =
     let strips : c.cut.inside.strips ≡ cut.strips = ap (λ (k : CutParts). k.strips) c.cut.view_is in
     let new = c.make_places.new.places in
     let same = with_items_is c.in_ok-places.places new (omega (arith, c.in_ok-places.ensures, c.make_places.ensures.count, strips)) in
-    let whole = made c.args.step c.args.left.now c.args.right.now c.args.map.now c.args.span in
+    let whole = made c.args.making.now.step c.args.making.now.left.now c.args.making.now.right.now c.args.making.now.map.now c.args.making.now.span in
     let are =
-    rows_found (λ v. v.items) whole cut new c.in_ok-strips.strips.items kept c.requires.height (full_made c.args.step c.args.left.now c.args.right.now c.args.map.now c.args.span)
+    rows_found (λ v. v.items) whole cut new c.in_ok-strips.strips.items kept c.requires.height (full_made c.args.making.now.step c.args.making.now.left.now c.args.making.now.right.now c.args.making.now.map.now c.args.making.now.span)
     (c.in_ok-strips.ensures ∙ same) c.make_places.ensures.count c.make_places.ensures.made in
     c.join_strips.ensures.exact whole cut (subst (λ vs. AreRowsOf whole cut (map (λ v. v.items) vs)) (sym c.deref.ensures.value) are) c.size.ensures.width c.size.ensures.height

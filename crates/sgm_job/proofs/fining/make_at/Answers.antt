@@ -8,10 +8,10 @@ pub returns : goal.returns
 returns c before x r hx hr =
     let place = c.args.place in
     let w = c.width.inside.width in
-    let wide : w ≡ c.args.map.now.width = ap (λ (s : Sides). s.width) c.width.view_is ∙ c.size.ensures.width in
+    let wide : w ≡ c.args.making.now.map.now.width = ap (λ (s : Sides). s.width) c.width.view_is ∙ c.size.ensures.width in
     let here : length c.make_row.new.into ≡ w = omega (arith, c.make_row.auto.into, c.split_at_mut-here.ensures.front_len) in
     ap (λ n. get_or (c.split_at_mut-rest.result.0.now ++ (c.make_row.new.into ++ c.split_at_mut-here.result.1.now)) (r * n + x) None) (sym wide)
-    ∙ entries_more (λ x r. made_at c.args.step c.args.left.now c.args.right.now c.args.map.now c.args.span x (c.args.first + r)) w place c.args.into.now
+    ∙ entries_more (λ x r. made_at c.args.making.now.step c.args.making.now.left.now c.args.making.now.right.now c.args.making.now.map.now c.args.making.now.span x (c.args.first + r)) w place c.args.into.now
     c.split_at_mut-rest.result.0.now c.make_row.new.into c.split_at_mut-here.result.1.now
     c.split_at_mut-rest.ensures.front (c.split_at_mut-here.ensures.back ∙ ap (drop w) c.split_at_mut-rest.ensures.back) c.split_at_mut-rest.ensures.front_len here
     (λ z hz. c.make_row.ensures z hz)

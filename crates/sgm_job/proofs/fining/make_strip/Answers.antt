@@ -10,11 +10,11 @@ use Rattle.sgm_job.proofs.fining.make_strip.Goals as goal
 
 pub returns : goal.returns
 returns c =
-    let step = c.args.step in
-    let left = c.args.left.now in
-    let right = c.args.right.now in
-    let map = c.args.map.now in
-    let span = c.args.span in
+    let step = c.args.making.now.step in
+    let left = c.args.making.now.left.now in
+    let right = c.args.making.now.right.now in
+    let map = c.args.making.now.map.now in
+    let span = c.args.making.now.span in
     let cut = c.args.cut in
     let strip = c.args.strip in
     let kept = c.first-first.ensures.kept in

@@ -6,7 +6,7 @@ use Rattle.sgm_job.proofs.ground.ground_of.Goals as goal
 
 pub ground_over-requires-clause-regions : goal.ground_over-requires-clause-regions
 ground_over-requires-clause-regions c =
-    let points = points_of c.in-Some-Some.camera c.span.result.first c.args.map.now in
+    let points = points_of c.in-Some-Some.station c.span.result.first c.args.map.now in
     regions_inside c.args.calib.now c.in-Some-Some.spec c.in_ok-measured.measured.spec c.regions.result c.grid.ensures.kept
     (sym c.in-Some-Some.is-1 ∙ c.grid.ensures.value) c.regions.ensures.value
     (ap (λ (g : Cells). g.spec) c.in_ok-measured.ensures ∙ gridded_spec c.gridding-gridding.result.keep c.in-Some-Some.spec points)

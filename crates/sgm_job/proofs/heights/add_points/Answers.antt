@@ -13,8 +13,8 @@ loop-y-preserved c =
     let width = c.args.map.now.width in
     let wide : length c.row.result.now ≡ width = c.row.ensures.whole in
     record {
-      value = rows_more (points_of_row c.args.camera.now c.args.span.first c.args.map.now) c.loop-y.y c.args.bins.now c.loop-y.bins c.add_row.new.bins c.loop-y.invariant.value
-          (c.add_row.ensures.value ∙ ap (fold with_point c.loop-y.bins) (row_points c.args.camera.now c.args.span.first c.args.map.now c.loop-y.y _ c.row.result.now (omega (arith, high)) c.row.ensures.value wide));
+      value = rows_more (points_of_row c.args.station.now c.args.span.first c.args.map.now) c.loop-y.y c.args.bins.now c.loop-y.bins c.add_row.new.bins c.loop-y.invariant.value
+          (c.add_row.ensures.value ∙ ap (fold with_point c.loop-y.bins) (row_points c.args.station.now c.args.span.first c.args.map.now c.loop-y.y _ c.row.result.now (omega (arith, high)) c.row.ensures.value wide));
       room = λ more room.
           let next : more + (c.loop-y.y + 1) * width ≡ (more + length c.row.result.now) + c.loop-y.y * width = omega (arith, wide) in
           c.add_row.ensures.room more (c.loop-y.invariant.room (more + length c.row.result.now) (subst (λ (n : ℕ). HasRoom c.args.bins.now n) next room));

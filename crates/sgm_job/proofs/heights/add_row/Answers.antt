@@ -19,9 +19,9 @@ pixel_point-requires-clause-value c =
 
 pub loop-x-preserved : goal.loop-x-preserved
 loop-x-preserved c =
-    let f : ℕ → Option Point = λ x. option_and_then (point_at c.args.camera.now c.args.span.first x c.args.y) (get_or c.args.row.now x None) in
+    let f : ℕ → Option Point = λ x. option_and_then (point_at c.args.station.now c.args.span.first x c.args.y) (get_or c.args.row.now x None) in
     let first = ap (λ (s : Disparities). s.first) c.span.view_is in
-    let shifted = ap (λ z. option_and_then (point_at c.args.camera.now z c.loop-x.x c.args.y) (get_or c.args.row.now c.loop-x.x None)) (to_z-of_z w32 c.span.inside.first (grind (arith, ints, c.span.invariant)) ∙ first) in
+    let shifted = ap (λ z. option_and_then (point_at c.args.station.now z c.loop-x.x c.args.y) (get_or c.args.row.now c.loop-x.x None)) (to_z-of_z w32 c.span.inside.first (grind (arith, ints, c.span.invariant)) ∙ first) in
     record {
       value = elim c.match-pixel_point.branch [
         | in-Some w ↦ row_point f c.loop-x.x c.args.bins.now c.loop-x.bins c.match-pixel_point.bins w.in-Some.found c.loop-x.invariant.value (w.in-Some.ensures.exact ∙ shifted) (w.bins-is ∙ w.add.ensures.value)

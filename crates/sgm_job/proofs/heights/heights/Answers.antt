@@ -17,7 +17,7 @@ add_points-requires-clause-room c =
 
 pub returns : goal.returns
 returns c =
-    let points = points_of c.args.camera.now c.args.span.first c.args.map.now in
+    let points = points_of c.args.station.now c.args.span.first c.args.map.now in
     if_ok c.grid.result
     (λ g e. e
     ∙ ap grid_in (c.add_points.ensures ∙ ap (λ (b : Binned). fold with_point b points) c.in_ok-bins.ensures.value)
