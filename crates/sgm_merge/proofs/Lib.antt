@@ -1,0 +1,9 @@
+pub mod Cellwise
+pub mod Corners
+pub mod Entries
+pub mod Numbers
+pub mod Orders
+pub mod Places
+pub mod SharedRows
+pub mod Totals
+pub mod Writing

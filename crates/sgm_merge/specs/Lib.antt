@@ -1,0 +1,5 @@
+pub mod Fits
+pub mod Merged
+pub mod Merging
+pub mod Sharing
+pub mod Tallies
