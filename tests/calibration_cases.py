@@ -83,7 +83,7 @@ def changed(base, *changes):
         if value is MISSING:
             del part[last]
         else:
-            part[last] = value
+            part[last] = copy.deepcopy(value)
     return made
 
 
@@ -414,6 +414,171 @@ def outline_faults():
     yield "outline", third(("grid.outline", triangle)), "grid has an unknown name"
 
 
+# Matrices of a pose
+
+ONE = 2**30
+UPRIGHT = [ONE, 0, 0, 0, ONE, 0, 0, 0, ONE]
+QUARTER_TURN = [0, -ONE, 0, ONE, 0, 0, 0, 0, ONE]
+# The north of a site for a camera whose picture's upper side leans towards it: by 3, 4 and 5.
+TILT = [ONE, 0, 0, 0, 858993459, -644245094, 0, 644245094, 858993459]
+MIRRORED = [ONE, 0, 0, 0, -ONE, 0, 0, 0, ONE]
+POSE = {"matrix": TILT, "east": 3, "north": -1, "up": 7}
+
+
+def with_numbers(matrix, **numbers):
+    """The matrix with other numbers in some places, which are named m0 to m8."""
+    return [numbers.get(f"m{at}", number) for at, number in enumerate(matrix)]
+
+
+def upright(**numbers):
+    return with_numbers(UPRIGHT, **numbers)
+
+
+def cycled(matrix, times):
+    """The same for the axes in another order: the rows and the columns go round together."""
+    order = [(at - times) % 3 for at in range(3)]
+    return [matrix[3 * row + col] for row in order for col in order]
+
+
+def axes_at(at, number):
+    """A matrix in which each axis lies along another one, with that number in one place."""
+    row, col = at // 3, at % 3
+    made = [0] * 9
+    for other in range(3):
+        made[3 * other + (col - row + other) % 3] = ONE
+    made[at] = number
+    return made
+
+
+# The square of the first row's length is that of 1 and 2^45 more, and that of 1 less 2^45.
+LONG = [ONE, 2**22, 2**22, -(2**22), ONE, 0, -(2**22), 0, ONE]
+SHORT = [255 * 2**22, 22 * 2**22, 5 * 2**22, -92293702, 1069767908, 0, -20894223, -1802639, 1073536998]
+# An eighth of a turn whose rows are near enough to those of a rotation and whose columns aren't, and
+# the other way round.
+BY_ROWS = [759270978, -759250125, 0, 759270978, 759250125, 0, 0, 0, ONE]
+BY_COLUMNS = [759250125, -759250125, 0, 759270978, 759270978, 0, 0, 0, ONE]
+# Those that are nearly rotations and those that aren't: the worked rows, and for each length and
+# each product the very ends of what is accepted, and the next numbers beyond them.
+ROTATIONS = [UPRIGHT, QUARTER_TURN, TILT, MIRRORED, upright(m0=ONE - 16384), upright(m8=ONE - 16384)]
+ROTATIONS += [upright(m1=32768), upright(m5=-32768), upright(m1=5931641, m3=-5931641)]
+NO_ROTATIONS = [[0] * 9, upright(m0=ONE - 16385), upright(m8=ONE - 16385), upright(m1=32769)]
+NO_ROTATIONS += [upright(m5=-32769), upright(m1=2**23, m3=-(2**23))]
+NO_ROTATIONS += [upright(m1=5931642, m3=-5931642), upright(m0=ONE + 1)]
+ROTATIONS += [upright(**{f"m{at}": way * 32768}) for at in (1, 2, 5, 7) for way in (1, -1)]
+NO_ROTATIONS += [upright(**{f"m{at}": way * 32769}) for at in (2, 3, 5, 6) for way in (1, -1)]
+for way_round in range(3):
+    ROTATIONS += [cycled(LONG, way_round), cycled(SHORT, way_round)]
+    NO_ROTATIONS.append(cycled(with_numbers(LONG, m1=2**22 + 1), way_round))
+    NO_ROTATIONS.append(cycled(with_numbers(SHORT, m2=5 * 2**22 - 1), way_round))
+ROTATIONS += [BY_ROWS, [0, 0, ONE, ONE, 0, 0, 0, ONE, 0], [-ONE, 0, 0, 0, -ONE, 0, 0, 0, -ONE]]
+NO_ROTATIONS += [BY_COLUMNS, [ONE] * 9, [-ONE] * 9, [ONE, 0, 0, ONE, 0, 0, 0, 0, ONE]]
+NO_ROTATIONS += [[0, 0, 0, *UPRIGHT[3:]], [*UPRIGHT[:6], 0, 0, 0], [2 * it for it in UPRIGHT]]
+NO_ROTATIONS += [[it // 2 for it in UPRIGHT], [*UPRIGHT[:3], *UPRIGHT[:3], *UPRIGHT[6:]]]
+
+
+def posed(*changes):
+    """The example in version 3, with a pose."""
+    return third(("pose", POSE), *changes)
+
+
+def pose_faults():
+    """The pose, and what stands before and behind it."""
+    yield "pose", third(("pose", None)), "pose has the wrong type"
+    for wrong in ([], 0, 1.5, "", True, UPRIGHT, [POSE]):
+        yield "pose", third(("pose", wrong)), "pose has the wrong type"
+    yield "pose", third(("pose", {})), "pose.matrix is missing"
+    unknown = "pose has an unknown name"
+    for name in ("Matrix", "matrices", "mount", "rows", "pose", "grid", "east ", ""):
+        yield "pose", posed((f"pose.{name}", 0)), unknown
+    # An unknown name comes before the pose's own keys.
+    yield "pose", third(("pose", {"a": 0})), unknown
+    yield "pose", posed(("pose.a", 0), ("pose.matrix", None)), unknown
+    yield "pose", posed(("pose.a", 0), ("pose.east", MISSING)), unknown
+    for made in (first, second):
+        for value in (POSE, {}, None):
+            yield "pose", made(("pose", value)), "top has an unknown name"
+    yield "pose", second(("pose", POSE), ("camera", MISSING)), "top has an unknown name"
+    yield "pose", third(("Pose", POSE)), "top has an unknown name"
+    for name in ("matrix", "east", "north", "up"):
+        yield "pose", posed((name, POSE[name])), "top has an unknown name"
+    yield "pose", posed(("camera.up", 7)), "camera has an unknown name"
+    yield "pose", posed(("camera.pose", POSE)), "camera has an unknown name"
+    yield "pose", posed(("grid.east", 3)), "grid has an unknown name"
+
+
+def shift_faults():
+    """The three numbers by which a pose shifts, and the keys of a pose in their order."""
+    names = ("matrix", "east", "north", "up")
+    for at, name in enumerate(names):
+        path, wrong_type = f"pose.{name}", f"pose.{name} has the wrong type"
+        yield "shift", posed((path, MISSING)), f"{path} is missing"
+        faults = {MISSING: f"{path} is missing", None: wrong_type}
+        if name != "matrix":
+            for wrong in (0.0, 1.5, "0", None, False, [0], {}, 2**63):
+                yield "shift", posed((path, wrong)), wrong_type
+            for wrong in (-2000000001, 2000000001, 2**32, 2**63 - 1, -(2**63)):
+                yield "shift", posed((path, wrong)), f"{path} is out of range"
+            faults[2000000001] = f"{path} is out of range"
+        # Of two keys the one that comes first tells, whatever is wrong with the other.
+        for later in names[at + 1 :]:
+            for wrong, line in faults.items():
+                yield "shift", posed((path, wrong), (f"pose.{later}", None)), line
+    # A pose comes before the grid and the regions, and behind all of the camera and the warp.
+    for name, wrong, line in (
+        ("matrix", MISSING, "pose.matrix is missing"),
+        ("matrix", [0] * 9, "pose.matrix is out of range"),
+        ("up", None, "pose.up has the wrong type"),
+        ("up", 2000000001, "pose.up is out of range"),
+    ):
+        made = functools.partial(posed, (f"pose.{name}", wrong))
+        for more in (("grid", 0), ("grid.west", None), ("grid.keep", MISSING), ("regions", 0), ("grid", MISSING)):
+            yield "shift", made(more), line
+        yield "shift", made(("grid", MISSING), ("regions", MISSING)), line
+        yield "shift", made(("camera", MISSING)), "camera is missing"
+        yield "shift", made(("camera.far", 0)), "camera.far is out of range"
+        yield "shift", made(("camera.a", 0)), "camera has an unknown name"
+        yield "shift", made(("warp", 0)), "warp has the wrong type"
+
+
+def matrix_faults():
+    """The nine numbers of a pose, and whether they are nearly a rotation."""
+    wrong_type, outside = "pose.matrix has the wrong type", "pose.matrix is out of range"
+    for wrong in (None, 0, 1.5, "", "1", True, {}, {"0": ONE}):
+        yield "pose-matrix", posed(("pose.matrix", wrong)), wrong_type
+    for at, wrong in enumerate((0.5, 1073741824.0, "0", None, False, [], {}, 2**63, -(2**63) - 1)):
+        yield "pose-matrix", posed(("pose.matrix", [*TILT[:at], wrong, *TILT[at + 1 :]])), wrong_type
+    # A wrong element comes before a wrong number of them and before what is out of range.
+    for wrong in (0.5, None):
+        yield "pose-matrix", posed(("pose.matrix", [wrong])), wrong_type
+        yield "pose-matrix", posed(("pose.matrix", [*TILT, wrong])), wrong_type
+        yield "pose-matrix", posed(("pose.matrix", [ONE + 1, *TILT[1:8], wrong])), wrong_type
+    yield "pose-matrix", posed(("pose.matrix", [TILT[:3], TILT[3:6], TILT[6:]])), wrong_type
+    for wrong in ([], TILT[:1], TILT[:8], [*TILT, 0], [*TILT, ONE], TILT + TILT):
+        yield "pose-matrix", posed(("pose.matrix", wrong)), outside
+    for at in range(9):
+        # One of them is out of range by itself, though nearly a rotation.
+        for wrong in (ONE + 1, -ONE - 1):
+            yield "pose-matrix", posed(("pose.matrix", axes_at(at, wrong))), outside
+    for wrong in (2**32 + ONE, 2**33, 2**63 - 1, -(2**63)):
+        yield "pose-matrix", posed(("pose.matrix", upright(m0=wrong))), outside
+    for matrix in NO_ROTATIONS:
+        yield "pose-matrix", posed(("pose.matrix", matrix)), outside
+
+
+def missing_cameras():
+    """A pose needs a camera; where both a pose and a grid want it, it is missed once."""
+    line, both = "camera is missing", (("camera", MISSING), ("regions", MISSING))
+    yield "pose-camera", posed(("camera", MISSING)), line
+    yield "pose-camera", posed(*both), line
+    for pose in (POSE, None, {}, {"a": 0}, {**POSE, "matrix": [0] * 9}):
+        yield "pose-camera", third(*both, ("grid", MISSING), ("pose", pose)), line
+    yield "pose-camera", third(("camera", None), ("pose", POSE)), "camera has the wrong type"
+    yield "pose-camera", posed(("camera", None), ("pose", None)), "camera has the wrong type"
+    yield "pose-camera", posed(("camera", {}), ("pose", None)), "camera.focal is missing"
+    # Regions still need a grid, once the pose is found to be right.
+    yield "pose-camera", posed(("grid", MISSING)), "grid is missing"
+
+
 def warp_faults():
     yield "warp", changed(WHOLE, ("warp", [])), "warp has the wrong type"
     yield "warp", changed(WHOLE, ("warp", {})), "warp.left is missing"
@@ -507,6 +672,7 @@ def faults():
     """Triples of a name, a calibration and its line."""
     parts = (version_faults, adapt_faults, fine_faults, cells_faults, warp_faults, section_faults)
     parts += (number_faults, region_faults, order_faults, rise_faults, base_faults, outline_faults)
+    parts += (pose_faults, shift_faults, matrix_faults, missing_cameras)
     numbered = {}
     for name, made, line in itertools.chain.from_iterable(part() for part in parts):
         name = name.replace(".", "-")
@@ -542,6 +708,7 @@ def bounds():
             yield f"bound-cells-{keep}-{bridge}", third(*cells)
             yield f"bound-cells-{keep}-{bridge}-alone", third(*cells, ("regions", MISSING))
     yield from area_bounds()
+    yield from pose_bounds()
     yield "bound-near-and-far", changed(WHOLE, ("camera.near", 2000000000), ("camera.far", 2000000000))
     yield "bound-grid-long", changed(WHOLE, ("grid.cols", 4096))
     yield "bound-grid-one", changed(WHOLE, ("grid.cols", 1), ("grid.rows", 1), ("regions", MISSING))
@@ -559,6 +726,21 @@ def bounds():
         yield f"bound-nodes-{number}", warped("left", {**MESH, "nodes": MESH["nodes"][:-1] + [node]})
     large = {"kind": "mesh", "step": 1024, "cols": 2, "rows": 2, "nodes": [0, 0, 262144, 0, 0, 262144, 262144, 262144]}
     yield "bound-step", warped("left", large)
+
+
+def pose_bounds():
+    """The same with a pose."""
+    for number, matrix in enumerate(ROTATIONS):
+        yield f"bound-pose-{number}", posed(("pose.matrix", matrix))
+    for name in ("east", "north", "up"):
+        for end in (-2000000000, 2000000000, 0):
+            yield f"bound-pose-{name}-{end}", posed((f"pose.{name}", end))
+    bare = (("grid", MISSING), ("regions", MISSING))
+    yield "bound-pose-without-regions", posed(("regions", MISSING))
+    yield "bound-pose-alone", posed(*bare)
+    yield "bound-pose-alone-upright", posed(*bare, ("pose.matrix", UPRIGHT))
+    yield "bound-pose-first", {"pose": POSE, **third()}
+    yield "bound-pose-backwards", {**third(), "pose": dict(reversed(POSE.items()))}
 
 
 def area_bounds():

@@ -506,6 +506,37 @@ def points(draw):
     return page
 
 
+def axes_of(matrix):
+    east, north, up = (record(**dict(zip("xyh", map(whole, row)))) for row in matching.rows_of(matrix))
+    return record(east=east, north=north, up=up)
+
+
+def pose_of(pose):
+    return record(axes=axes_of(pose["matrix"]), **{name: whole(pose[name]) for name in ("east", "north", "up")})
+
+
+def poses(draw):
+    page = Page("poses", {"sgm_height.Pose": "site_point"})
+    one, half = 2**30, 2**29
+    identity, turn = [one, 0, 0, 0, one, 0, 0, 0, one], [0, -one, 0, one, 0, 0, 0, 0, one]
+    tilt = [one, 0, 0, 0, 858993459, -644245094, 0, 644245094, 858993459]
+    matrices = [identity, turn, tilt, [half, *identity[1:]], [-one, *identity[1:]], 9 * [0]]
+    for places in ((0, 16384), (0, 16385), (8, 16384), (8, 16385)):
+        matrices.append([entry - places[1] * (index == places[0]) for index, entry in enumerate(identity)])
+    matrices += [[one, off, *identity[2:]] for off in (32768, 32769, -32768, -32769)]
+    for matrix in matrices:
+        is_near = all(abs(off) <= 2**45 for off in inputs.from_rotation(matrix))
+        page.holds(f"is_nearly_rotation {axes_of(matrix)}", truth(is_near))
+    for matrix in matrices[:4]:
+        for _ in range(12):
+            shifts = (draw.choice([0, 7, -2000000000]), draw.randrange(-9, 9), draw.choice([0, 5, 2000000000]))
+            pose = {"matrix": matrix, **dict(zip(("east", "north", "up"), shifts))}
+            place = (draw.randrange(-9, 9), draw.choice([-(2**55), 3, 2**55]), draw.choice([-2000000000, -1, 0, 1, 2]))
+            found = option(matching.in_site(pose, place), point_of)
+            page.holds(f"site_point {pose_of(pose)} {point_of(place)}", found)
+    return page
+
+
 def natural_fields(path):
     """The names of a struct's fields that are natural numbers in the definitions, by its source."""
     with open(os.path.join(CRATES, path), encoding="utf-8") as file:
@@ -694,6 +725,7 @@ def settings_of(calibration):
         left=warp_of(calibration.left),
         right=warp_of(calibration.right),
         camera=option(calibration.camera, camera_of),
+        pose=option(calibration.pose, pose_of),
         grid=option(calibration.grid, spec_of),
         gridding=record(keep=calibration.keep.capitalize(), bridge=calibration.bridge),
         columns=COLUMNS_OF[calibration.version],
@@ -1007,8 +1039,8 @@ def lists(draw):
     return page
 
 
-PAGES = [energies, certificates, penalties, codes, selection, refinement, rectification, points, grids, readings, changes]
-PAGES += [reports, calibrations, words, texts, surveys, calls, lists]
+PAGES = [energies, certificates, penalties, codes, selection, refinement, rectification, points, poses, grids]
+PAGES += [readings, changes, reports, calibrations, words, texts, surveys, calls, lists]
 
 
 def write_pages(folder, is_wrong):

@@ -5,8 +5,8 @@
 
 A case has the file `words`, one word a line, and the files that the words name. The pictures are
 small and drawn from fixed numbers, so the cases are the same each time. They go over sizes, spans,
-windows, penalties, all versions, options, peaks and filling, warps, cameras, grids, regions, and the
-refusals; over certificates in all directions; and over the change between two grids. The last case is
+windows, penalties, all versions, options, peaks and filling, warps, cameras, poses, grids, regions, and
+the refusals; over certificates in all directions; and over the change between two grids. The last case is
 the example with the heap.
 """
 
@@ -133,7 +133,7 @@ def cases():
         yield good("third-version-" + name, width, height, 255, settings, "fill=1", deepest=2)
         if reference_inputs.TAKES_FINE:
             yield good("finer-" + name, width, height, 255, finer(settings), "fill=1", deepest=2)
-    versions = {**second_versions(), **third_versions(), **finer_versions(), **celled()}
+    versions = {**second_versions(), **third_versions(), **finer_versions(), **celled(), **sited()}
     for name, (maxval, seed, settings, options) in versions.items():
         yield good(name, 40, 30, maxval, settings, options, make=shapes, deepest=8, seed=seed)
     yield from refusals(left, right)
@@ -352,6 +352,46 @@ def celled():
     return made
 
 
+def sited():
+    """Surveys of version 3 in the frame of a site: cameras that look down, aslant and level, and such that mirror."""
+    regions = [region("all", 0, 0, 40, 32, 5000000), region("middle", 12, 10, 18, 14, -1), region("corner", 39, 0, 1, 1, 0)]
+    regions = calibration_cases.level(regions)
+    regions[0] |= {"rise_east": 100001, "rise_north": -50000}
+    regions[1]["outline"] = [-4000000, -3000000, 5000000, -3000000, 1000000, 7000000]
+    # What is east, what is north and what is up, as they lie in the picture.
+    most, one, upright, tilt = 2000000000, 2**30, calibration_cases.UPRIGHT, calibration_cases.TILT
+    eighth, level = [759250125, -759250125, 0, 759250125, 759250125, 0, 0, 0, one], [one, 0, 0, 0, 0, -one, 0, one, 0]
+    sixth, over = [one, 0, 0, 0, 929887697, -(2**29), 0, 2**29, 929887697], [0, 0, -one, 0, one, 0, one, 0, 0]
+    lean, wall = {"west": -10000000, "south": -16000000}, {"south": -20000000, "cell": 800000}
+    poses = {
+        "upright": (upright, (0, 0, 0), {}),
+        "shifted": (upright, (1000001, -2000001, 77), {}),
+        "far-shifted": (upright, (most, -most, 9), {"west": most - 10000000, "south": -most}),
+        "quarter-turn": (calibration_cases.QUARTER_TURN, (5, -7, 9), {}),
+        "eighth-turn": (eighth, (0, 0, 0), {}),
+        "tilt": (tilt, (1, 2, 3), lean),
+        "sixth-over": (sixth, (0, 0, 0), lean),
+        "level": (level, (0, 0, 0), wall),
+        "overhead": (over, (15000000, 0, 0), {"west": -1000000, "cell": 600000}),
+        "mirrored": (calibration_cases.MIRRORED, (0, 0, -1), {}),
+        "at-the-leeway": (calibration_cases.LONG, (0, 0, 0), {}),
+        "below-the-top": (tilt, (0, 0, most - 9000000), lean),
+        "above-the-bottom": (level, (0, 0, -most), wall),
+        "above-the-top": (upright, (0, 0, most), {}),
+    }
+    made = {}
+    for number, (name, (matrix, shift, sides)) in enumerate(poses.items()):
+        pose = {"matrix": matrix, **dict(zip(("east", "north", "up"), shift))}
+        size = grid(**{"cell": 500000, "cols": 40, "rows": 32, **sides})
+        sections = {"camera": camera(), "pose": pose, "grid": size, "regions": regions}
+        settings = {**third(True, first=2, window=(3, 3), penalties=(10, 500)), **sections}
+        options = "peak=6 strips=3" if number % 2 else "workers=4"
+        made[f"pose-{name}"] = (255, 110 + number % 3, with_cells(finer(settings), "mean", number % 3), options)
+    bare = {**third(False, first=2, window=(3, 3)), "camera": camera(), "pose": pose}
+    made["pose-without-grid"] = (255, 110, bare, "fill=1")
+    return made
+
+
 def finer_versions():
     """The same with finer disparities, where the program can make them."""
     if not reference_inputs.TAKES_FINE:
@@ -393,6 +433,7 @@ def certificates():
         "adapt-voids": (4095, shapes, second(True, window=(3, 5), penalties=(3, 90), warp=warps)),
         "third-version": (255, shapes, third(False, first=-2, penalties=(8, 30))),
         "third-version-voids": (65535, shapes, third(True, window=(9, 3), penalties=(3, 90), warp=warps)),
+        "pose": (255, shapes, {**third(True, penalties=(8, 30)), "camera": camera(), "pose": calibration_cases.POSE}),
         "equal-penalties": (1, shapes, calibration(window=small, penalties=(1, 1))),
         "no-codes": (255, shapes, calibration(window=small, warp=outside)),
         "even": (255, even, calibration(window=small, penalties=(5, 40))),

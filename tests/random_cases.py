@@ -15,7 +15,7 @@ that stands in the folder afterwards. The kinds of cases take turns:
     scenes        pairs of shapes at several disparities, mostly with penalties that follow the image, with peaks
                   and filling;
     cells         surveys of version 3 with grids in which cells keep the highest point or the mean, and are bridged,
-                  and with regions that have sloping bases and outlines;
+                  and with regions that have sloping bases and outlines, half of them in the frame of a site;
     traces        certificates of the pixels of such pairs in all directions, and of places beside them;
     changes       two grids' texts in any white space and case, of one ground or not, cut, with bytes or words
                   changed, and with numbers at the ends of their ranges and beyond;

@@ -9,6 +9,7 @@ import json
 import os
 
 import reference_inputs
+import reference_matching as matching
 
 # In the place of a file's bytes: a folder, or a link.
 FOLDER = object()
@@ -207,6 +208,7 @@ class Raw(str):
 # The ranges of the whole numbers, of a side of the warp and of a region by their last names.
 RANGES = {path.removeprefix("side.").removeprefix("region."): ends for path, ends in reference_inputs.RANGES.items()}
 RANGES["outline"] = (-reference_inputs.OUTLINE_MOST, reference_inputs.OUTLINE_MOST)
+RANGES["pose.matrix"] = (-reference_inputs.MATRIX_MOST, reference_inputs.MATRIX_MOST)
 ODD_VALUES = [
     *map(Raw, "1.0 1e0 -0 0.5 1e400 1e-400 -1 01 +1 .5 1. 1e 0x1 NaN Infinity true false null nul [] {} [1] {{ ] '1'".split()),
     *map(Raw, ['""', '"1"', '"\\u0031"', '"\\ud800"', '"\\ud83d\\ude00"', '"\\x"', '"a\tb"', '{"a":1}', "[[[]]]", "[1,]", "1 2"]),
@@ -230,7 +232,8 @@ def of_version(draw, version, name, section, sections):
 
 def settings(draw, first, count, versions=(1, 2, 3), **sections):
     made = Pairs()
-    version = draw.of(versions)
+    # Only version 3 has a pose.
+    version = 3 if sections.get("pose") is not None else draw.of(versions)
     made.put("version", version)
     # In version 3 disparities are mostly made finer, where the program can do that.
     is_fine = reference_inputs.TAKES_FINE and version == 3 and draw.chance(60)
@@ -295,6 +298,102 @@ def area_of(draw, region, grid):
     if draw.chance(60):
         made.append(("outline", outline_of(draw, region, grid)))
     return made
+
+
+def rotation_of(draw):
+    """A rotation, whose numbers were rounded: quarter turns and tilts by 3, 4 and 5 too."""
+    most, square = draw.of([1, 1, 3, 3, 30, 1000]), 0
+    while not square:
+        a, b, c, d = (draw.between(-most, most) for _ in range(4))
+        square = a * a + b * b + c * c + d * d
+    rows = [a * a + b * b - c * c - d * d, 2 * (b * c - a * d), 2 * (b * d + a * c)]
+    rows += [2 * (b * c + a * d), a * a - b * b + c * c - d * d, 2 * (c * d - a * b)]
+    rows += [2 * (b * d - a * c), 2 * (c * d + a * b), a * a - b * b - c * c + d * d]
+    return [matching.rounded(matching.ONE * it, square) for it in rows]
+
+
+def tilt_of(draw):
+    """A rotation of a camera that looks down, more or less, with any side of the picture northwards."""
+    turn, lean = draw.of([(1, 0), (1, 1), (0, 1), (1, -1), (3, 1), (20, 7)]), draw.between(-40, 40)
+    (a, d), (e, b) = turn, draw.of([(100, lean), (100, lean), (1, 0), (3, 1), (3, -1)])
+    around, over = a * a + d * d, e * e + b * b
+    cos, sin = a * a - d * d, 2 * a * d
+    level, steep = e * e - b * b, 2 * e * b
+    rows = [cos * over, -sin * level, sin * steep, sin * over, cos * level, -cos * steep]
+    rows += [0, steep * around, level * around]
+    return [matching.rounded(matching.ONE * it, around * over) for it in rows]
+
+
+# Changes of a matrix's number that nearly or just leave what is nearly a rotation.
+OFF = [1, 2, 1000, 16383, 16384, 16385, 32767, 32768, 32769]
+
+
+def bent(draw, matrix):
+    """The matrix with one or two numbers a little off, within their range."""
+    made = list(matrix)
+    for _ in range(draw.of([1, 1, 2])):
+        at = draw.below(9)
+        off = made[at] + draw.of([-1, 1]) * draw.of(OFF)
+        made[at] = max(-matching.ONE, min(matching.ONE, off))
+    return made
+
+
+def is_nearly_rotation(matrix):
+    return max(map(abs, reference_inputs.from_rotation(matrix))) <= reference_inputs.MATRIX_LEEWAY
+
+
+def matrix_of(draw):
+    """Nearly a rotation, mostly that of a camera that looks down; some mirror."""
+    rotation = draw.of([tilt_of, tilt_of, rotation_of])(draw)
+    if draw.chance(15):
+        row = 3 * draw.below(3)
+        rotation[row : row + 3] = [-it for it in rotation[row : row + 3]]
+    off = bent(draw, rotation)
+    return off if draw.chance(25) and is_nearly_rotation(off) else rotation
+
+
+def seen(camera, width, height, span):
+    """The points that some pixels of such a picture have at a disparity of the span in its middle,
+    and at both its ends if they are near."""
+    first, count = span
+    middle = max(1, first + count // 2)
+    disparities = {middle, max(2, first), max(2, first + count - 1)}
+    places = [(x, y) for x in (0, width // 2, width - 1) for y in (0, height // 2, height - 1)]
+    points = [matching.point(dict(camera), *it, 16 * d) for it in places for d in disparities]
+    return [it for it in points if it is not None]
+
+
+def pose_of(draw, camera, width, height, span):
+    """A pose in whose frame most points mostly have a height, at times at an end of the range."""
+    matrix, points = matrix_of(draw), seen(camera, width, height, span)
+    place = lambda: draw.of([0, draw.between(-99, 99), draw.between(-(10**7), 10**7)])
+    made = {"matrix": matrix, "east": place(), "north": place(), "up": place()}
+    if points and draw.chance(30):
+        # One of the points comes to an end of the heights, or to the next one beyond it.
+        up = matching.rounded(matching.times(matrix[6:9], draw.of(points)), matching.ONE)
+        end = matching.HEIGHT_MOST + draw.of([-1, 0, 0, 1])
+        shift = end - up if up > 0 else -end - up
+        made["up"] = max(-matching.HEIGHT_MOST, min(matching.HEIGHT_MOST, shift))
+    elif draw.chance(15):
+        name = draw.of(["east", "north", "up"])
+        made[name] = draw.of([-1, 1]) * draw.of([2000000000, 1999999999])
+    return Pairs(draw.shuffled(made.items()))
+
+
+def grid_about(draw, camera, pose, width, height, span):
+    """A grid of some cells about the places that such a picture shows, in the frame of the pose."""
+    points = [matching.in_site(dict(pose), it) for it in seen(camera, width, height, span)]
+    places = [it for it in points if it is not None]
+    if not places:
+        return grid_of(draw)
+    sides = [[place[axis] for place in places] for axis in (0, 1)]
+    wide = max(max(side) - min(side) for side in sides)
+    cell = min(10**9, wide // draw.between(2, 12) + 1)
+    begins = [min(side) - draw.of([0, 0, draw.below(cell)]) for side in sides]
+    counts = [min(16, 1 + (max(side) - begin) // cell) for side, begin in zip(sides, begins)]
+    west, south = (max(-2000000000, min(2000000000, begin)) for begin in begins)
+    numbers = [("west", west), ("south", south), ("cell", cell)]
+    return completed(draw, "grid", [*numbers, ("cols", counts[0]), ("rows", counts[1])])
 
 
 def warp_of(draw, width, height):
@@ -376,15 +475,18 @@ def regions_of(draw, grid):
     return made
 
 
-def sections_of(draw, width, height):
+def sections_of(draw, width, height, span):
     """The sections beside the settings, each there or not, as they may be together."""
-    made = {"warp": None, "camera": None, "grid": None, "regions": None}
+    made = {"warp": None, "camera": None, "pose": None, "grid": None, "regions": None}
     if draw.chance(60):
         made["warp"] = Pairs([("left", warp_of(draw, width, height)), ("right", warp_of(draw, width, height))])
     if draw.chance(75):
         made["camera"] = camera_of(draw)
+        if draw.chance(20):
+            made["pose"] = pose_of(draw, made["camera"], width, height, span)
         if draw.chance(90):
-            made["grid"] = grid_of(draw)
+            about = made["camera"], made["pose"], width, height, span
+            made["grid"] = grid_about(draw, *about) if made["pose"] else grid_of(draw)
             if draw.chance(80):
                 made["regions"] = regions_of(draw, made["grid"])
     return made
@@ -509,8 +611,48 @@ LATER_VALUES = {
         7,
     ],
 }
+# The same of what a pose has, and of the pose itself.
+POSE_VALUES = {
+    "east": [0, 2000000000, -2000000000, 2000000001, -2000000001, "0", Raw("null"), Raw("1.0"), True],
+    "pose": [Raw("null"), [], 0, {}, Raw('{"matrix":[]}'), Raw('{"up":0}')],
+    "matrix": [
+        [],
+        [2**30, 0, 0, 0, 2**30, 0, 0, 0],
+        [2**30, 0, 0, 0, 2**30, 0, 0, 0, 2**30],
+        [2**30, 0, 0, 0, 2**30, 0, 0, 0, 2**30, 0],
+        [2**30 + 1, 0, 0, 0, 2**30, 0, 0, 0, 2**30],
+        [0, 0, 2**30, 2**30, 0, 0, 0, -(2**30), 0],
+        [2**30, 0, 0, 0, 2**30, 0, 0, 0, Raw("1073741824.0")],
+        [2**30, 0, 0, 0, 2**30, 0, 0, 0, Raw("null")],
+        [[2**30, 0, 0], [0, 2**30, 0], [0, 0, 2**30]],
+        [2**63 - 1] * 9,
+        [-(2**63)] * 9,
+        [0] * 9,
+        [2**30] * 9,
+        Raw("null"),
+        "1",
+        1,
+    ],
+}
 RISES = [0, 1000000, -1000000, 1000001, -1000001, "0", True, Raw("null"), Raw("1.0"), [0]]
 LATER_VALUES |= {"region.rise_east": RISES, "region.rise_north": RISES}
+
+
+def put_pose(draw, whole):
+    """Puts in, changes or takes out the pose or something of it."""
+    pose = part_of(whole, "pose")
+    if not isinstance(pose, Pairs) or draw.chance(20):
+        whole[:] = [(key, value) for key, value in whole if key != "pose"]
+        if draw.chance(75):
+            whole.insert(draw.below(len(whole) + 1), ("pose", draw.of(POSE_VALUES["pose"])))
+        return
+    matrix, name = part_of(pose, "matrix"), draw.of(["matrix", "matrix", "east", "north", "up"])
+    values = POSE_VALUES.get(name, POSE_VALUES["east"])
+    if name == "matrix" and isinstance(matrix, list) and draw.chance(50):
+        values = [bent(draw, matrix)] if all(type(it) is int for it in matrix[:9]) and len(matrix) >= 9 else values
+    pose[:] = [(key, value) for key, value in pose if key != name]
+    if draw.chance(85):
+        pose.put(name, draw.of(values))
 
 
 def exchange(draw, whole):
@@ -541,6 +683,9 @@ def change(draw, whole):
         return
     if part_of(whole, "version") == 3 and draw.chance(30):
         put_later(draw, whole, draw.of(["region.rise_east", "region.rise_north", "region.outline"]))
+        return
+    if draw.chance(10 if part_of(whole, "pose") is None else 35):
+        put_pose(draw, whole)
         return
     if draw.chance(25):
         tighten(draw, whole)
@@ -584,9 +729,10 @@ def is_long(whole):
 def faulty_calibration(draw, width, height):
     while True:
         # All sections stand in it, so that each of them is changed at times.
-        grid = grid_of(draw)
+        grid, camera = grid_of(draw), camera_of(draw)
+        pose = pose_of(draw, camera, width, height, (0, 4)) if draw.chance(40) else None
         sides = Pairs([("left", warp_of(draw, width, height)), ("right", warp_of(draw, width, height))])
-        sections = {"warp": sides if draw.chance(70) else None, "camera": camera_of(draw), "grid": grid}
+        sections = {"warp": sides if draw.chance(70) else None, "camera": camera, "pose": pose, "grid": grid}
         whole = settings(draw, draw.between(-3, 3), draw.between(1, 6), **sections, regions=regions_of(draw, grid))
         for _ in range(draw.of([1, 1, 1, 1, 2, 3])):
             change(draw, whole)
@@ -841,7 +987,7 @@ def survey_case(draw):
     pair = pair_of(draw, width, height, shift)
     if draw.chance(8):
         pair[1] = pair_of(draw, *draw.of([(width + 1, height), (width, height + 1), (height, width)]), shift)[1]
-    sections = sections_of(draw, width, height)
+    sections = sections_of(draw, width, height, (first, count))
     if draw.chance(12):
         sides = [wrong_warp(draw, width, height), draw.of([warp_of, wrong_warp])(draw, width, height)]
         sections["warp"] = Pairs(zip(("left", "right"), draw.shuffled(sides)))
@@ -858,7 +1004,7 @@ def scene_case(draw):
     first, count = draw.between(-3, 4), draw.between(3, max(3, 4000 // (width * height)))
     maxval = draw.of([7, 100, 255, 255, 256, 1023, 65535])
     pair = [pgm(draw, width, height, maxval, samples) for samples in layered(draw, width, height, maxval, first, count)]
-    sections = sections_of(draw, width, height)
+    sections = sections_of(draw, width, height, (first, count))
     # In place of a third of version 1 too: its penalties don't follow the image.
     whole = settings(draw, first, count, versions=(2, 2, 3), **sections)
     p1 = draw.of([1, 1, 2, 3, 5])
@@ -894,7 +1040,12 @@ def cells_case(draw):
     maxval = draw.of([255, 255, 1023])
     pair = [pgm(draw, width, height, maxval, samples) for samples in layered(draw, width, height, maxval, first, count)]
     camera, grid = cells_below(draw, width, height, first + count // 2)
-    sections = {"camera": camera, "grid": grid, "regions": regions_of(draw, grid)}
+    sections = {"camera": camera, "pose": None}
+    if draw.chance(50):
+        about = width, height, (first, count)
+        sections["pose"] = pose_of(draw, camera, *about)
+        grid = grid_about(draw, camera, sections["pose"], *about)
+    sections |= {"grid": grid, "regions": regions_of(draw, grid)}
     whole = settings(draw, first, count, versions=(3,), **sections)
     small = Pairs([("width", 3), ("height", 3)])
     whole[:] = [(name, small if name == "census" else value) for name, value in whole]

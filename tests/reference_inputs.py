@@ -11,7 +11,7 @@ import json
 import re
 import sys
 
-from reference_matching import base_at
+from reference_matching import ONE, base_at, rows_of, times
 
 if hasattr(sys, "set_int_max_str_digits"):
     sys.set_int_max_str_digits(0)
@@ -188,6 +188,9 @@ RANGES = {
     "camera.mount": (0, 2000000000),
     "camera.near": (1, 2000000000),
     "camera.far": (1, 2000000000),
+    "pose.east": (-2000000000, 2000000000),
+    "pose.north": (-2000000000, 2000000000),
+    "pose.up": (-2000000000, 2000000000),
     "grid.west": (-2000000000, 2000000000),
     "grid.south": (-2000000000, 2000000000),
     "grid.cell": (1, 1000000000),
@@ -215,6 +218,12 @@ LATER = {"disparities.fine": (3,), "penalties.adapt": (2, 3), "grid.keep": (3,),
 # of an outline, each as two numbers up to so much on either side of 0.
 LATER |= {"region.rise_east": (3,), "region.rise_north": (3,), "region.outline": (3,)}
 OUTLINE_LENGTHS, OUTLINE_MOST = range(6, 2001, 2), 2000000000
+# The sections that the calibration has in every version, and those that only some versions have.
+SECTIONS = "version disparities census penalties warp camera grid regions".split()
+LATER_SECTIONS = {"pose": (3,)}
+# The nine numbers of a pose's matrix go so far on either side of 0, which stands for 1. Its rows are
+# nearly those of a rotation: from_rotation gives no more than the leeway for any of them.
+MATRIX_MOST, MATRIX_LEEWAY = ONE, 2**45
 
 
 def names_in(section, paths):
@@ -230,6 +239,21 @@ def keys_of(section):
 def later_of(section, version):
     """The names of what else an object has in this version."""
     return names_in(section, [path for path, versions in LATER.items() if version in versions])
+
+
+def sections_in(version):
+    """The names of what a calibration of this version may have."""
+    later = [name for name, versions in LATER_SECTIONS.items() if version in versions]
+    return [*SECTIONS, *later]
+
+
+def from_rotation(matrix):
+    """How far the nine numbers are from a rotation: by how much the square of each row's length
+    differs from that of 1, and the products of the first row and the second, of the first and the
+    third, and of the second and the third."""
+    a, b, c = rows_of(matrix)
+    lengths = [times(row, row) - ONE**2 for row in (a, b, c)]
+    return [*lengths, times(a, b), times(a, c), times(b, c)]
 
 
 def may_be_true(path):
@@ -255,7 +279,7 @@ class Calibration:
     is_adaptive = is_fine = False
     keep, bridge = "highest", 0
     left = right = {"kind": "identity"}
-    camera = grid = regions = None
+    camera = pose = grid = regions = None
 
 
 def parse_json(data):
@@ -377,6 +401,14 @@ def read_calibration(data):
             made["nodes"] = list_of_whole(side, path + ".nodes", lengths, 16777216)
         return made
 
+    def pose_of(parent):
+        """The rows of a rotation, one behind the other, and the place of the camera."""
+        names = ["matrix", *keys_of("pose")]
+        it = known(get(parent, "pose", dict), "pose", " ".join(names))
+        matrix = list_of_whole(it, "pose.matrix", [9], MATRIX_MOST)
+        in_range(all(abs(off) <= MATRIX_LEEWAY for off in from_rotation(matrix)), "pose.matrix")
+        return {"matrix": matrix, **numbers(it, "pose", "pose")}
+
     def region(value, path, grid, version):
         later = later_of("region", version)
         it = known(kind_of(value, dict, path), path, " ".join(["name", *keys_of("region"), *later]))
@@ -409,7 +441,7 @@ def read_calibration(data):
     version = get(top, "version", int)
     if not RANGES["version"][0] <= version <= RANGES["version"][1]:
         refused("unknown version")
-    known(top, "top", "version disparities census penalties warp camera grid regions")
+    known(top, "top", " ".join(sections_in(version)))
     made = Calibration()
     made.version = version
     disparities = section(top, "disparities", version)
@@ -423,8 +455,10 @@ def read_calibration(data):
     if "warp" in top:
         both = known(get(top, "warp", dict), "warp", "left right")
         made.left, made.right = warp(both, "warp.left"), warp(both, "warp.right")
-    if "camera" in top or "grid" in top:
+    if not {"camera", "pose", "grid"}.isdisjoint(top):
         made.camera = section(top, "camera", version)
+    if "pose" in top:
+        made.pose = pose_of(top)
     if "grid" in top or "regions" in top:
         made.grid = section(top, "grid", version)
         made.keep = made.grid.pop("keep", made.keep)

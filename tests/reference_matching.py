@@ -529,6 +529,36 @@ def point(camera, x, y, sixteenths):
     return across, up, camera["mount"] - depth
 
 
+# Places in a site's frame lie to the east, to the north and up from a point of the site. The rows of
+# a rotation stand there as multiples of 2^-30, and heights go so far on either side of 0.
+ONE, HEIGHT_MOST = 2**30, 2000000000
+
+
+def rows_of(matrix):
+    return matrix[0:3], matrix[3:6], matrix[6:9]
+
+
+def times(a, b):
+    """The product of two directions."""
+    return sum(one * other for one, other in zip(a, b))
+
+
+def in_site(pose, place):
+    """Where the site's frame has a point of the camera's, or None where it is too high or too low
+    there."""
+    turned = [rounded(times(row, place), ONE) for row in rows_of(pose["matrix"])]
+    east, north, up = [pose[name] + by for name, by in zip(("east", "north", "up"), turned)]
+    return (east, north, up) if -HEIGHT_MOST <= up <= HEIGHT_MOST else None
+
+
+def surveyed(calibration, x, y, sixteenths):
+    """The point of a pixel in the frame of the grid, or None where it has none."""
+    place = point(calibration.camera, x, y, sixteenths)
+    if place is None or calibration.pose is None:
+        return place
+    return in_site(calibration.pose, place)
+
+
 def mean_height(some):
     return rounded(sum(some), len(some)) if some else None
 
@@ -761,7 +791,7 @@ def survey(left_image, right_image, calibration, peak=0, fill=0, match=match_pla
     if calibration.grid is None:
         return found, None, None
     points = [
-        point(calibration.camera, x, y, 16 * calibration.first + value)
+        surveyed(calibration, x, y, 16 * calibration.first + value)
         for y, row in enumerate(found)
         for x, value in enumerate(row)
         if value is not None

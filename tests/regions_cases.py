@@ -513,7 +513,11 @@ def cases():
 # Calibrations
 
 # The numbers of the keys, as the program's faults have them.
-KEYS = {"top": 1, "grid": 36, "grid.bridge": 53, "regions[]": 43}
+KEYS = {"top": 1, "warp": 12, "camera": 27, "pose": 54, "pose.matrix": 55, "grid": 36}
+KEYS |= {"grid.keep": 52, "grid.bridge": 53, "regions": 42, "regions[]": 43}
+for section, number in (("camera", 28), ("pose", 56), ("grid", 37)):
+    for name in inputs.keys_of(section):
+        KEYS[f"{section}.{name}"], number = number, number + 1
 KEYS |= dict(zip(("name", "col", "row", "cols", "rows", "base"), range(44, 50)))
 KEYS |= {"rise_east": 59, "rise_north": 60, "outline": 61}
 WORDS = {"is missing": "missing", "has the wrong type": "type", "is out of range": "range"}
@@ -540,7 +544,7 @@ def told(section):
 def region_told(region):
     numbers = " ".join(str(region[key]) for key in ("col", "row", "cols", "rows", "base"))
     text = f" [{region['name']}] {numbers}"
-    rises = region["rise_east"], region["rise_north"]
+    rises = region.get("rise_east", 0), region.get("rise_north", 0)
     if rises != (0, 0):
         text += f" rises {rises[0]} {rises[1]}"
     if "outline" in region:
@@ -550,14 +554,27 @@ def region_told(region):
     return text
 
 
+def camera_told(made):
+    """What a calibration has of the ground, up to its grid."""
+    text = f" Camera {{ {told(made.camera)} }}"
+    if made.pose is not None:
+        shift = (made.pose[name] for name in ("east", "north", "up"))
+        text += " pose " + " ".join(map(str, [*made.pose["matrix"], *shift]))
+    if made.grid is not None:
+        text += f" GridSpec {{ {told(made.grid)} }} keep {made.keep} bridge {made.bridge}"
+    return text
+
+
 def calibration_told(made):
-    """A calibration of version 3 without warps as an answer of the kind `calib` tells it."""
+    """A calibration of version 3 with a camera and without warps as an answer of the kind `calib`
+    tells it."""
     window, penalties = f"{made.window[0]} {made.window[1]}", f"{made.p1} {made.p2}"
     fine, adapt = " fine" * made.is_fine, " adapt" * made.is_adaptive
     text = f"ok {made.first} {made.count} {window}{fine} smoothed {penalties}{adapt}"
-    text += f" identity identity Camera {{ {told(made.camera)} }} GridSpec {{ {told(made.grid)} }}"
-    text += f" keep {made.keep} bridge {made.bridge} regions {len(made.regions)}"
-    return text + "".join(map(region_told, shown(made.regions)))
+    text += " identity identity" + camera_told(made)
+    if made.regions is not None:
+        text += f" regions {len(made.regions)}" + "".join(map(region_told, shown(made.regions)))
+    return text
 
 
 def wide_calibrations():

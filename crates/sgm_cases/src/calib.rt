@@ -2,11 +2,12 @@
 //!
 //! The answer is `ok`, the least disparity and their number, the window's sides, `smoothed` where
 //! costs are made so, the penalties, `adapt` where they follow the image, and then each warp, the
-//! camera, the grid with what its cells keep and how far heights are bridged, and the regions with
-//! their names and numbers, `rises` with both where the base rises, and `outline` with its corners,
-//! where they are there, the camera and the grid field by field; or the fault with its key's
-//! number, index and path. Of more than eight nodes, regions or corners the last alone stands
-//! there, after their number.
+//! camera, `pose` with the nine numbers of its matrix by its rows and where it lies to the east, to
+//! the north and upwards, the grid with what its cells keep and how far heights are bridged, and
+//! the regions with their names and numbers, `rises` with both where the base rises, and `outline`
+//! with its corners, where they are there, the camera and the grid field by field; or the fault
+//! with its key's number, index and path. Of more than eight nodes, regions or corners the last
+//! alone stands there, after their number.
 
 use crate::escapes;
 use sgm_base::Span;
@@ -14,7 +15,7 @@ use sgm_calib::{Calib, CalibError, CalibFault, Key, read};
 use sgm_census::{CostRule, Window};
 use sgm_energy::Pen;
 use sgm_grid::{GridSpec, Gridding, Keep};
-use sgm_height::Camera;
+use sgm_height::{Axis, Camera, Pose};
 use sgm_rectify::Warp;
 use sgm_report::{BasePlane, Region};
 use std::alloc::{AllocError, Global};
@@ -149,6 +150,20 @@ fn push_camera(text: &mut String, camera: Camera) -> Result<(), AllocError> {
     write!(text, " {camera:?}")
 }
 
+fn push_axis(text: &mut String, axis: Axis) -> Result<(), AllocError> {
+    let (x, y, h) = (axis.x, axis.y, axis.h);
+    write!(text, " {x} {y} {h}")
+}
+
+fn push_pose(text: &mut String, pose: Pose) -> Result<(), AllocError> {
+    text.push_str(" pose")?;
+    push_axis(text, pose.axes.east)?;
+    push_axis(text, pose.axes.north)?;
+    push_axis(text, pose.axes.up)?;
+    let (east, north, up) = (pose.east, pose.north, pose.up);
+    write!(text, " {east} {north} {up}")
+}
+
 fn push_grid(text: &mut String, grid: GridSpec) -> Result<(), AllocError> {
     write!(text, " {grid:?}")
 }
@@ -166,6 +181,9 @@ fn push_gridding(text: &mut String, gridding: Gridding) -> Result<(), AllocError
 fn push_ground(text: &mut String, calib: &Calib) -> Result<(), AllocError> {
     if let Some(camera) = calib.camera() {
         push_camera(text, camera)?;
+    }
+    if let Some(pose) = calib.pose() {
+        push_pose(text, pose)?;
     }
     if let Some(grid) = calib.grid() {
         push_grid(text, grid)?;

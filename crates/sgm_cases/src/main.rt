@@ -17,6 +17,7 @@ mod kernel;
 mod line;
 mod mean;
 mod parts;
+mod point;
 mod regions;
 mod rows;
 mod run;
@@ -41,6 +42,7 @@ fn answer<R: Threads + Sync>(
         "fine" => fine::answer(alloc, rest),
         "kernel" => kernel::answer(alloc, rest),
         "mean" => mean::answer(alloc, rest),
+        "point" => point::answer(alloc, rest),
         "regions" => regions::answer(alloc, rest),
         "run" => run::answer(rt, alloc, rest),
         "words" => words::answer(alloc, rest),
