@@ -9,20 +9,30 @@ their names; bases are typed and taken from the mean of the ground. What the pag
 and with what this script counts in OUT.asc, digit by digit. Pages of other surveys have to warn of what is wrong
 with them, and a page of a difference is drawn on as well. The words of an outline that was drawn on examples/slope
 go through tools/opencv_calibration.py into a calibration, by which its pair is matched again: by the program that
-the variable SGM names, or else by the separate implementation. Nothing may be fetched, and the browser may not
-complain. Without --screenshot the picture goes into a new file, whose name is printed. Takes a minute.
+the variable SGM names, or else by the separate implementation. The same pair with a pose is counted on too, and
+control points are set on its left picture by mouse and by keyboard, whose table has to be the expected one.
+The example's survey of version 3 shows numbers of points and spreads, which are counted here too, its legend, scale
+bar and north arrow, and volumes above its ground as tools/cubic_metres.py has them; the picture is of this page.
+Pages are printed to PDF, which has to be A4 and one or two sheets with nothing cut off.
+Nothing may be fetched, and the browser may not complain. Without --screenshot the picture goes into a new file,
+whose name is printed. Takes a minute or two.
 """
 
 import argparse
+import base64
+import csv
 import json
 import math
 import os
 import random
+import re
 import shutil
+import statistics
 import subprocess
 import sys
 import tempfile
 import types
+import urllib.parse
 
 HERE = os.path.dirname(os.path.abspath(__file__))
 TOP = os.path.dirname(HERE)
@@ -31,6 +41,7 @@ SLOPE = os.path.join(TOP, "examples", "slope")
 sys.path.insert(0, os.path.join(TOP, "tools"))
 
 import opencv_calibration
+import reference_matching
 import sgm_files
 import sgm_regions
 import survey_page
@@ -39,6 +50,13 @@ from sgm_files import Wrong, numpy
 webdriver = sgm_files.package("selenium.webdriver")
 EMPTY = -(2**31)
 SIZE = (1280, 1180)
+# Of the window for the picture, so that the map is on it whole.
+PICTURED = (1280, 1560)
+# The page warns where heights aren't those of the map's points, as those of made-up surveys here aren't.
+STRANGE = "isn't that of the points of OUT.pgm"
+# A4 in points of 1/72 inch, and what its width leaves between the margins of 12 mm, in CSS pixels.
+SHEET = (210 / 25.4 * 72, 297 / 25.4 * 72)
+BETWEEN = round((210 - 2 * 12) / 25.4 * 96)
 
 
 def browser():
@@ -116,8 +134,20 @@ class Page:
         """The line for the calibration."""
         return json.loads(self.element("json").get_attribute("value"))
 
-    def warnings(self, key="warnings"):
-        return [it.text for it in self.element(key).find_elements("tag name", "li")]
+    def warnings(self, key="warnings", of_map=False):
+        """What the page warns of, without its line on strange heights, or that alone."""
+        lines = [it.text for it in self.element(key).find_elements("tag name", "li")]
+        return [line for line in lines if (STRANGE in line) == of_map]
+
+    def is_shown(self, key):
+        return self.element(key).is_displayed()
+
+    def wait_for_sure(self):
+        """Until the numbers of points are unpacked."""
+        from selenium.webdriver.support.ui import WebDriverWait
+
+        there = lambda driver: driver.execute_script('return document.body.classList.contains("sure")')
+        WebDriverWait(self.driver, 20).until(there)
 
     def fetched(self):
         script = "return performance.getEntriesByType('resource').map((it) => it.name)"
@@ -172,14 +202,55 @@ def try_mouse(page, check, grid, regions, report):
         check.equal(f"{region['name']} drawn backwards", page.region(), region)
 
 
-def try_print(page, check, regions):
-    """On paper the regions keep their names, and what can't be pressed there is away."""
-    page.driver.execute_cdp_cmd("Emulation.setEmulatedMedia", {"media": "print"})
-    buttons = page.driver.find_elements("tag name", "button")
-    check.equal("on paper", [it.text for it in buttons if it.is_displayed()], [region["name"] for region in regions])
-    check.equal("numbers on paper", page.element("fill").is_displayed(), True)
-    page.driver.execute_cdp_cmd("Emulation.setEmulatedMedia", {"media": ""})
-    check.equal("on the screen", page.element("ground").is_displayed(), True)
+# On paper
+
+
+def sheets_of(driver):
+    """How many sheets the page's PDF has, and the width and the height of each, in points."""
+    printed = driver.execute_cdp_cmd("Page.printToPDF", {"preferCSSPageSize": True})
+    pdf = base64.b64decode(printed["data"])
+    boxes = re.findall(rb"/MediaBox\s*\[0 0 ([0-9.]+) ([0-9.]+)\]", pdf)
+    return len(re.findall(rb"/Type\s*/Page\b", pdf)), [tuple(map(float, it)) for it in boxes]
+
+
+# What of the page sticks out of the sheet at the right or at the left, or of a box that cuts it off.
+STICKING_OUT = """const wide = document.documentElement.clientWidth, found = [];
+    const told = (it) => it.id || `${it.tagName} ${it.textContent.slice(0, 30)}`;
+    for (const it of document.body.querySelectorAll("*:not(svg *):not(option)")) {
+        const box = it.getBoundingClientRect();
+        if (box.width && box.height && (box.right > wide + 1 || box.left < -1)) found.push(told(it));
+        const cuts = getComputedStyle(it).overflowX !== "visible";
+        if (cuts && it.scrollWidth > it.clientWidth + 1) found.push(told(it));
+    }
+    const map = document.getElementById("map"), frame = map.getBoundingClientRect();
+    for (const it of map.querySelectorAll("text, rect, path, image")) {
+        const box = it.getBoundingClientRect();
+        const isOut = box.right > frame.right + 1 || box.bottom > frame.bottom + 1;
+        if (box.width && isOut) found.push(`map: ${told(it)}`);
+    }
+    return found;"""
+
+
+def try_paper(page, check, what, regions, has_grid=True):
+    """On paper the regions keep their names, what can't be pressed there is away, nothing is cut off, and
+    one or two sheets of A4 are enough."""
+    driver = page.driver
+    number, sheets = sheets_of(driver)
+    check.equal(f"{what} on {number} sheets", (1 <= number <= 2, len(sheets)), (True, number))
+    off = max((abs(a - b) for sheet in sheets for a, b in zip(sheet, SHEET)), default=math.inf)
+    check.equal(f"{what} on A4, not {sheets}", off < 1, True)
+    driver.execute_cdp_cmd("Emulation.setEmulatedMedia", {"media": "print"})
+    metrics = {"width": BETWEEN, "height": 1000, "deviceScaleFactor": 1, "mobile": False}
+    driver.execute_cdp_cmd("Emulation.setDeviceMetricsOverride", metrics)
+    check.equal(f"{what}: cut off", driver.execute_script(STICKING_OUT), [])
+    controls = driver.find_elements("css selector", "button, input, select, textarea, canvas")
+    names = [it.text for it in controls if it.is_displayed()]
+    check.equal(f"{what}: controls on paper", names, [region["name"] for region in regions] if has_grid else [])
+    parts = ("dated", "settings", *(("map", "legend-bar", "north", "regions", "fill", "place") if has_grid else ()))
+    check.equal(f"{what}: on paper", [part for part in parts if not page.is_shown(part)], [])
+    driver.execute_cdp_cmd("Emulation.clearDeviceMetricsOverride", {})
+    driver.execute_cdp_cmd("Emulation.setEmulatedMedia", {"media": ""})
+    check.equal(f"{what}: on the screen", (page.is_shown("ground"), page.is_shown("place")), (has_grid, False))
 
 
 def try_names(page, check, regions, report):
@@ -241,6 +312,248 @@ def try_keys(page, check, grid):
     check.equal("typed counts", page.shown(), counted(grid, wanted, 0)[0])
 
 
+# How sure cells are, and what stands around the map
+
+
+def millimetres(micrometres):
+    """Millimetres with a decimal, halves away from 0, as the legend and a cell's line have them."""
+    size = (abs(micrometres) + 50) // 100
+    return ("-" if micrometres < 0 < size else "") + f"{size // 10}.{size % 10} mm"
+
+
+def points_in_cells(calibration, out):
+    """The heights of the points in each cell, {(column, row): [..]}, by the plain definitions."""
+    values, filled = sgm_files.read_disparities(out + ".pgm")
+    grid, first, cells = calibration["grid"], calibration["disparities"]["first"], {}
+    for y, x in numpy.argwhere(filled).tolist():
+        point = point_at(calibration, x, y, 16 * first + int(values[y, x]))
+        if point is None:
+            continue
+        col, south = (point[0] - grid["west"]) // grid["cell"], (point[1] - grid["south"]) // grid["cell"]
+        if 0 <= col < grid["cols"] and 0 <= south < grid["rows"]:
+            cells.setdefault((col, grid["rows"] - 1 - south), []).append(point[2])
+    return cells
+
+
+def told_cell(col, row, heights, height):
+    """The line on a cell."""
+    where = f"Column {col}, row {row}: "
+    if height is None:
+        return where + "empty"
+    where += f"height {to_millimetres(height)} m, "
+    if not heights:
+        return where + "bridged: no point falls into it"
+    if len(heights) == 1:
+        return where + "1 point, so no spread"
+    spread = math.floor(statistics.pstdev(heights) + 0.5)
+    return where + f"{len(heights)} points, standard deviation {millimetres(spread)}"
+
+
+def some_cells(cells, grid):
+    """An empty cell, a bridged one, one with a point and two with more, where there are such."""
+    kinds = {}
+    rows, cols = grid.heights.shape
+    for row in range(rows):
+        for col in range(cols):
+            number = len(cells.get((col, row), []))
+            kinds.setdefault(min(number, 3) if grid.filled[row, col] else "empty", (col, row))
+    return kinds
+
+
+def hover(page, col, row):
+    from selenium.webdriver.common.actions.action_builder import ActionBuilder
+
+    actions = ActionBuilder(page.driver)
+    actions.pointer_action.move_to_location(*page.place(col, row))
+    actions.perform()
+
+
+def try_cells(page, check, calibration, out, grid):
+    """The numbers of cells under the mouse and under the cross."""
+    cells, driver = points_in_cells(calibration, out), page.driver
+    page.wait_for_sure()
+    driver.execute_script('document.getElementById("map").scrollIntoView({block: "center"})')
+    height = lambda col, row: int(grid.heights[row, col]) if grid.filled[row, col] else None
+    told = lambda col, row: told_cell(col, row, cells.get((col, row)), height(col, row))
+    kinds = some_cells(cells, grid)
+    check.equal("kinds of cells", {"empty", 0, 1, 2, 3} - kinds.keys(), set())
+    for kind, (col, row) in kinds.items():
+        hover(page, col, row)
+        check.equal(f"a cell with {kind}", page.element("cell").text, told(col, row))
+    # By keyboard, from the middle of the grid.
+    page.element("mode-cell").click()
+    check.equal("the cell's button", page.element("mode-cell").get_attribute("aria-pressed"), "true")
+    driver.execute_script("document.getElementById('map').focus()")
+    before = page.region()
+    col, row = grid.heights.shape[1] // 2, grid.heights.shape[0] // 2
+    for keys, across, down in (
+        (("ARROW_LEFT",), -1, 0),
+        (("ARROW_DOWN",), 0, 1),
+        (("CONTROL", "ARROW_RIGHT"), 10, 0),
+        (("SHIFT", "ARROW_UP"), 0, -1),
+    ):
+        page.keys(*keys)
+        col, row = col + across, row + down
+        check.equal(" ".join(keys) + " of the cross", page.element("cell").text, told(col, row))
+        check.equal("its numbers are spoken", page.element("cell").get_attribute("aria-live"), "polite")
+    for _ in range(1 + grid.heights.shape[1] // 10):
+        page.keys("CONTROL", "ARROW_LEFT")
+    check.equal("the cross stays on the grid", page.element("cell").text, told(0, row))
+    click(page, 7.5, 4.5)
+    check.equal("the cross by a click", page.element("cell").text, told(7, 4))
+    check.equal("the rectangle stays", page.region(), before)
+    if calibration["version"] == 3:
+        page.element("mode-outline").click()
+        page.element("anew").click()
+        driver.execute_script("document.getElementById('map').focus()")
+        page.keys("ARROW_RIGHT")
+        check.equal("the outline's cross", page.element("cell").text, told(8, 4))
+    page.element("mode-rectangle").click()
+
+
+def colours_on(driver, cells):
+    """The colours of the map's picture in these cells."""
+    script = """const [cells, done] = arguments, image = new Image();
+        image.onload = () => {
+            const canvas = document.createElement("canvas");
+            [canvas.width, canvas.height] = [image.width, image.height];
+            const pen = canvas.getContext("2d");
+            pen.drawImage(image, 0, 0);
+            const { data, width } = pen.getImageData(0, 0, image.width, image.height);
+            done(cells.map(([col, row]) => [...data.slice(4 * (row * width + col)).slice(0, 4)]));
+        };
+        image.src = document.querySelector("#map image").getAttribute("href");"""
+    return [tuple(it) for it in driver.execute_async_script(script, cells)]
+
+
+def legend_of(page):
+    """The title and the texts along the scale."""
+    spans = page.driver.find_elements("css selector", "#legend-ticks span")
+    return page.element("legend-title").text, [it.text for it in spans]
+
+
+def try_layers(page, check, calibration, out, grid):
+    """Numbers of points and spreads beside the heights, and their legends."""
+    driver, cells = page.driver, points_in_cells(calibration, out)
+    page.wait_for_sure()
+    heights = sorted(int(it) for it in grid.heights[grid.filled])
+    spare = len(heights) // 100
+    title, ends = legend_of(page)
+    wanted = [f"{to_millimetres(heights[at])} m" for at in (spare, -1 - spare)]
+    check.equal("the legend of the heights", (title[:17], ends[0], ends[-1]), ("Heights in metres", *wanted))
+    before = driver.find_element("css selector", "#map image").get_attribute("href")
+
+    # By keyboard from one layer to the next.
+    driver.execute_script("document.getElementById('layer-heights').focus()")
+    page.keys("ARROW_RIGHT")
+    check.equal("the layer by keys", page.element("layer-numbers").is_selected(), True)
+    numbers = sorted(map(len, cells.values()))
+    most = numbers[-1 - len(numbers) // 100]
+    title, ends = legend_of(page)
+    check.has("the legend of the numbers", [title], "Points of the disparity map that fall into a cell")
+    check.equal("its ends", (ends[0], ends[-1]), ("1", str(most)))
+    kinds = some_cells(cells, grid)
+    many = next(at for at, found in cells.items() if len(found) >= most)
+    shown = colours_on(driver, [kinds["empty"], kinds[0], kinds[1], many])
+    wanted = [(0, 0, 0, 255), (154, 160, 166, 255), (255, 247, 188, 255), (8, 29, 88, 255)]
+    check.equal("colours of numbers", shown, wanted)
+
+    page.keys("ARROW_RIGHT")
+    spreads = {at: math.floor(statistics.pstdev(found) + 0.5) for at, found in cells.items() if len(found) > 1}
+    sizes = sorted(spreads.values())
+    most = sizes[-1 - len(sizes) // 100]
+    title, ends = legend_of(page)
+    check.has("the legend of the spreads", [title], "Spread of the points of a cell in millimetres: ")
+    check.equal("the ends of the spreads", (ends[0], ends[-1]), ("0.0 mm", millimetres(most)))
+    check.has("which spread", [title], "the standard deviation of their heights")
+    wide = next(at for at, found in spreads.items() if found >= most)
+    shown = colours_on(driver, [kinds["empty"], kinds[0], kinds[1], wide])
+    wanted[2:] = [(154, 160, 166, 255), (110, 0, 30, 255)]
+    check.equal("colours of spreads", shown, wanted)
+    keys = lambda: [it.text for it in driver.find_elements("css selector", ".keys li") if it.is_displayed()]
+    check.has("what grey means", keys(), "grey: fewer than two points, no spread")
+    check.has("what violet means", keys(), "violet: bridged, no point falls into it")
+    page.element("show-bridges").click()
+    check.equal("no violet", [it for it in keys() if "violet" in it], [])
+    page.element("show-bridges").click()
+    page.element("layer-heights").click()
+    again = driver.find_element("css selector", "#map image").get_attribute("href")
+    check.equal("the heights again", (again == before, legend_of(page)[0][:7]), (True, "Heights"))
+    check.equal("grey no more", [it for it in keys() if "grey" in it], [])
+
+
+def try_foot(page, check, calibration, north):
+    """The scale bar is as long as it says, and the page says which way north is."""
+    grid, driver = calibration["grid"], page.driver
+    width = grid["cols"] * grid["cell"]
+    long = max(it * 10**power for power in range(14) for it in (1, 2, 5) if 4 * it * 10**power <= width)
+    check.equal("the scale bar's length", page.exact("scale-bar"), long)
+    script = "return arguments[0].getBoundingClientRect().width"
+    parts = [driver.find_element("css selector", it) for it in ("#scale-bar", "#map image")]
+    bar, whole = (driver.execute_script(script, part) for part in parts)
+    # The bar has a line around it.
+    check.equal(f"its length on the map, {bar} of {whole}", abs(bar / whole * width / long - 1) < 0.03, True)
+    texts = [it.text for it in driver.find_elements("css selector", "#map text")]
+    words = f"{sgm_files.decimal(long, 6)} m"
+    check.equal("its text and north's", (words in texts, "N" in texts), (True, True))
+    script = """const boxOf = (it) => document.getElementById(it).getBoundingClientRect();
+        const [arrow, map] = ["north-arrow", "map"].map(boxOf);
+        return arrow.width > 0 && arrow.bottom <= map.bottom && arrow.right <= map.right;"""
+    check.equal("the arrow", driver.execute_script(script), True)
+    check.has("which north", [page.element("north").text], north)
+
+
+def try_above(page, check, out, calibration, ground):
+    """The volumes above the ground and plus or minus are those of tools/cubic_metres.py."""
+    with open(out + ".json", "w") as file:
+        json.dump(calibration, file)
+    command = [sys.executable, os.path.join(TOP, "tools", "cubic_metres.py"), out + ".csv", "--ground", ground]
+    more = ["--calibration", out + ".json", "--heights", out + ".asc"]
+    done = subprocess.run([*command, *more], capture_output=True, text=True, check=True)
+    lines = list(csv.DictReader(done.stdout.splitlines()))
+    check.equal("above what", page.element("above-name").text, ground)
+    for row, line in zip(page.driver.find_elements("css selector", "#regions tbody tr"), lines):
+        shown = [it.get_attribute("data-exact") for it in row.find_elements("css selector", ".of-above")]
+        shown = ["" if it is None else sgm_files.decimal(int(it), 18) for it in shown]
+        check.equal(f"{line['region']} above the ground", shown, [line["above_m3"], line["plus_minus_m3"]])
+
+
+def try_sure(driver, check, folder, screenshot):
+    """The example's survey in version 3, of which the picture is too."""
+    with open(os.path.join(HEAP, "calibration_3.json")) as file:
+        calibration = json.load(file)
+    out = matched("heap_3", calibration, folder, HEAP)
+    grid, regions = sgm_files.read_grid(out + ".asc"), calibration["regions"]
+    page = page_of(driver, out, calibration, os.path.join(HEAP, "left.pgm"), title="The stockpile")
+    page.wait_for_sure()
+    # The whole picture, as it stands when it is opened.
+    driver.set_window_size(*PICTURED)
+    driver.save_screenshot(screenshot)
+    driver.set_window_size(*SIZE)
+    check.equal("strange heights of version 3", page.warnings(of_map=True), [])
+    pattern, written = r"heap_3\.asc was written on \d{4}-\d\d-\d\d \d\d:\d\d UTC\.", page.element("dated").text
+    check.equal(f"the date in {written}", re.fullmatch(pattern, written) is not None, True)
+    check.has("the settings", [page.element("settings").text], "first 28, count 36, fine true")
+    try_layers(page, check, calibration, out, grid)
+    try_foot(page, check, calibration, "up in the left picture")
+    try_cells(page, check, calibration, out, grid)
+    try_above(page, check, out, calibration, "ground")
+    try_paper(page, check, "the heap of version 3", regions)
+    page.element("digits").click()
+    page.element("layer-spreads").click()
+    try_paper(page, check, "every digit of it", regions)
+    # A dozen regions, one of them with the longest name and another ground.
+    more = [{**regions[0], "name": name, "row": 20 + at} for at, name in enumerate((64 * "m", *"abcdefghi"))]
+    more = [{**it, "rows": 40} for it in more]
+    crowded = {**calibration, "regions": [*regions, *more, {**regions[1], "name": "ground east", "rows": 9}]}
+    out = matched("crowded", crowded, folder, HEAP)
+    page = page_of(driver, out, crowded, os.path.join(HEAP, "left.pgm"))
+    try_paper(page, check, "many regions", crowded["regions"])
+    try_above(page, check, out, crowded, "ground")
+    page.element("above-ground").send_keys("ground e")
+    try_above(page, check, out, crowded, "ground east")
+
+
 # Surveys that are made up
 
 
@@ -250,7 +563,10 @@ def write_survey(folder, name, heights, regions, report=None):
     rows, cols = heights.shape
     calibration = {
         "disparities": {"first": 10, "count": 20},
-        "camera": {"focal": 128000, "baseline": 500000, "cx": 0, "cy": 0, "doffs": 0, "mount": 5000000},
+        "camera": {
+            "focal": 128000, "baseline": 500000, "cx": 0, "cy": 0, "doffs": 0,
+            "mount": 5000000, "near": 1, "far": 6000000,
+        },
         "grid": {"west": 0, "south": -1000000, "cell": 500000, "cols": cols, "rows": rows},
         "regions": regions,
     }
@@ -272,10 +588,11 @@ def write_survey(folder, name, heights, regions, report=None):
     return out, calibration, grid
 
 
-def page_of(driver, out, calibration):
+def page_of(driver, out, calibration, *more, title="a <title> & more"):
     name = out + ".html"
     with open(name, "w", encoding="utf-8") as file:
-        file.write(survey_page.page("a <title> & more", survey_page.survey(out, calibration, None)))
+        known = survey_page.survey(out, calibration, *(more or [None]))
+        file.write(survey_page.page(title, known))
     return Page(driver, name)
 
 
@@ -288,6 +605,8 @@ def try_warnings(driver, check, folder):
     region = region_of("ground", 20, 30)
     found = page_of(driver, *write_survey(folder, "flat", flat, [region])[:2]).warnings()
     check.equal("warnings of flat ground", len(found), 1)
+    strange = page_of(driver, *write_survey(folder, "flat", flat, [region])[:2]).warnings(of_map=True)
+    check.has("strange heights", strange, "in 600 cells the height isn't that of the points")
     check.has("the span", found, "5.0 % of the disparities are the least one, 10")
     slope = flat + 20000 * numpy.arange(30)
     found = page_of(driver, *write_survey(folder, "slope", slope, [region])[:2]).warnings()
@@ -547,15 +866,15 @@ def try_outlines(driver, check, folder):
     check.equal("its counts", page.shown(), counted_inside(grid, region)[0])
 
 
-def matched(name, calibration, folder):
-    """Matches the pair of examples/slope with a calibration: OUT. By the program that the variable SGM
-    names, or else by the separate implementation."""
+def matched(name, calibration, folder, example=SLOPE):
+    """Matches the pair of an example with a calibration: OUT. By the program that the variable SGM names, or
+    else by the separate implementation."""
     out = os.path.join(folder, name)
     with open(out + ".json", "w") as file:
         json.dump(calibration, file)
     reference = [sys.executable, os.path.join(HERE, "quick_reference.py")]
     program = [os.environ["SGM"]] if "SGM" in os.environ else reference
-    pair = [os.path.join(SLOPE, side) for side in ("left.pgm", "right.pgm")]
+    pair = [os.path.join(example, side) for side in ("left.pgm", "right.pgm")]
     subprocess.run([*program, "match", *pair, out + ".json", out], check=True, capture_output=True)
     return out
 
@@ -612,6 +931,433 @@ def try_again(driver, check, folder):
     check.equal("bridged again", page.exact("bridged"), line["bridged"])
 
 
+# A pose: the site's frame
+
+
+ONE = 1 << 30
+# Tilted by 12 degrees and turned by 30.
+ASLANT = [929887697, -525138994, 111621739, 536870912, 909567419, -193334523]
+ASLANT += [0, 223243478, 1050277989]
+POSE = {"matrix": ASLANT, "east": 12000000, "north": -7000000, "up": 431000000}
+
+
+def site_point(pose, point):
+    """East, north and height by their definition; None where the height is out of range."""
+    rows = [pose["matrix"][at : at + 3] for at in (0, 3, 6)]
+    sums = [sum(a * b for a, b in zip(row, point)) for row in rows]
+    made = [pose[key] + (2 * it + ONE) // (2 * ONE) for key, it in zip(("east", "north", "up"), sums)]
+    return made if abs(made[2]) <= 2000000000 else None
+
+
+def point_at(calibration, x, y, sixteenths):
+    """The point of a pixel, in the site's frame where there is a pose."""
+    found = reference_matching.point(calibration["camera"], x, y, sixteenths)
+    pose = calibration.get("pose")
+    return site_point(pose, found) if found and pose else found
+
+
+def slanting_calibration():
+    """The calibration of examples/slope with a pose, and a grid and regions that suit it."""
+    with open(os.path.join(SLOPE, "calibration.json")) as file:
+        calibration = json.load(file)
+    grid = {"west": 4500000, "south": -15500000, "cell": 50000, "cols": 320, "rows": 320}
+    outline = [9000000, -11000000, 15000000, -11500000, 18000000, -4000000, 10000000, -3000000]
+    regions = [
+        {"name": "part", "col": 80, "row": 50, "cols": 200, "rows": 180, "base": 430500000,
+         "rise_east": -40000, "rise_north": 30000, "outline": outline},
+        {"name": "ground", "col": 40, "row": 100, "cols": 50, "rows": 40, "base": 430500000,
+         "rise_east": -90000, "rise_north": 60000},
+    ]
+    made = {**calibration, "grid": {**calibration["grid"], **grid}, "regions": regions, "pose": POSE}
+    return made
+
+
+def written_by_definition(out, calibration, map_of):
+    """OUT.pgm of another survey of the pair, and OUT.asc and OUT.csv of this calibration, by the
+    plain definitions."""
+    shutil.copy(map_of + ".pgm", out + ".pgm")
+    values, filled = sgm_files.read_disparities(out + ".pgm")
+    grid, regions = calibration["grid"], calibration["regions"]
+    first, points = calibration["disparities"]["first"], []
+    for y, x in numpy.argwhere(filled).tolist():
+        points.append(point_at(calibration, x, y, 16 * first + int(values[y, x])))
+    there = [it for it in points if it is not None]
+    before = reference_matching.heights(there, grid, grid["keep"])
+    cells = reference_matching.bridged(before, grid["cell"], grid["bridge"])
+    with open(out + ".asc", "w") as file:
+        for name, key in zip(("ncols", "nrows", "xllcorner", "yllcorner", "cellsize"), ("cols", "rows", "west", "south", "cell")):
+            file.write(f"{name} {grid[key]}\n")
+        file.write(f"NODATA_value {EMPTY}\n")
+        for row in cells:
+            file.write(" ".join(str(EMPTY if it is None else it) for it in row) + "\n")
+    corner = grid["west"], grid["south"]
+    with open(out + ".csv", "w") as file:
+        file.write(",".join(sgm_files.BRIDGED_NAMES) + "\n")
+        for region in regions:
+            line = reference_matching.tally_with_bridges(before, cells, grid["cell"], region, corner)
+            file.write(",".join(map(str, [region["name"], *line])) + "\n")
+
+
+def slanting_survey(folder):
+    """OUT and its calibration, of the pair that was matched without a pose."""
+    calibration, out = slanting_calibration(), os.path.join(folder, "slanting")
+    written_by_definition(out, calibration, os.path.join(folder, "slope"))
+    return out, calibration
+
+
+def sixteenth_aslant(calibration, grid, region, plane):
+    """What a sixteenth of a pixel is in height at the middle of a region's cells, on a plane of the
+    ground: by the distance along the camera's axis, and how high the camera is above that plane."""
+    sides, camera, pose = (calibration[key] for key in ("grid", "camera", "pose"))
+    cells = [
+        (2 * col + 1, 2 * (sides["rows"] - row) - 1)
+        for col, row in sgm_regions.cells_of(region, sides)
+        if grid.filled[row, col]
+    ]
+    across, along = (sum(part) for part in zip(*cells))
+    rounded, cell, many = sgm_regions.rounded, grid.cell, len(cells)
+    rise = (plane["rise_east"] * across + plane["rise_north"] * along) * cell
+    place = [grid.west + rounded(across * cell, 2 * many), grid.south + rounded(along * cell, 2 * many)]
+    place.append(plane["base"] + rounded(rise, 2000000 * many))
+    shift = [pose[key] for key in ("east", "north", "up")]
+    off = sum(m * (a - b) for m, a, b in zip(pose["matrix"][2::3], place, shift))
+    east, north, up = site_point(pose, (0, 0, camera["mount"]))
+    rise = plane["rise_east"] * (east - grid.west) + plane["rise_north"] * (north - grid.south)
+    above = up - plane["base"] - rounded(rise, 10**6)
+    away = camera["mount"] - rounded(off, ONE)
+    return rounded(16 * away * above, camera["focal"] * camera["baseline"])
+
+
+def try_pose(driver, check, folder):
+    """A survey with a pose: what is counted is what OUT.csv has, plus or minus comes from the distance
+    along the camera's axis, and bridged cells are known."""
+    out, calibration = slanting_survey(folder)
+    again = matched("slanting_again", calibration, folder)
+    for ending in (".pgm", ".asc", ".csv"):
+        same = sgm_files.read_bytes(out + ending) == sgm_files.read_bytes(again + ending)
+        check.equal(f"the match with a pose by the definitions: {ending}", same, True)
+    page, report = page_of(driver, out, calibration), sgm_files.read_report(out + ".csv")
+    grid, regions = sgm_files.read_grid(out + ".asc"), calibration["regions"]
+    said = [it for it in page.warnings() if "OUT.csv" in it]
+    check.equal("the cells and the report of a survey with a pose", said, [])
+    check.equal("cells enough", report[0]["cells"] > 10000 and report[1]["cells"] > 1000, True)
+    check.equal("some are bridged", report[0]["bridged"] > 100, True)
+    for button, region, line in zip(driver.find_elements("css selector", "#regions button"), regions, report):
+        button.click()
+        found = {**page.shown(), "bridged": page.exact("bridged")}
+        check.equal(f"{region['name']} with a pose", found, {key: line[key] for key in found})
+        check.equal(f"{region['name']}'s line with a pose", page.region(), region)
+    note = [it.text for it in driver.find_elements("css selector", ".of-site") if it.is_displayed()]
+    check.has("the site's frame", note, "East, north and height are the site's")
+    check.equal("the camera's frame", [it for it in driver.find_elements("css selector", ".of-camera") if it.is_displayed()], [])
+
+    # The ground is the second region: its plane becomes the base of a rectangle.
+    page.element("plane").click()
+    plane = page.region()
+    ground = {**regions[1], **{key: plane[key] for key in ("base", "rise_east", "rise_north")}}
+    found = sgm_regions.found_in(ground, calibration["grid"], grid.heights, grid.filled)
+    spread = sgm_regions.ground_spread(*found)[1]
+    page.element("mode-rectangle").click()
+    page.draw((120, 80), (240, 200))
+    places = ground, page.region()
+    sixteenth = max(sixteenth_aslant(calibration, grid, it, plane) for it in places)
+    sure = sgm_regions.plus_minus(page.exact("cells"), grid.cell, sixteenth, spread)
+    check.equal("plus or minus with a pose", page.exact("plus-minus"), sure)
+    region = page.region()
+    found, bases = sgm_regions.found_in(region, calibration["grid"], grid.heights, grid.filled)
+    above = [int(a) - int(b) for a, b in zip(found, bases)]
+    fill = sum(max(0, it) for it in above) * grid.cell**2
+    check.equal("a rectangle with a pose", (page.exact("cells"), page.exact("fill")), (len(above), fill))
+    try_steps(driver, check, out, calibration)
+    page = page_of(driver, out, calibration, os.path.join(SLOPE, "left.pgm"))
+    check.equal("strange heights with a pose", page.warnings(of_map=True), [])
+    try_foot(page, check, calibration, "North, N, is the site's")
+    try_cells(page, check, calibration, out, grid)
+    try_above(page, check, out, calibration, "ground")
+    try_paper(page, check, "the slanting survey", regions)
+
+
+def try_steps(driver, check, out, calibration):
+    """What a step of disparity is worth in height, by which the page warns, is how much higher the
+    pixel's point is for one more."""
+    values, filled = sgm_files.read_disparities(out + ".pgm")
+    grid, first = calibration["grid"], calibration["disparities"]["first"]
+    for near in ((60, 30), (160, 120), (250, 210)):
+        x, y = pixel_with(filled, True, near)
+        sixteenths = 16 * first + int(values[y, x])
+        east, north, high = point_at(calibration, x, y, sixteenths)
+        col = (east - grid["west"]) // grid["cell"]
+        row = grid["rows"] - 1 - (north - grid["south"]) // grid["cell"]
+        lower, upper = (point_at(calibration, x, y, sixteenths + by)[2] for by in (-8, 8))
+        step = driver.execute_script("return depthStep(...arguments)", high, col, row)
+        check.equal(f"a step at {x}, {y}", abs(step / (upper - lower) - 1) < 0.01, True)
+
+
+# Control points
+
+
+class Photo:
+    """The left picture on the page, its cross and its points."""
+
+    def __init__(self, page):
+        from selenium.webdriver.support.ui import WebDriverWait
+
+        self.page, self.driver = page, page.driver
+        ready = lambda driver: driver.find_element("id", "photo").get_attribute("data-ready")
+        WebDriverWait(page.driver, 20).until(ready)
+
+    def text(self, key):
+        return self.page.element(key).text
+
+    def table(self):
+        return self.page.element("control-csv").get_attribute("value").splitlines()[1:]
+
+    def focus(self):
+        self.driver.execute_script('document.getElementById("photo").focus()')
+
+    def spot(self, x, y):
+        """Where a place in pixels is in the window."""
+        script = """const photo = document.getElementById("photo"), box = photo.getBoundingClientRect();
+            const [x, y] = onScreen({ x: 1000 * arguments[0], y: 1000 * arguments[1] });
+            return [box.left + photo.clientLeft + x, box.top + photo.clientTop + y];"""
+        return self.driver.execute_script(script, x, y)
+
+    def mouse(self, first, last=None, off=0):
+        """Clicks a place, or drags from one to another; `off` are screen pixels beside it."""
+        from selenium.webdriver.common.actions.action_builder import ActionBuilder
+
+        self.driver.execute_script('document.getElementById("photo").scrollIntoView({block: "center"})')
+        actions = ActionBuilder(self.driver)
+        mouse = actions.pointer_action
+        mouse.move_to_location(*(round(part + off) for part in self.spot(*first))).pointer_down()
+        if last is not None:
+            middle = [(a + b) / 2 for a, b in zip(first, last)]
+            for place in (middle, last):
+                mouse.move_to_location(*(round(part) for part in self.spot(*place)))
+        mouse.pointer_up()
+        actions.perform()
+
+    def press(self, *texts):
+        self.focus()
+        for text in texts:
+            webdriver.ActionChains(self.driver).send_keys(text).perform()
+
+    def rows(self):
+        return self.driver.find_elements("css selector", "#control-points tbody tr")
+
+    def fields(self, row):
+        return self.rows()[row].find_elements("tag name", "input")
+
+    def type(self, row, at, text):
+        from selenium.webdriver.common.keys import Keys
+
+        self.fields(row)[at].send_keys(Keys.CONTROL, "a")
+        self.fields(row)[at].send_keys(text or Keys.DELETE)
+
+    def shown(self, row):
+        """The disparity and the point of a row."""
+        cells = self.rows()[row].find_elements("tag name", "td")
+        return cells[3].text, cells[4].text
+
+
+def told_point(calibration, values, x, y):
+    """The disparity and the point of a pixel, as the page shows them."""
+    sixteenths = 16 * calibration["disparities"]["first"] + int(values[y, x])
+    point = point_at(calibration, x, y, sixteenths)
+    return f"{sixteenths / 16:.4f}", ", ".join(to_millimetres(it) for it in point)
+
+
+def to_millimetres(micrometres):
+    """Metres with three decimals, halves away from 0."""
+    size = (abs(micrometres) + 500) // 1000
+    return ("-" if micrometres < 0 < size else "") + f"{size // 1000}.{size % 1000:03}"
+
+
+def pixel_with(filled, wanted, near):
+    """The pixel that is nearest to a place among those that have a disparity, as have those beside
+    it, or haven't."""
+    rows, cols = filled.shape
+    each = [
+        (x, y)
+        for y in range(2, rows - 2)
+        for x in range(2, cols - 2)
+        if (filled[y, x] == wanted) and (not wanted or filled[y - 1 : y + 2, x - 1 : x + 2].all())
+    ]
+    return min(each, key=lambda it: math.hypot(it[0] - near[0], it[1] - near[1]))
+
+
+def try_control(driver, check, folder):
+    """Control points by mouse and by keyboard, on the left picture of the survey with a pose."""
+    from selenium.webdriver.common.keys import Keys
+
+    calibration, out = slanting_calibration(), os.path.join(folder, "slanting")
+    left = os.path.join(SLOPE, "left.pgm")
+    values, filled = sgm_files.read_disparities(out + ".pgm")
+    page = page_of(driver, out, calibration, left, True)
+    photo = Photo(page)
+    first, second = pixel_with(filled, True, (70, 60)), pixel_with(filled, True, (240, 180))
+    gone = pixel_with(filled, False, (160, 120))
+    check.equal("the middle", photo.text("control-cross").split(":")[0], "Cross at 160, 120")
+
+    # Clicks, to whole pixels while the picture is small.
+    photo.mouse(first)
+    check.equal("a click", photo.table(), [f"p1,{first[0]},{first[1]},,,"])
+    check.equal("its point in the site's frame", photo.shown(0), told_point(calibration, values, *first))
+    photo.mouse(gone)
+    check.equal("no disparity", photo.text("control-said"), f"No point at {gone[0]}, {gone[1]}: the pixel {gone[0]}, {gone[1]} has no disparity.")
+    check.has("the cross without one", [photo.text("control-cross")], "has no disparity")
+    check.equal("nothing is set there", len(photo.table()), 1)
+
+    # By keyboard: the cross goes from there to the second place.
+    across, down = (b - a for a, b in zip(gone, second))
+    ways = [(across, Keys.ARROW_RIGHT, Keys.ARROW_LEFT), (down, Keys.ARROW_DOWN, Keys.ARROW_UP)]
+    for far, ahead, back in ways:
+        way, (tens, ones) = ahead if far > 0 else back, divmod(abs(far), 10)
+        photo.focus()
+        chain = webdriver.ActionChains(driver).key_down(Keys.SHIFT)
+        chain.send_keys(tens * way).key_up(Keys.SHIFT).send_keys(ones * way).perform()
+    check.equal("the cross by keys", photo.text("control-cross").split(":")[0], f"Cross at {second[0]}, {second[1]}")
+    photo.press(Keys.ENTER)
+    check.equal("a point by keys", photo.table()[1:], [f"p2,{second[0]},{second[1]},,,"])
+    check.equal("nothing said", photo.text("control-said"), "")
+    check.equal("its point", photo.shown(1), told_point(calibration, values, *second))
+    check.equal("the picture keeps the focus", driver.switch_to.active_element.get_attribute("id"), "photo")
+    photo.press(Keys.ENTER)
+    check.equal("the same place again", (photo.text("control-said"), len(photo.table())), ("p2 is there already.", 2))
+
+    # Half pixels, by keys and by a click where the zoom has made them wide; and a pixel is then all of one colour.
+    photo.press("+", "+", "+", "+")
+    check.has("a zoom", [photo.text("zoom")], "8 screen pixels for a pixel")
+    photo.focus()
+    webdriver.ActionChains(driver).key_down(Keys.CONTROL).send_keys(Keys.ARROW_LEFT).key_up(Keys.CONTROL).perform()
+    half = f"{second[0] - 0.5:g}, {second[1]}"
+    check.equal("half a pixel by keys", photo.text("control-cross").split(":")[0], f"Cross at {half}")
+    wide = (second[0] + 3.5, second[1] + 2.5)
+    photo.mouse(wide, off=1)
+    check.equal("a click between pixels", photo.table()[2:], [f"p3,{wide[0]:g},{wide[1]:g},,,"])
+    photo.mouse((second[0] - 4, second[1] + 3), off=1)
+    check.equal("a click on a pixel", photo.table()[3:], [f"p4,{second[0] - 4},{second[1] + 3},,,"])
+    page.element("show-missing").click()
+    at = (second[0] + 7, second[1] - 5)
+    script = """const [x, y] = onScreen({ x: 1000 * arguments[0], y: 1000 * arguments[1] });
+        const dots = window.devicePixelRatio, pen = document.getElementById("photo").getContext("2d");
+        const half = Math.floor(3 * dots), found = pen.getImageData(Math.round(x * dots) - half, Math.round(y * dots) - half, 2 * half, 2 * half).data;
+        return [...new Set(Array.from({ length: found.length / 4 }, (_, it) => found.slice(4 * it, 4 * it + 3).join(",")))];"""
+    samples, most = sgm_files.read_pgm(left)
+    grey = int(samples[at[1], at[0]]) * 255 // min(most, int(samples.max()))
+    check.equal("sharp pixels", driver.execute_script(script, *at), [f"{grey},{grey},{grey}"])
+
+    # A point is dragged, one is removed by its key, and one by its button.
+    photo.mouse((second[0] - 4, second[1] + 3), (second[0] - 9, second[1] + 6))
+    check.equal("a point that was dragged", photo.table()[3:], [f"p4,{second[0] - 9},{second[1] + 6},,,"])
+    photo.press(Keys.DELETE)
+    check.equal("a point removed by its key", len(photo.table()), 3)
+    photo.rows()[1].find_element("tag name", "button").click()
+    check.equal("a point removed by its button", [it.split(",")[0] for it in photo.table()], ["p1", "p3"])
+
+    # What is typed beside them.
+    for row, at, text in [
+        (0, 0, "mast, north"), (0, 3, "2600012.5"), (0, 4, "-7,125"), (0, 5, "431"),
+        (1, 3, "1.5"), (1, 4, "x"), (1, 1, "40"), (1, 2, "50.25"),
+    ]:
+        photo.type(row, at, text)
+    wanted = [f'"mast, north",{first[0]},{first[1]},2600012.5,-7.125,431', "p3,40,50.25,1.5,,"]
+    check.equal("typed", photo.table(), wanted)
+    faults = page.warnings("control-faults")
+    check.equal("what isn't taken", faults, ["p3: north isn't taken: it isn't a number of metres with up to six decimals"])
+    check.equal("it is marked", photo.fields(1)[4].get_attribute("aria-invalid"), "true")
+    check.has("how many", [photo.text("control-count")], "2 points, 1 with east, north and height")
+    photo.type(1, 1, str(gone[0]))
+    photo.type(1, 2, str(gone[1]))
+    check.has("a place that is typed and has no disparity", page.warnings("control-faults"), "has no disparity")
+    photo.type(1, 2, "50.25")
+    photo.type(1, 1, "41")
+    photo.type(1, 4, "2")
+    photo.type(1, 0, "mast, north")
+    check.equal("a name twice", page.warnings("control-faults"), ["two points are called mast, north"])
+    photo.type(1, 0, "")
+    check.equal("no name", page.warnings("control-faults"), ["the point in line 2 has no name"])
+    photo.type(1, 0, "kerb")
+    photo.type(1, 5, "-0.25")
+    wanted[1] = "kerb,41,50.25,1.5,2,-0.25"
+    check.equal("typed again", (photo.table(), page.warnings("control-faults")), (wanted, []))
+
+    # The table is downloaded, and loaded again with a point that has no disparity.
+    driver.execute_script("HTMLAnchorElement.prototype.click = function () { window.saved = [this.href, this.download]; };")
+    page.element("save-control").click()
+    href, name = driver.execute_script("return window.saved")
+    text = urllib.parse.unquote(href.partition(",")[2])
+    check.equal("downloaded", (text.splitlines()[1:], name), (wanted, "control_points.csv"))
+    saved = os.path.join(folder, "points.csv")
+    with open(saved, "w") as file:
+        file.write(text + f"bush,{gone[0]},{gone[1]},1,2,3\n")
+    photo.rows()[0].find_element("tag name", "button").click()
+    check.equal("removed before", len(photo.table()), 1)
+    page.element("load-control").send_keys(saved)
+    from selenium.webdriver.support.ui import WebDriverWait
+
+    WebDriverWait(driver, 10).until(lambda _: len(photo.table()) == 2)
+    check.equal("loaded", photo.table(), wanted)
+    place = f"{gone[0]}, {gone[1]}"
+    check.equal("left out", photo.text("control-said"), f"bush at {place} is left out: the pixel {place} has no disparity.")
+    with open(saved, "w") as file:
+        file.write("a,b\n1,2\n")
+    page.element("load-control").send_keys(saved)
+    WebDriverWait(driver, 10).until(lambda _: photo.text("control-said").startswith("Nothing"))
+    check.equal("another file", photo.table(), wanted)
+    page.element("copy-control").click()
+    photo.type(0, 0, Keys.CONTROL + "v")
+    name = photo.fields(0)[0].get_attribute("value")
+    check.equal("copied", name[:22], "name,x,y,east,north,up")
+    check.equal("fetched for control points", page.fetched(), [])
+
+
+def try_no_grid(driver, check, folder):
+    """The page of a first match, which has no grid and no pose: control points alone."""
+    calibration, out = slanting_calibration(), os.path.join(folder, "bare")
+    for key in ("grid", "regions", "pose"):
+        del calibration[key]
+    shutil.copy(os.path.join(folder, "slope.pgm"), out + ".pgm")
+    page = page_of(driver, out, calibration, os.path.join(SLOPE, "left.pgm"), True)
+    photo = Photo(page)
+    headings = [it.text for it in driver.find_elements("tag name", "h2") if it.is_displayed()]
+    check.equal("headings without a grid", headings, ["Control points", "Pictures", "Settings"])
+    try_paper(page, check, "control points", [], has_grid=False)
+    check.has("no heights", [photo.text("summary")], "The calibration has no grid: there are no heights yet.")
+    values, filled = sgm_files.read_disparities(out + ".pgm")
+    place = pixel_with(filled, True, (100, 100))
+    photo.mouse(place)
+    check.equal("a point without a grid", photo.shown(0), told_point(calibration, values, *place))
+    check.has("its frame", [it.text for it in driver.find_elements("css selector", "#control-points th")], "left camera's frame")
+    try_site_pose(page, photo, check, out, calibration)
+
+
+def try_site_pose(page, photo, check, out, calibration):
+    """Five pixels whose places in the site are known: their table gives the pose to tools/site_pose.py."""
+    values, filled = sgm_files.read_disparities(out + ".pgm")
+    photo.rows()[0].find_element("tag name", "button").click()
+    for row, near in enumerate(((50, 40), (280, 40), (280, 200), (50, 200), (165, 110))):
+        x, y = pixel_with(filled, True, near)
+        sixteenths = 16 * calibration["disparities"]["first"] + int(values[y, x])
+        photo.mouse((x, y))
+        place = point_at({**calibration, "pose": POSE}, x, y, sixteenths)
+        for at, length in enumerate(place):
+            photo.type(row, 3 + at, sgm_files.decimal(length, 6))
+    check.has("all are known", [photo.text("control-count")], "5 points, 5 with east, north and height")
+    with open(out + ".points.csv", "w") as file:
+        file.write(page.element("control-csv").get_attribute("value"))
+    with open(out + ".json", "w") as file:
+        json.dump(calibration, file)
+    command = [sys.executable, os.path.join(TOP, "tools", "site_pose.py"), out + ".json", out + ".pgm"]
+    done = subprocess.run([*command, out + ".points.csv"], capture_output=True, text=True)
+    check.equal("tools/site_pose.py", (done.returncode, done.stderr), (0, ""))
+    found = json.loads(done.stdout.splitlines()[-1])
+    turned = max(abs(a - b) for a, b in zip(found["matrix"], POSE["matrix"])) / ONE
+    moved = max(abs(found[key] - POSE[key]) for key in ("east", "north", "up"))
+    # A sixteenth of a pixel is 16 mm here, and the points are some metres apart.
+    check.equal(f"the pose of the points ({turned:.4f}, {moved} um)", turned < 0.005 and moved < 30000, True)
+
+
 def try_large_numbers(driver, check, folder):
     """The highest and the lowest that can be, in cells of half a metre: sums far above 2^53."""
     heights = numpy.full((40, 50), 1999999999)
@@ -644,6 +1390,10 @@ def try_reduced(driver, check, folder):
     check.equal("a block", (page.exact("highest"), page.region()["cols"]), (10000, 2))
     page.draw((4, 5), (4, 5))
     check.equal("the last block", (page.exact("highest"), page.region()["rows"]), (98000, 1))
+    page.wait_for_sure()
+    for at, told in (((0, 0), "Column 0 to 1, row 0 to 1: height 0.010 m"), ((4, 5), "Column 8, row 10: height 0.098 m")):
+        hover(page, *at)
+        check.equal("a block's line", page.element("cell").text, f"{told}, no point falls into it")
 
 
 def write_change(folder, name, changes, regions):
@@ -678,6 +1428,13 @@ def try_change(driver, check, folder):
     check.equal("a change's headings", [it.text for it in driver.find_elements("tag name", "h2")][1], "Change")
     check.equal("warnings of a change", len(page.warnings()), 2)
     check.has("cells that aren't there", page.warnings(), "pile: ")
+    check.equal("layers of a change", (page.is_shown("layer-numbers"), page.is_shown("mode-cell")), (False, True))
+    check.has("a change's legend", [page.element("legend-title").text], "Change in millimetres")
+    ends = [it.text for it in driver.find_elements("css selector", "#legend-ticks span")]
+    known = sorted(it for row in changes for it in row if it is not None)
+    most = max(-known[len(known) // 100], known[-1 - len(known) // 100])
+    check.equal("its ends", (ends[0], ends[-1]), (f"-{millimetres(most)}", millimetres(most)))
+    try_paper(page, check, "a change", regions)
     lines = [counted(grid, region, 0)[0] for region in regions]
     try_names(page, check, [{**region, "base": 0} for region in regions], lines)
     for region, line in zip(regions, lines):
@@ -714,18 +1471,21 @@ def run(screenshot, folder):
     try:
         page = Page(driver, out + ".html")
         check.equal("title", driver.title, "The stockpile")
-        # The whole picture, as it stands when it is opened.
-        driver.save_screenshot(screenshot)
-        try_print(page, check, regions)
+        check.equal("strange heights", page.warnings(of_map=True), [])
+        try_paper(page, check, "the heap", regions)
         try_names(page, check, regions, report)
         try_mouse(page, check, grid, regions, report)
         try_bases(page, check, grid, regions)
         try_keys(page, check, grid)
         check.equal("fetched", page.fetched(), [])
+        try_sure(driver, check, folder, screenshot)
         try_warnings(driver, check, folder)
         try_bridged(driver, check, folder)
         try_outlines(driver, check, folder)
         try_again(driver, check, folder)
+        try_pose(driver, check, folder)
+        try_control(driver, check, folder)
+        try_no_grid(driver, check, folder)
         try_large_numbers(driver, check, folder)
         try_reduced(driver, check, folder)
         try_change(driver, check, folder)

@@ -1,7 +1,7 @@
 #!/usr/bin/env python3
 """Writes a survey, or the change between two, as one page for a browser, which needs no network.
 
-    tools/survey_page.py OUT --calib calibration.json [--left left.pgm] [--out FILE.html]
+    tools/survey_page.py OUT --calib calibration.json [--left left.pgm [--control-points]] [--out FILE.html]
 
 Reads OUT.pgm, OUT.asc and, where the calibration has regions, OUT.csv, and writes OUT.html. A rectangle drawn
 on the heights shows its lowest, mean and highest height, its empty cells, and fill and cut against a base that
@@ -14,25 +14,43 @@ neighbours, disparities at the ends of the span, ground that slopes (in regions 
 and in the rectangle taken for the base). A grid of more than four million cells is shown reduced: the page
 says so, and what a rectangle counts is then too large, while the table of the regions stays exact.
 
+Beside the heights the map shows how sure they are: from how many points of OUT.pgm each cell has its height, and
+their standard deviation; it warns where heights aren't those of the points. Where a region's name begins with
+`ground`, the table of a survey of version 3 has the volumes above it with plus or minus. The map has a legend, a
+scale bar and a north arrow, and the page prints on A4.
+
 Where OUT.asc is a difference, as `sgm change` writes it, the page shows it: what rose red, what fell blue, the four
 counts and both volumes of OUT.csv, and the same for the calibration's regions and for a drawn rectangle, with the
-spread of its differences. A rectangle in which nothing has changed gives the base and says what is noise. Needs
-numpy and Pillow.
+spread of its differences. A rectangle in which nothing has changed gives the base and says what is noise.
+
+Where the calibration has a `pose`, heights, cells and points are in the site's frame, as the program's are. With
+--control-points the page has the rectified left picture, as the program matched it, in full size and with the
+disparities: places of the site whose east, north and height are known are clicked on it, these three are typed
+beside each, and the page gives the table for tools/site_pose.py, `name,x,y,east,north,up` with x and y in pixels
+of that picture and the others in metres. A calibration without a grid gives a page of control points alone; only
+OUT.pgm is read then. Needs numpy and Pillow.
 """
 
 import argparse
 import base64
+import dataclasses
+import datetime
 import html
 import json
 import os
+import zlib
 
 import cell_pixels
 import change_volumes
+import check_trace
 import heights_picture
 import sgm_files
+import sgm_points
 import sgm_regions
+import sgm_warp
 import stretch
 from sgm_files import Image, Wrong, numpy, whole
+from sgm_points import Points
 
 TEMPLATE = os.path.join(os.path.dirname(os.path.realpath(__file__)), "survey_page.html")
 MOST_CELLS = 4_000_000
@@ -41,6 +59,8 @@ LONGEST_SIDE = 1600
 VIOLET = (150, 40, 220, 150)
 # Beyond every height and every change.
 BEYOND = 1 << 40
+# Longer lists of a calibration are shown by how long they are.
+LONGEST_LIST = 9
 
 
 # The calibration
@@ -60,6 +80,85 @@ def regions_of(calibration, report):
         line = {**line, "fill": str(line["fill"]), "cut": str(line["cut"])}
         made.append({"name": region["name"], **numbers, "report": line})
     return made
+
+
+def pose_in(calibration):
+    """The calibration's pose as the page has it, or None."""
+    pose = sgm_points.pose_of(calibration)
+    return None if pose is None else pose.section()
+
+
+def setting_words(value):
+    """A part of a calibration in words."""
+    if isinstance(value, dict):
+        return ", ".join(f"{key} {setting_words(it)}" for key, it in value.items())
+    if isinstance(value, list) and len(value) > LONGEST_LIST:
+        return f"({len(value)} of them)"
+    return json.dumps(value).strip('"')
+
+
+def settings_of(calibration):
+    """What the calibration says beside its regions: each part with its words."""
+    return [[key, setting_words(value)] for key, value in calibration.items() if key != "regions"]
+
+
+def file_made(name):
+    """A file's name, and when it was written last."""
+    written = datetime.datetime.fromtimestamp(os.path.getmtime(name), datetime.timezone.utc)
+    return {"name": os.path.basename(name), "date": f"{written:%Y-%m-%d %H:%M} UTC"}
+
+
+# How sure cells are
+
+
+@dataclasses.dataclass
+class Tally:
+    """What the points of the map make of cells, as arrays: how many fall into each, their mean and highest
+    height, and the standard deviation of their heights, all of them about their mean; 0 without points."""
+
+    numbers: "numpy.ndarray"
+    means: "numpy.ndarray"
+    highest: "numpy.ndarray"
+    spreads: "numpy.ndarray"
+
+
+def tallied(row, col, up, shape):
+    """The tally of points in cells of that shape. Spreads are to the nearest micrometre, halves up, by
+    floating point numbers; all else is exact."""
+    at = row * shape[1] + col
+    order = numpy.argsort(at, kind="stable")
+    at, up = at[order], up[order]
+    first = numpy.flatnonzero(numpy.diff(at, prepend=-1))
+    made = Tally(*(numpy.zeros(shape, numpy.int64) for _ in range(4)))
+    if not len(first):
+        return made
+    numbers = numpy.diff(first, append=len(at))
+    means = sgm_points.rounded(numpy.add.reduceat(up, first), numbers)
+    off = up - numpy.repeat(means, numbers)
+    squares = numpy.add.reduceat(off.astype(float) ** 2, first)
+    # The mean was rounded, so the deviations from it leave a rest.
+    rest = numpy.add.reduceat(off, first).astype(float)
+    spreads = numpy.sqrt((numbers * squares - rest**2).clip(min=0)) / numbers
+    found = {"numbers": numbers, "means": means, "highest": numpy.maximum.reduceat(up, first)}
+    found["spreads"] = numpy.floor(spreads + 0.5)
+    for key, numbers in found.items():
+        getattr(made, key).ravel()[at[first]] = numbers
+    return made
+
+
+def strange_cells(calibration, grid, tally):
+    """How many cells have a height that isn't that of their points."""
+    is_mean, bridge = cell_pixels.keeps_mean(calibration), calibration["grid"].get("bridge", 0)
+    there = tally.numbers > 0
+    strange = there & (grid.heights != (tally.means if is_mean else tally.highest))
+    if not bridge:
+        strange |= grid.filled & ~there
+    return int(strange.sum())
+
+
+def packed_text(numbers):
+    """Numbers as 32 bits each, the least byte first, packed and in base 64."""
+    return text_of(zlib.compress(numbers.astype("<u4").tobytes()))
 
 
 # Heights
@@ -102,13 +201,11 @@ def heights_text(grid):
     return text_of(numpy.where(grid.filled, grid.heights, grid.nothing).astype("<f8" if is_change else "<i4").tobytes())
 
 
-def bridges_of(calibration, grid, values, filled):
-    """Which cells are bridged, as an array; None where none can be, or where the points aren't
-    known here."""
+def bridges_of(calibration, grid, points):
+    """Which cells are bridged, as an array; None where none can be. `points` says which have some."""
     sides = calibration.get("grid", {})
-    if calibration.get("version") != 3 or not sides.get("bridge") or "pose" in calibration:
+    if calibration.get("version") != 3 or not sides.get("bridge"):
         return None
-    points = cell_pixels.cells_with_points(values, filled, cell_pixels.Points(calibration), grid)
     if (points & ~grid.filled).any():
         raise Wrong("the heights aren't those of the disparities by this calibration")
     return grid.filled & ~points
@@ -142,11 +239,41 @@ def thinned(pixels):
     return numpy.ascontiguousarray(pixels[::step, ::step])
 
 
-def left_text(name):
-    samples, most = sgm_files.read_pgm(name)
-    # Dark pictures are spread over all greys.
+def greys(samples, most):
+    """Samples as greys of 8 bits. Dark pictures are spread over all of them."""
     brightest = max(1, min(most, int(samples.max())))
-    return picture_text(thinned((samples.astype(numpy.int64) * 255 // brightest).astype(numpy.uint8)))
+    return (samples.astype(numpy.int64) * 255 // brightest).astype(numpy.uint8)
+
+
+def left_text(name):
+    return picture_text(thinned(greys(*sgm_files.read_pgm(name))))
+
+
+def rectified(samples, calibration):
+    """The rectified left picture; 0 where a pixel is void."""
+    height, width = samples.shape
+    warp, xs = sgm_warp.Warp(check_trace.warp_of(calibration, "left"), width, height), numpy.arange(width)
+    rows = [warp.rectified(samples, xs, numpy.full(width, y)) for y in range(height)]
+    return numpy.array(rows).clip(min=0)
+
+
+def control_of(out, calibration, left):
+    """The rectified left picture with the samples of OUT.pgm, in full size, and what makes points of them."""
+    samples, most = sgm_files.read_pgm(left)
+    values, filled = sgm_files.read_disparities(out + ".pgm")
+    if samples.shape != values.shape:
+        raise Wrong(f"{left} and {out}.pgm have different sizes: is it the left picture of this survey?")
+    sgm_files.progress("rectifying")
+    picture = rectified(samples, calibration)
+    found = numpy.where(filled, values + 16, 0).astype("<u2")
+    return {
+        "width": values.shape[1],
+        "height": values.shape[0],
+        "picture": picture_text(greys(picture, most)),
+        "samples": text_of(zlib.compress(found.tobytes())),
+        "first": whole(calibration, "disparities", "first"),
+        **{key: whole(calibration, "camera", key) for key in sgm_points.CAMERA},
+    }
 
 
 def span_of(calibration, values, filled):
@@ -166,23 +293,33 @@ def span_of(calibration, values, filled):
 # The page
 
 
-def survey(out, calibration, left):
+def survey(out, calibration, left, with_control=False):
     """Everything that the page knows."""
-    grid = sgm_files.read_grid(out + ".asc")
-    sgm_files.check_grid(calibration, grid)
-    if grid.nothing == sgm_files.NO_DIFFERENCE:
-        known = change_of(out, calibration, grid)
+    has_grid = "grid" in calibration or not with_control
+    if has_grid:
+        grid = sgm_files.read_grid(out + ".asc")
+        sgm_files.check_grid(calibration, grid)
     else:
-        known = survey_of(out, calibration, grid)
-    sgm_files.progress("drawing")
+        # One empty cell, which isn't shown.
+        nothing = numpy.array([[sgm_files.NO_HEIGHT]])
+        grid = sgm_files.Grid(0, 0, 1, nothing, numpy.zeros((1, 1), bool))
+    is_change = grid.nothing == sgm_files.NO_DIFFERENCE
+    if is_change and with_control:
+        raise Wrong("a change has no control points: take the page of one of its surveys")
     rows, cols = grid.heights.shape
     block = block_of(rows, cols)
+    known = change_of(out, calibration, grid) if is_change else survey_of(out, calibration, grid, block)
+    control = control_of(out, calibration, left) if with_control else None
+    sgm_files.progress("drawing")
     # Blocks of cells are no bridges.
     marks = marks_of(known.get("bridged") if block == 1 else None)
     shown = reduced(grid, block)
-    colours, _ = heights_picture.drawn(shown)
+    colours, ends = heights_picture.drawn(shown)
+    change_scale = (heights_picture.BLUE, (250, 250, 250), heights_picture.RED)
     return {
         "version": calibration.get("version"),
+        "pose": pose_in(calibration),
+        "hasGrid": has_grid,
         "gridCols": cols,
         "gridRows": rows,
         "block": block,
@@ -193,22 +330,43 @@ def survey(out, calibration, left):
         "cols": shown.heights.shape[1],
         "rows": shown.heights.shape[0],
         "map": picture_text(colours),
-        "left": left_text(left) if left else None,
+        "scale": {"ends": ends, "colours": change_scale if is_change else heights_picture.SCALE},
+        "settings": settings_of(calibration),
+        "made": file_made(out + (".asc" if has_grid else ".pgm")),
+        "left": left_text(left) if left and not control else None,
+        "control": control,
         "heights": heights_text(shown),
         **marks,
         **{key: value for key, value in known.items() if key != "bridged"},
     }
 
 
-def survey_of(out, calibration, grid):
+def sure_of(calibration, grid, values, filled, block):
+    """How sure the cells that are shown are, how many have a strange height, and which of the grid have
+    points."""
+    row, col, up = cell_pixels.points_in_grid(values, filled, Points(calibration), grid)
+    tally = tallied(row, col, up, grid.heights.shape)
+    strange, there = strange_cells(calibration, grid, tally), tally.numbers > 0
+    if block > 1:
+        tally = tallied(row // block, col // block, up, [-(-side // block) for side in grid.heights.shape])
+    texts = {key: packed_text(getattr(tally, key)) for key in ("numbers", "spreads")}
+    return {"sure": texts, "strange": strange}, there
+
+
+def survey_of(out, calibration, grid, block):
     """What is a survey's alone."""
     report = sgm_files.read_report(out + ".csv") if "regions" in calibration else []
     regions = regions_of(calibration, report)
     values, filled = sgm_files.read_disparities(out + ".pgm")
     numbers, _ = stretch.stretched(values, filled)
+    sure, points = {"sure": None, "strange": 0}, grid.filled
+    if "grid" in calibration:
+        sgm_files.progress("counting points")
+        sure, points = sure_of(calibration, grid, values, filled, block)
     return {
         "change": None,
-        "bridged": bridges_of(calibration, grid, values, filled),
+        **sure,
+        "bridged": bridges_of(calibration, grid, points),
         "camera": {key: whole(calibration, "camera", key) for key in ("focal", "baseline", "mount")},
         "disparities": span_of(calibration, values, filled),
         "regions": regions,
@@ -231,6 +389,8 @@ def change_of(out, calibration, grid):
     volumes = {key: str(said[key]) for key in ("fill", "cut")}
     darkest = heights_picture.darkest_of(grid)
     return {
+        "sure": None,
+        "strange": 0,
         "change": {**counts, "neither": said["empty"], **volumes, "darkest": darkest},
         "regions": [{**region, "base": 0, "rise_east": 0, "rise_north": 0} for region in regions],
         "disparityMap": None,
@@ -252,11 +412,16 @@ def main():
     calib = "the calibration of that match, or of either match of the change"
     parser.add_argument("--calib", required=True, metavar="FILE.json", help=calib)
     parser.add_argument("--left", metavar="FILE.pgm", help="the left picture, to be shown too")
+    control = "show it rectified and in full size, for control points (needs --left)"
+    parser.add_argument("--control-points", action="store_true", help=control)
     parser.add_argument("--out", metavar="FILE.html", help="the page (OUT.html)")
     parser.add_argument("--title", metavar="TEXT", help="the heading (the name of OUT)")
     words = parser.parse_args()
+    if words.control_points and not words.left:
+        parser.error("--control-points needs --left")
     sgm_files.need(numpy=numpy, PIL=Image)
-    known = survey(words.survey, sgm_files.read_json(words.calib), words.left)
+    calibration = sgm_files.read_json(words.calib)
+    known = survey(words.survey, calibration, words.left, words.control_points)
     title = words.title or f"{'Change' if known['change'] else 'Survey'} {os.path.basename(words.survey)}"
     name = words.out or words.survey + ".html"
     sgm_files.progress(f"writing {name}")
