@@ -73,4 +73,4 @@ _sgm_tool() {
 complete -F _sgm sgm
 complete -F _sgm_series sgm_series
 complete -F _sgm_tool sgm-calibrate sgm-calibration sgm-photo sgm-page sgm-heights sgm-stretch sgm-cubic-metres \
-    sgm-change-volumes sgm-cell-pixels sgm-check-trace sgm-explain-pixel sgm-series-left
+    sgm-site-pose sgm-export-grid sgm-export-points sgm-change-volumes sgm-cell-pixels sgm-check-trace sgm-explain-pixel sgm-series-left

@@ -106,7 +106,8 @@ def page(tool, names):
     for word, meaning in words:
         lines += [".TP", f".B {escaped(word)}", escaped(meaning) or "\\&"]
     lines += [".SH EXIT STATUS", "0 where it is done, 1 where a file can't be read, used or written, which one line"]
-    lines += ["on standard error then says, 2 for wrong words."]
+    others = " Others stand in the description." if re.search(r"(?m)^It ends with", head) else ""
+    lines += [f"on standard error then says, 2 for wrong words.{others}"]
     lines += [".SH EXAMPLES", *block(example), ".SH SEE ALSO", ".BR sgm (1),", "/usr/share/doc/sgm/docs/GUIDE.md"]
     return "\n".join(lines) + "\n"
 

@@ -114,8 +114,10 @@ def calibrate(left, right, places, size, with_k3):
     first, k1, d1, *_ = cv2.calibrateCamera(objects, left, size, None, None, flags=flags)
     second, k2, d2, *_ = cv2.calibrateCamera(objects, right, size, None, None, flags=flags)
     sgm_files.progress("calibrating the pair")
-    made = cv2.stereoCalibrate(objects, left, right, k1, d1, k2, d2, size, flags=cv2.CALIB_FIX_INTRINSIC)
-    pair, _, _, _, _, turn, shift = made[:7]
+    # Both cameras see the same boards, so all numbers together are better known than each camera's alone.
+    flags |= cv2.CALIB_USE_INTRINSIC_GUESS
+    made = cv2.stereoCalibrate(objects, left, right, k1, d1, k2, d2, size, flags=flags)
+    pair, k1, d1, k2, d2, turn, shift = made[:7]
     rows = rows_apart(left, right, (k1, d1, k2, d2), size, turn, shift)
     parts = {"M1": k1, "D1": d1, "M2": k2, "D2": d2, "R": turn, "T": shift}
     return parts, {"left camera": first, "right camera": second, "pair": pair, "rows of the rectified pair": rows}

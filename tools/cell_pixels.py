@@ -5,7 +5,7 @@
 
 Reads OUT.pgm and OUT.asc. Columns count from the west and rows from the north, both from 0, as on the page of
 tools/survey_page.py. Each line has a pixel, its disparity in pixels and its point: metres to the east and to
-the north of the left camera, and the height. Where a cell keeps the highest, the first line's height is the
+the north of the left camera, and the height; with a `pose` they are those of the site's frame. Where a cell keeps the highest, the first line's height is the
 cell's, and where it keeps the mean (`keep` of version 3), that of all lines; a height that no pixel has made is
 a bridge. Without --all no more than ten are shown. tools/explain_pixel.py shows why a pixel has its disparity.
 Needs numpy.
@@ -15,75 +15,30 @@ import argparse
 import re
 
 import sgm_files
-from sgm_files import Wrong, decimal, numpy, whole
+from sgm_files import Wrong, decimal, numpy
+from sgm_points import Points, rounded
 
 SHOWN = 10
-CAMERA = ("focal", "baseline", "cx", "cy", "doffs", "mount", "near", "far")
-
-
-def rounded(a, b):
-    """To the nearest whole number, halves up."""
-    return (2 * a + b) // (2 * b)
-
-
-class Points:
-    """The points of a calibration's camera. Numbers may be whole ones or arrays of int64."""
-
-    def __init__(self, calibration):
-        for key in CAMERA:
-            setattr(self, key, whole(calibration, "camera", key))
-        self.first = whole(calibration, "disparities", "first")
-
-    def k_of(self, value):
-        """256 times the disparity, with doffs, from a value in sixteenths of a pixel above the first."""
-        return 16 * (16 * self.first + value) + self.doffs
-
-    def of(self, x, y, value):
-        """East, north and height, or None."""
-        k = self.k_of(value)
-        if k <= 0:
-            return None
-        away = rounded(self.focal * self.baseline, k)
-        if not self.near <= away <= self.far:
-            return None
-        east = rounded((256 * x - self.cx) * self.baseline, k)
-        return east, rounded((self.cy - 256 * y) * self.baseline, k), self.mount - away
 
 
 def pixels_in(values, filled, points, grid, col, row):
     """The pixels whose points fall into the cell: height, x, y, value, east, north; the highest first."""
     below = grid.heights.shape[0] - 1 - row
     west, south = grid.west + col * grid.cell, grid.south + below * grid.cell
-    ys, xs = numpy.nonzero(filled & (points.k_of(values) > 0))
-    k = points.k_of(values[ys, xs])
-    away = rounded(points.focal * points.baseline, k)
-    east = rounded((256 * xs - points.cx) * points.baseline, k)
-    north = rounded((points.cy - 256 * ys) * points.baseline, k)
-    inside = (points.near <= away) & (away <= points.far) & (west <= east) & (east < west + grid.cell)
+    xs, ys, found, east, north, up = points.in_picture(values, filled)
+    inside = (west <= east) & (east < west + grid.cell)
     inside &= (south <= north) & (north < south + grid.cell)
-    found = zip(*(it[inside] for it in (points.mount - away, xs, ys, values[ys, xs], east, north)))
-    return sorted((tuple(map(int, it)) for it in found), key=lambda it: (-it[0], it[2], it[1]))
+    listed = zip(*(it[inside] for it in (up, xs, ys, found, east, north)))
+    return sorted((tuple(map(int, it)) for it in listed), key=lambda it: (-it[0], it[2], it[1]))
 
 
-def cells_with_points(values, filled, points, grid):
-    """Which cells of the grid points fall into, as an array."""
-    ys, xs = numpy.nonzero(filled & (points.k_of(values) > 0))
-    k = points.k_of(values[ys, xs])
-    away = rounded(points.focal * points.baseline, k)
-    col = (rounded((256 * xs - points.cx) * points.baseline, k) - grid.west) // grid.cell
-    south = (rounded((points.cy - 256 * ys) * points.baseline, k) - grid.south) // grid.cell
+def points_in_grid(values, filled, points, grid):
+    """The row, the column and the height of each point that falls into the grid, as arrays."""
+    *_, east, north, up = points.in_picture(values, filled)
+    col, south = (east - grid.west) // grid.cell, (north - grid.south) // grid.cell
     rows, cols = grid.heights.shape
-    inside = (
-        (points.near <= away)
-        & (away <= points.far)
-        & (0 <= col)
-        & (col < cols)
-        & (0 <= south)
-        & (south < rows)
-    )
-    made = numpy.zeros((rows, cols), bool)
-    made[rows - 1 - south[inside], col[inside]] = True
-    return made
+    inside = (0 <= col) & (col < cols) & (0 <= south) & (south < rows)
+    return rows - 1 - south[inside], col[inside], up[inside]
 
 
 def keeps_mean(calibration):

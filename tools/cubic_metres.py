@@ -31,9 +31,14 @@ With --heights OUT.asc, the heights of that survey, there is a third word, `plus
 may be off: cells * cell * cell * (2 s + 3 D) / 6, where s is what a sixteenth of a pixel is in height on the
 ground, 16 Z Z / (focal * baseline) at the distance Z = mount - ground, and D the mean of how far the ground's
 cells lie from their mean height, each to the nearest micrometre; where bases slope, D is of each
-height less its base. It is meant for surveys in version 3 with
+height less its base. Where the calibration has a `pose`, cells aren't equally far away and points move along
+slanting lines of sight: s is then 16 Z A / (focal * baseline), Z being the distance along the camera's axis at the
+mean place of the cells on the ground's plane, and A the height of the camera above that plane. It is taken at the
+region's cells and at the ground's, and the greater counts. For level ground below a camera that looks straight down
+all of this is the same number. It is meant for surveys in version 3 with
 `fine` true and cells that keep the mean and are bridged; what it covers and what it doesn't is said on standard
-error. Of 144 volumes of drawn heaps, at eight heights of the camera, all were within it.
+error. Of 144 volumes of drawn heaps, at eight heights of the camera, all were within it. Those cameras looked straight
+down; with cameras that look aslant it hasn't been tried so.
 
 The volumes of a change become `both,come,gone,empty,fill_m3,cut_m3,net_m3`; they have no regions and no ground
 (tools/change_volumes.py has those).
@@ -49,6 +54,7 @@ import json
 import sys
 
 import sgm_files
+import sgm_points
 import sgm_regions
 from sgm_files import Wrong
 from sgm_regions import plus_minus
@@ -197,16 +203,34 @@ def uncertain(regions, survey, ground, words):
         raise Wrong(
             text if text.startswith(words.heights) else f"{words.heights}: {text}"
         ) from None
-    camera = {
-        key: sgm_files.whole(survey.whole, "camera", key) for key in ("focal", "baseline", "mount")
-    }
+    height, spread = sgm_regions.ground_spread(*found[ground])
+    for number, region in enumerate(regions):
+        if not is_above(survey, number, ground):
+            yield [""]
+            continue
+        sixteenth = sixteenth_of(number, regions, survey, ground, (height, grid.filled, words))
+        volume = plus_minus(region[1], survey.cell, sixteenth, spread)
+        yield [moved(volume, 18, words.digits)]
+
+
+def sixteenth_of(number, regions, survey, ground, of_ground):
+    """What a sixteenth of a pixel is in height on the ground of a region."""
+    height, filled, words = of_ground
+    keys = ("focal", "baseline", "mount")
+    camera = {key: sgm_files.whole(survey.whole, "camera", key) for key in keys}
     if camera["focal"] < 1 or camera["baseline"] < 1:
         raise Wrong(f"{words.calibration}: not a calibration of sgm with a camera")
-    height, spread = sgm_regions.ground_spread(*found[ground])
-    sixteenth = sgm_regions.sixteenth_at(height, camera)
-    for number, region in enumerate(regions):
-        volume = moved(plus_minus(region[1], survey.cell, sixteenth, spread), 18, words.digits)
-        yield [volume if is_above(survey, number, ground) else ""]
+    if sgm_points.pose_of(survey.whole) is None:
+        return sgm_regions.sixteenth_at(height, camera)
+    points, sides = sgm_points.Points(survey.whole), sgm_regions.grid_in(survey.whole)
+    areas = sgm_files.regions_in(survey.whole)
+    base = mean_height(regions[ground], survey.bases[ground], survey.cell)
+    plane = dict(zip(("base", "rise_east", "rise_north"), (base, *survey.rises[ground])))
+    middles = [sgm_regions.middle_of(areas[at], sides, filled) for at in (number, ground)]
+    made = [sgm_regions.sixteenth_aslant(it, plane, sides, points) for it in middles if it[0]]
+    if None in made:
+        raise Wrong(f"{words.calibration}: by its pose the camera doesn't look down on the ground")
+    return max(made)
 
 
 def columns_above(regions, words):

@@ -9,7 +9,7 @@ least. Here it is asked for the certificate of each direction for that index and
 the program. A table shows what they come to; below it stands, in version 3 of the calibration, what the index's cost at
 the pixel is made of, then by how much the index wins, what lies between it and its neighbours (a sixteenth of a pixel is the finest step), what the program's own disparity picture has
 there (`sgm match`, without peaks or filling, in a folder that goes away again), and the point in metres where the
-calibration has a camera.
+calibration has a camera, in the site's frame where it has a pose.
 
 Where the calibration has `fine` true, the program is asked for its picture without that too. From
 what this one has around the pixel, and from the two pictures, follows how the disparity is made
@@ -29,10 +29,11 @@ import tempfile
 
 import check_trace
 import sgm_files
-from cell_pixels import Points, sixteenths
+from cell_pixels import sixteenths
 from check_trace import DIRECTIONS
 from fine_step import Finer, Mean
 from sgm_files import Wrong, decimal
+from sgm_points import Points
 
 PROGRAM = os.path.normpath(os.path.join(os.path.dirname(os.path.abspath(__file__)), "..", "sgm"))
 
@@ -296,12 +297,15 @@ def explain_finer(pair, words, before, after):
 def point_line(calibration, words, value):
     if value is None or "camera" not in calibration:
         return
-    point = Points(calibration).of(words.x, words.y, value)
+    points = Points(calibration)
+    point = points.of(words.x, words.y, value)
     if point is None:
-        yield "It has no point: its distance is below `near` or above `far`, or none."
+        beyond = ", or its height is out of range" if points.pose else ""
+        yield f"It has no point: its distance is below `near` or above `far`, or none{beyond}."
     else:
         east, north, height = (decimal(it, 6) for it in point)
-        yield f"Its point lies {east} m to the east and {north} m to the north of the left camera, {height} m high."
+        where = "the site's origin" if points.pose else "the left camera"
+        yield f"Its point lies {east} m to the east and {north} m to the north of {where}, {height} m high."
 
 
 def main():

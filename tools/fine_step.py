@@ -7,7 +7,7 @@ where they are most alike, there the finer disparity is. Then comes the mean of 
 the pixels around it that are near.
 """
 
-from cell_pixels import rounded
+from sgm_points import rounded
 
 REACH = range(-2, 3)
 PLACES = [(i, j) for j in REACH for i in REACH]

@@ -31,6 +31,10 @@ micrometres a metre. --plane NAME says it for one region; --base-from OUT.asc CA
 others the plane that lies nearest to the cells of an earlier match, by least squares over its
 regions whose name begins with `ground`. Else it is level, at the BASE of --region, or at 0.
 
+With --version 3 --pose CALIB.json gives it the pose of an earlier calibration, as tools/site_pose.py has written
+it: so the grid and its regions can be laid in the site's frame, which is known behind the first match. The camera
+has to be the same one.
+
 Needs numpy, and OpenCV's package (cv2) for YAML, for XML, and where a rectification has to be computed.
 """
 
@@ -41,6 +45,7 @@ import math
 import re
 
 import sgm_files
+import sgm_points
 import sgm_regions
 from sgm_files import Wrong, numpy
 
@@ -571,6 +576,18 @@ def base_from(heights, earlier, grid):
     ), said + f"its cells lie {sum(away) // len(away)} micrometres from it in the mean"
 
 
+def pose_from(name, camera):
+    """The section `pose` of an earlier calibration, which has to be of this camera."""
+    earlier = sgm_files.read_json(name)
+    pose = sgm_points.pose_of(earlier)
+    if pose is None:
+        raise Wrong(f"{name}: it has no pose: tools/site_pose.py writes one")
+    for key in sgm_points.CAMERA_FRAME:
+        if sgm_files.whole(earlier, "camera", key) != camera[key]:
+            raise Wrong(f"{name}: its camera.{key} isn't this one, so its pose isn't either")
+    return pose.section()
+
+
 def calibration(parts, words):
     """The calibration, and the lines about it."""
     r1, r2, p1, p2 = rectification(parts, words.centred, words.alpha)
@@ -587,6 +604,8 @@ def calibration(parts, words):
         "warp": {side: view.mesh(size, step) for side, view in zip(("left", "right"), views)},
         "camera": camera,
     }
+    if words.pose is not None:
+        whole["pose"] = pose_from(words.pose, camera)
     if words.grid is not None:
         whole["grid"] = grid_of(words)
     regions, said = regions_of(words)
@@ -599,12 +618,6 @@ def calibration(parts, words):
         f"meshes of step {step} within {worst:.3f} pixels"
     )
     return whole, "\n".join([line, costs, *said])
-
-
-def text_of(whole):
-    """JSON with one line for each key of the top, and no longer than needed."""
-    lines = [f"{json.dumps(key)}:{json.dumps(value, separators=(',', ':'))}" for key, value in whole.items()]
-    return "{" + ",\n ".join(lines) + "}\n"
 
 
 # Words
@@ -751,6 +764,8 @@ def words_of():
         "with --version 3: the base plane of all other regions is that of the ground of this match"
     )
     option("--base-from", nargs=2, metavar=("OUT.asc", "CALIB.json"), help=ground)
+    pose = "with --version 3: the pose that this calibration has, of the same camera"
+    option("--pose", metavar="CALIB.json", help=pose)
     keep = f"with --version 3 and --grid: what a cell keeps of its points ({KEEP})"
     option("--keep", choices=("highest", "mean"), help=keep)
     bridge = f"with --version 3 and --grid: over how many cells heights are bridged, 0 to 8 ({BRIDGE})"
@@ -765,6 +780,8 @@ def words_of():
         parser.error("--penalties: P1 is above P2")
     if words.no_fine and words.version != 3:
         parser.error("--no-fine: needs --version 3")
+    if words.pose is not None and words.version != 3:
+        parser.error("--pose: needs --version 3")
     for name in ("keep", "bridge"):
         if getattr(words, name) is not None and (words.version != 3 or words.grid is None):
             parser.error(f"--{name}: needs --version 3 and --grid")
@@ -806,7 +823,7 @@ def main():
             whole, lines = calibration(read_calibration(words.files, words.size), words)
     except (ArithmeticError, ValueError, numpy.linalg.LinAlgError) as error:
         raise Wrong(f"no cameras have these numbers: {error}")
-    text = text_of(whole)
+    text = sgm_files.calibration_text(whole)
     if len(text) > LONGEST:
         raise Wrong(f"the file would be too long, {len(text)} bytes: give a larger --step")
     with open(words.out, "w") as file:

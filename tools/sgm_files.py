@@ -16,11 +16,16 @@ import sys
 
 DEBIAN_PYTHON = "/usr/bin/python3"
 DEBIAN_PACKAGES = {"numpy": "python3-numpy", "PIL": "python3-pil", "cv2": "python3-opencv"}
+DEBIAN_PACKAGES["GDAL"] = "python3-gdal"
 DEBIAN_PACKAGES["selenium"] = "python3-selenium chromium chromium-driver"
 
 
 class Wrong(Exception):
-    """What stands in the way, in words."""
+    """What stands in the way, in words, and the status with which the tool then ends."""
+
+    def __init__(self, text, status=1):
+        super().__init__(text)
+        self.status = status
 
 
 # Packages
@@ -76,7 +81,8 @@ def tool_name():
 
 
 def run(main):
-    """Ends with the status of main; what it raises for a reason that can be said is one line and 1."""
+    """Ends with the status of main; what it raises for a reason that can be said is one line and 1, or
+    the status that it has for it."""
     try:
         status = main()
         sys.stdout.flush()
@@ -87,7 +93,9 @@ def run(main):
     except OSError as error:
         sys.exit(f"{tool_name()}: {': '.join(str(it) for it in (error.filename, error.strerror or error) if it)}")
     except Wrong as error:
-        sys.exit(f"{tool_name()}: {error}")
+        progress("")
+        print(f"{tool_name()}: {error}", file=sys.stderr)
+        sys.exit(error.status)
     except MemoryError:
         sys.exit(f"{tool_name()}: no memory")
     except KeyboardInterrupt:
@@ -340,6 +348,15 @@ def check_grid(calibration, grid):
         col, row, across, down = (whole(region, key) for key in ("col", "row", "cols", "rows"))
         if not (0 <= col < cols and 0 <= row < rows and 1 <= across <= cols - col and 1 <= down <= rows - row):
             raise Wrong("a region of the calibration sticks out of the grid")
+
+
+def calibration_text(calibration):
+    """JSON with one line for each key of the top, and no longer than needed."""
+    lines = [
+        f"{json.dumps(key)}:{json.dumps(value, separators=(',', ':'))}"
+        for key, value in calibration.items()
+    ]
+    return "{" + ",\n ".join(lines) + "}\n"
 
 
 # Numbers in words

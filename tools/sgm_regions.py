@@ -258,6 +258,40 @@ def sixteenth_at(height, camera):
     return rounded(16 * away * away, camera["focal"] * camera["baseline"])
 
 
+def sixteenth_aslant(middle, plane, grid, points):
+    """The same where the camera has a pose, at a middle of cells on a plane of the ground; None where
+    the camera doesn't look down on that.
+
+    A point moves by dZ / Z of its distance from the camera, along its line of sight, where its
+    distance Z along the axis changes by dZ. So a plane that moves with its points rises by dZ / Z of
+    the camera's height above it, upright: 16 Z A / (focal * baseline).
+    """
+    away = points.mount - points.pose.back(*place_on(middle, plane, grid))[2]
+    east, north, up = points.centre()
+    rise = plane["rise_east"] * (east - grid["west"]) + plane["rise_north"] * (north - grid["south"])
+    above = up - plane["base"] - rounded(rise, 1_000_000)
+    if away <= 0 or above <= 0:
+        return None
+    return rounded(16 * away * above, points.focal * points.baseline)
+
+
+def middle_of(region, grid, filled):
+    """The sums over the region's cells that count and have a height: how many they are, and 2 col + 1
+    and 2 south + 1."""
+    there = filled[place_of(region)] & mask_of(region, grid)
+    rows, cols = numpy.nonzero(there)
+    cols, south = cols + region["col"], grid["rows"] - 1 - region["row"] - rows
+    return len(cols), int((2 * cols + 1).sum()), int((2 * south + 1).sum())
+
+
+def place_on(middle, plane, grid):
+    """East, north and height of a middle of cells on a plane, to the nearest micrometre."""
+    (n, across, along), cell = middle, grid["cell"]
+    rise = (plane["rise_east"] * across + plane["rise_north"] * along) * cell
+    east, north = (rounded(it * cell, 2 * n) for it in (across, along))
+    return grid["west"] + east, grid["south"] + north, plane["base"] + rounded(rise, RISE_UNIT * n)
+
+
 def ground_spread(heights, bases):
     """The mean of the ground's heights, and how far they lie, each less its base, from what they
     are so in the mean."""

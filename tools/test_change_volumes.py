@@ -62,6 +62,19 @@ class Tables(Changes):
         status, out, err = self.run_tool("--digits", "2")
         self.assertEqual(out.split("\n")[1], "west,2,0,0.00,0.00,0.00,0.50,0.50")
 
+    def test_moved_cameras(self):
+        """What the poses are has no part in it: the grids are in one frame."""
+        self.write([[1000000, -2000000, None], [0, 3000000, 4000000]], [("west", 0, 0, 1, 2)])
+        wanted = self.run_tool("--still", "west")
+        self.assertEqual(wanted[0], 0)
+        name = os.path.join(self.folder, "c.json")
+        calibration = sgm_files.read_json(name)
+        for matrix in ([1 << 30, 0, 0, 0, 858993459, -644245094, 0, 644245094, 858993459], 9 * [0]):
+            pose = {"matrix": matrix, "east": 5000000, "north": 0, "up": -7}
+            with open(name, "w") as file:
+                json.dump({**calibration, "version": 3, "pose": pose}, file)
+            self.assertEqual(self.run_tool("--still", "west"), wanted)
+
     def test_at_random(self):
         draw = random.Random(29)
         for most in (10, 10**6, 4 * 10**9):

@@ -19,6 +19,8 @@ import cubic_metres as tool
 import reference
 import reference_matching as matching
 import sgm_files
+import sgm_points
+import sgm_regions
 from cubic_metres import moved
 
 HEAD = "region,cells,empty,fill,cut,lowest,highest\n"
@@ -350,6 +352,85 @@ class PlusMinus(unittest.TestCase):
             ended = run(Ground.REPORT, *self.WORDS, calibration=text, heights=heights)
             self.assertEqual(ended, (1, "", f"cubic_metres: {line}\n", None), line)
 
+
+class Aslant(unittest.TestCase):
+    """Plus or minus where the camera has a pose."""
+
+    ONE = 1 << 30
+    CAMERA = {**PlusMinus.CAMERA, "cx": 0, "cy": 0, "doffs": 0, "near": 1, "far": 2000000000}
+    TILT = [ONE, 0, 0, 0, 858993459, -644245094, 0, 644245094, 858993459]
+
+    def calibration(self, matrix, camera=None, shifts=(0, 0, 0), regions=None):
+        given = PlusMinus().calibration(
+            version=3,
+            disparities={"first": 0},
+            camera=camera or self.CAMERA,
+            pose={"matrix": matrix, **dict(zip(("east", "north", "up"), shifts))},
+        )
+        return given if regions is None else json.dumps({**json.loads(given), "regions": regions})
+
+    def table(self, text):
+        status, out, err, _ = run(Ground.REPORT, *PlusMinus.WORDS, calibration=text, heights=PlusMinus.HEIGHTS)
+        self.assertEqual((status, err), (0, PlusMinus.SAID))
+        return [line.split(",")[-1] for line in out.splitlines()]
+
+    def test_straight_down(self):
+        """The same as without a pose: 1004500000 cubic micrometres. Nothing of it depends on where the camera is."""
+        identity = [self.ONE, 0, 0, 0, self.ONE, 0, 0, 0, self.ONE]
+        wanted = ["plus_minus_m3", "", "0.0000000010045", "0"]
+        self.assertEqual(self.table(self.calibration(identity)), wanted)
+        turned = [0, -self.ONE, 0, self.ONE, 0, 0, 0, 0, self.ONE]
+        self.assertEqual(self.table(self.calibration(turned, None, (5000000, -7000000, 0))), wanted)
+        # The camera lower by 100 um, and lifted by as much.
+        lower = {**self.CAMERA, "mount": 40002}
+        self.assertEqual(self.table(self.calibration(identity, lower, (0, 0, 100))), wanted)
+
+    def test_by_hand(self):
+        """A tilt of three, four, five: h is -0.6 of north and 0.8 of up. The camera stands at h = 50000, so at north
+        -30000 + 30000 = 0 and up 40000 + 102, which is 40000 above the ground at 102. There Z is 50000 + 0.6 (north -
+        30000). The ground's cells have their middle at north 2000, the pile's three at 3500: Z is 33200 and 34100,
+        and a sixteenth 16 * 33200 * 40000 / 25600000 = 830 and 852.5. The greater counts, rounded: the pile may be off
+        by 3000000 * (2 * 853 + 3 * 3) / 6 = 857500000."""
+        text = self.calibration(self.TILT, {**self.CAMERA, "mount": 50000}, (0, 30000, 102))
+        self.assertEqual(self.table(text), ["plus_minus_m3", "", "0.0000000008575", "0"])
+
+    def test_looks_away(self):
+        upwards = [self.ONE, 0, 0, 0, -self.ONE, 0, 0, 0, -self.ONE]
+        text = self.calibration(upwards)
+        ended = run(Ground.REPORT, *PlusMinus.WORDS, calibration=text, heights=PlusMinus.HEIGHTS)
+        line = "cubic_metres: c.json: by its pose the camera doesn't look down on the ground\n"
+        self.assertEqual(ended, (1, "", line, None))
+
+    def test_moved_surface(self):
+        """The step's height is that by which a plane of ground rises where every disparity is a sixteenth more."""
+        camera = {**self.CAMERA, "focal": 256 * 1000, "baseline": 500000, "mount": 12000000}
+        sides = {"west": 1000000, "south": -500000, "cell": 10000, "cols": 400, "rows": 300}
+        for rises in ((0, 0), (150000, -90000)):
+            whole = {"version": 3, "disparities": {"first": 0}, "camera": camera}
+            whole["pose"] = {"matrix": self.TILT, "east": 3000000, "north": -2000000, "up": 500000}
+            points = sgm_points.Points(whole)
+            plane = {"base": 100000, "rise_east": rises[0], "rise_north": rises[1]}
+            slope = [rise / 1e6 for rise in rises]
+            middle = (1, 2 * 150 + 1, 2 * 200 + 1)
+            found = sgm_regions.sixteenth_aslant(middle, plane, sides, points)
+            east, north, height = sgm_regions.place_on(middle, plane, sides)
+            centre = points.centre()
+
+            def moved_place(east, north):
+                """Where the plane's point over (east, north) goes."""
+                at = plane["base"] + slope[0] * (east - sides["west"]) + slope[1] * (north - sides["south"])
+                matrix = [it / self.ONE for it in self.TILT]
+                away = [a - b for a, b in zip((east, north, at), centre)]
+                depth = -sum(m * it for m, it in zip(matrix[2::3], away))
+                k = camera["focal"] * camera["baseline"] / depth
+                part = k / (k + 16)
+                return [c + part * it for c, it in zip(centre, away)]
+
+            place = [east, north]
+            for _ in range(50):
+                there = moved_place(*place)
+                place = [place[0] + east - there[0], place[1] + north - there[1]]
+            self.assertAlmostEqual((moved_place(*place)[2] - height) / found, 1, delta=0.01)
 
 
 class Slopes(unittest.TestCase):

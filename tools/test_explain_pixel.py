@@ -3,6 +3,7 @@
 added up by hand, and the separate implementation (tests/reference.py) as the program; with programs
 that say something wrong; and with the worked rows of finer disparities."""
 
+import argparse
 import os
 import subprocess
 import sys
@@ -395,6 +396,29 @@ class Cells(Tool):
                 self.assertEqual(points.of(x, y, value), (east, north, high))
                 self.assertEqual((east - grid.west) // grid.cell, col)
                 self.assertEqual((north - grid.south) // grid.cell, rows - 1 - row)
+
+
+class Poses(unittest.TestCase):
+    """The point of a pixel in the site's frame: a tilt of three, four, five."""
+
+    TILT = [1 << 30, 0, 0, 0, 858993459, -644245094, 0, 644245094, 858993459]
+
+    def line(self, up, value=0):
+        camera = {"focal": 25600, "baseline": 1000, "cx": 0, "cy": 0, "doffs": 256}
+        whole = {"version": 3, "disparities": {"first": 0, "count": 2}}
+        whole["camera"] = {**camera, "mount": 150000, "near": 1, "far": 1000000}
+        whole["pose"] = {"matrix": self.TILT, "east": 0, "north": -1, "up": up}
+        words = argparse.Namespace(x=3, y=1)
+        return list(tool.point_line(whole, words, value))
+
+    def test_point(self):
+        said = "Its point lies 0.003 m to the east and -0.030801 m to the north of the site's origin,"
+        self.assertEqual(self.line(7), [f"{said} 0.039407 m high."])
+
+    def test_no_point(self):
+        said = "It has no point: its distance is below `near` or above `far`, or none, or its height is out of range."
+        self.assertEqual(self.line(1999960601), [said])
+        self.assertEqual(self.line(7, None), [])
 
 
 if __name__ == "__main__":

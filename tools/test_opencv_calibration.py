@@ -184,6 +184,31 @@ class WithoutDistortion(unittest.TestCase):
             with open(os.path.join(folder, "made.json")) as file:
                 return json.load(file), done.stdout
 
+    def test_pose(self):
+        """That of an earlier calibration of the same camera, behind the camera."""
+        plain, _ = self.run_with("")
+        section = {"matrix": [1 << 30, 0, 0, 0, 858993459, -644245094, 0, 644245094, 858993459]}
+        section |= {"east": 5, "north": -7, "up": 9}
+        posed = {**plain, "pose": section}
+        made, _ = self.run_with("--pose c.json --near 900000", c_json=posed)
+        self.assertEqual(made["pose"], section)
+        keys = list(made)
+        self.assertEqual(keys[keys.index("camera") + 1], "pose")
+        for name, earlier, line in [
+            ("c.json", plain, "it has no pose: tools/site_pose.py writes one"),
+            ("c.json", {**posed, "version": 2}, "it has no pose: tools/site_pose.py writes one"),
+            (
+                "c.json",
+                {**posed, "camera": {**plain["camera"], "mount": 1}},
+                "its camera.mount isn't this one, so its pose isn't either",
+            ),
+            ("none.json", plain, "No such file or directory"),
+        ]:
+            self.assertEqual(self.run_with(f"--pose {name}", c_json=earlier), (None, f"{name}: {line}"))
+        wrong = {**posed, "pose": {**section, "matrix": 9 * [0]}}
+        line = "the calibration's pose.matrix isn't nearly a rotation"
+        self.assertEqual(self.run_with("--pose c.json", c_json=wrong), (None, line))
+
     def test_bases_of_the_third_version(self):
         """Level where nothing is said, or the plane of its name."""
         made, _ = self.run_with(
@@ -464,6 +489,7 @@ class WithoutDistortion(unittest.TestCase):
             ("--census 4x4", "argument --census: 4x4 isn't a width x height in range"),
             ("--penalties 5 4", "--penalties: P1 is above P2"),
             ("--no-fine", "--no-fine: needs --version 3"),
+            ("--pose c.json", "--pose: needs --version 3"),
             (ten + " --keep mean", "--keep: needs --version 3 and --grid"),
             ("--version 3 --bridge 0", "--bridge: needs --version 3 and --grid"),
             (ten + " --version 3 --bridge 9", "argument --bridge: 9 isn't a whole number from 0 to 8"),

@@ -1,0 +1,115 @@
+"""The warps of a calibration for whole pictures: where rectified pixels are taken from, what they are,
+and which rectified place shows a place of the photograph.
+
+Needs numpy. Places are pixels, (0, 0) being the middle of the upper left one.
+"""
+
+from sgm_files import Wrong, numpy
+
+# How near the way back has to come, in pixels, after at most so many steps.
+NEAR_ENOUGH, MOST_STEPS = 1e-4, 60
+# The greatest element of a matrix of a calibration.
+MOST_ELEMENT = 1 << 40
+# Over so many pixels a slope of the warp is taken.
+SPAN = 0.25
+
+
+class Warp:
+    """One side's warp, as tools/check_trace.py gives it, for pictures of that size."""
+
+    def __init__(self, warp, width, height):
+        self.warp, self.kind, self.size = warp, warp["kind"], (width, height)
+        if self.kind == "projective" and max(map(abs, warp["matrix"])) > MOST_ELEMENT:
+            raise Wrong("a matrix of the calibration is out of range")
+        if self.kind == "mesh":
+            step, cols, rows = (warp[key] for key in ("step", "cols", "rows"))
+            if [cols, rows] != [(side - 1) // step + 2 for side in (width, height)]:
+                raise Wrong("a mesh of the calibration isn't made for pictures of this size")
+            self.nodes = numpy.array(warp["nodes"], numpy.int64).reshape(rows, cols, 2)
+
+    def places(self, x, y):
+        """Where the rectified pixels are taken from, in 1/256 of a pixel: u and v, as the program rounds
+        them. The pixels are arrays of whole numbers."""
+        if self.kind == "identity":
+            return 256 * x, 256 * y
+        if self.kind == "projective":
+            # Places are below 2^12, so a product is below 2^52, and 256 times three of them below 2^62.
+            x, y = (numpy.asarray(it, numpy.int64) for it in (x, y))
+            a = self.warp["matrix"]
+            below = a[6] * x + a[7] * y + a[8]
+            self.check_below(below)
+            return tuple(256 * (a[i] * x + a[i + 1] * y + a[i + 2]) // below for i in (0, 3))
+        step = self.warp["step"]
+        blended = self.blended(x // step, y // step, x % step, y % step, step)
+        return blended[..., 0] // step**2, blended[..., 1] // step**2
+
+    def place(self, x, y):
+        """The same for any place, in pixels and not rounded."""
+        if self.kind == "identity":
+            return numpy.array([x, y], float)
+        if self.kind == "projective":
+            a = [float(it) for it in self.warp["matrix"]]
+            below = a[6] * x + a[7] * y + a[8]
+            self.check_below(numpy.array([below]))
+            return numpy.array([(a[i] * x + a[i + 1] * y + a[i + 2]) / below for i in (0, 3)])
+        step = self.warp["step"]
+        rows, cols, _ = self.nodes.shape
+        # Beside the nodes the outermost cells go on.
+        col, row = (min(max(int(it // step), 0), most - 2) for it, most in ((x, cols), (y, rows)))
+        return self.blended(col, row, x - col * step, y - row * step, step) / (256 * step**2)
+
+    def check_below(self, below):
+        if (below <= 0).any():
+            raise Wrong("a matrix of the calibration has a denominator that isn't positive")
+
+    def blended(self, col, row, a, b, step):
+        """Of four nodes of the mesh, step * step times what lies between them."""
+        corners = (
+            (self.nodes[row, col], (step - a) * (step - b)),
+            (self.nodes[row, col + 1], a * (step - b)),
+            (self.nodes[row + 1, col], (step - a) * b),
+            (self.nodes[row + 1, col + 1], a * b),
+        )
+        return sum(node * numpy.asarray(weight)[..., None] for node, weight in corners)
+
+    def rectified(self, samples, xs, ys):
+        """The rectified picture's values at these pixels, and -1 where it is void."""
+        u, v = self.places(xs, ys)
+        (left, to_right), (top, to_bottom) = divmod(u, 256), divmod(v, 256)
+        height, width = samples.shape
+        total, is_void = numpy.full(left.shape, 32768, numpy.int64), numpy.zeros(left.shape, bool)
+        for i, across in ((left, 256 - to_right), (left + 1, to_right)):
+            for j, down in ((top, 256 - to_bottom), (top + 1, to_bottom)):
+                outside = (i < 0) | (i >= width) | (j < 0) | (j >= height)
+                is_void |= outside & (across * down > 0)
+                near = samples[j.clip(0, height - 1), i.clip(0, width - 1)]
+                total += across * down * near.astype(numpy.int64)
+        return numpy.where(is_void, -1, total // 65536)
+
+    def back(self, u, v):
+        """The rectified place that shows the place (u, v) of the photograph, or None.
+
+        A warp leads from the rectified picture to the photograph. The way back begins at the one of a
+        lattice of pixels whose source is nearest, and goes on by Newton's steps.
+        """
+        if self.kind == "identity":
+            return u, v
+        wanted = numpy.array([u, v], float)
+        width, height = self.size
+        xs, ys = (numpy.arange(0, side, max(1, side // 64)) for side in (width, height))
+        y, x = (it.ravel() for it in numpy.meshgrid(ys, xs, indexing="ij"))
+        away = numpy.hypot(*(it / 256 - at for it, at in zip(self.places(x, y), wanted)))
+        at = numpy.array([x[away.argmin()], y[away.argmin()]], float)
+        for _ in range(MOST_STEPS):
+            off = wanted - self.place(*at)
+            if numpy.hypot(*off) <= NEAR_ENOUGH:
+                is_inside = -0.5 <= at[0] <= width - 0.5 and -0.5 <= at[1] <= height - 0.5
+                return tuple(map(float, at)) if is_inside else None
+            slopes = [self.place(*(at + it)) - self.place(*(at - it)) for it in SPAN * numpy.eye(2)]
+            try:
+                step = numpy.linalg.solve(numpy.array(slopes).T / (2 * SPAN), off)
+            except numpy.linalg.LinAlgError:
+                return None
+            # A step stays near the picture, where the warp is what it says.
+            at = (at + step).clip(-width - height, [2 * width + height, 2 * height + width])
+        return None
