@@ -37,6 +37,7 @@ reference           -           tests/test_reference.py
 reference_fine      -           tests/test_reference_fine.py
 reference_cells     -           tests/test_reference_cells.py
 reference_regions   -           tests/test_reference_regions.py
+reference_pose      -           tests/test_reference_pose.py
 reference_lists     -           tests/test_reference_lists.py
 reference_series    -           tests/test_reference_series.py
 quick_reference     pictures    tests/test_quick_reference.py
@@ -46,6 +47,7 @@ kernels             -           tests/kernels.py
 fine_cases          -           tests/fine_cases.py --check
 cells_cases         -           tests/cells_cases.py --check
 regions_cases       -           tests/regions_cases.py --check
+pose_cases          -           tests/pose_cases.py --check
 large_pair          -           tests/large_pair.py
 edits_apply         -           tests/edits.py --apply
 cubic_metres        pictures    tools/test_cubic_metres.py
@@ -54,6 +56,9 @@ sgm_regions         pictures    tools/test_sgm_regions.py
 slope_heap          pictures    tests/slope_heap.py
 stretch             pictures    tools/test_stretch.py
 heights_picture     pictures    tools/test_heights_picture.py
+site_pose           pictures    tools/test_site_pose.py
+export_points       pictures    tools/test_export_points.py
+export_grid         pictures,gdal   tools/test_export_grid.py
 photo_to_pgm        pictures    tools/test_photo_to_pgm.py
 opencv_calibration  opencv      tools/test_opencv_calibration.py
 calibrate_pair      opencv      tools/test_calibrate_pair.py
@@ -75,9 +80,11 @@ interrupted         program     tests/interrupted.py
 asc_gdal            program,gdal    tests/asc_gdal.sh
 pgm_tools           program,netpbm  tests/pgm_tools.sh
 unrectified_heap    program,opencv  tests/unrectified_heap.py
+aslant_heap         program,opencv  tests/aslant_heap.py
 version3_figures    program,pictures tests/version3_figures.py
 certificates        program,pictures tests/certificates.py
 later_heap          program,pictures tests/later_heap.py
+moved_heap          program,opencv  tests/moved_heap.py
 guide               program,opencv,gdal tests/guide.py
 many                program,series,parallel tests/many.sh
 many_ssh            program,parallel,ssh tests/many_ssh.sh

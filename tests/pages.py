@@ -71,6 +71,7 @@ CASES = {
     "of the six kernels": ["kernel"],
     "of finer disparities": ["fine"],
     "of means alone": ["mean"],
+    "of points in the frame of a site": ["point"],
     "of points, cells and bridges": ["cells"],
     "of regions with sloping bases and outlines": ["regions"],
     "whole runs": ["run"],

@@ -30,6 +30,9 @@ READERS = {
     "tools/cubic_metres.py": "FILE",
     "tools/stretch.py": "FILE --out made.png",
     "tools/heights_picture.py": "FILE --out made.png",
+    "tools/site_pose.py": "FILE FILE FILE",
+    "tools/export_grid.py": "FILE --out made.tif",
+    "tools/export_points.py": "FILE --calib FILE --out made.ply",
     "tools/opencv_calibration.py": "FILE --unit m --near 1 --far 2 --mount 3 --out made.json",
     "tools/photo_to_pgm.py": "FILE --out made.pgm",
     "tools/survey_page.py": "FILE --calib FILE --out made.html",
@@ -44,6 +47,7 @@ READERS = {
     "examples/stockpile/compare_truth.py": "FILE",
     "examples/stockpile/compare_change.py": "FILE",
     "examples/slope/compare_slope.py": "FILE",
+    "examples/photographs/compare_photographs.py": "FILE",
 }
 WRITERS = ["tests/make_cases.py", "tests/make_survey.py", "tests/calibration_cases.py", "tests/definitions.py"]
 WRITERS += ["examples/photographs/make_photographs.py", "examples/stockpile/make_later.py"]
@@ -56,6 +60,8 @@ MAKERS = {
     "tools/stretch.py": f"{HEAP}/expected/out.pgm --out OUT",
     "tools/heights_picture.py": f"{HEAP}/expected/out.asc --out OUT",
     "tools/photo_to_pgm.py": f"{HEAP}/left.png --out OUT",
+    "tools/export_points.py": f"{HEAP}/expected/out.pgm --calib {HEAP}/calibration.json --out OUT",
+    "tools/site_pose.py": f"{HEAP}/calibration_3.json --camera 0 0 8 --look 1 2 0 --write OUT",
     "tools/survey_page.py": f"{HEAP}/expected/out --calib {HEAP}/calibration.json --out OUT",
     "tools/opencv_calibration.py": "cameras.json --unit m --near 2000000 --far 4000000 --mount 4000000 --out OUT",
     "tools/middlebury_calibration.py": "calib.txt --out OUT",

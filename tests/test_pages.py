@@ -54,6 +54,8 @@ PROVED = """# What is proved
 | sgm_top | `run` as above | |
 | sgm_cases | | 2 stored cases: 1 calibrations, 0 command lines, 0 texts of grids, \
 0 of the six kernels, 0 of finer disparities, 0 of means alone, \
+0 of points in the frame of a site, 0 of points, cells and bridges, \
+0 of regions with sloping bases and outlines, \
 1 whole runs (1 matches, 0 certificates, 0 changes, 0 demos) |
 """
 CONTRACTS = """# Contracts

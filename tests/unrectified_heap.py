@@ -4,7 +4,7 @@
     tests/unrectified_heap.py
 
 The heap is photographed anew by the two made-up cameras of examples/photographs, of unequal focal lengths,
-whose lenses bend and which are turned a little out of level. tools/opencv_calibration.py makes meshes of their
+whose lenses bend and which are turned a little out of level; here they hang straight above it and have no pose. tools/opencv_calibration.py makes meshes of their
 calibration, the program rectifies and measures, and the volume and the height have to be near those of the cone.
 So a mesh that led the wrong way, exchanged cameras or a wrong unit would show. The program is the one that the
 variable SGM names (./sgm of this repository without it). Takes a minute.
@@ -39,7 +39,8 @@ def pgm(pixels):
 
 def survey(folder):
     """The report's line of the pile, after the tool and the program have run in the folder."""
-    left, right = map(pgm, make_photographs.photographs())
+    rig, scene = make_photographs.hanging(), make_photographs.Scene(has_targets=False)
+    left, right = map(pgm, make_photographs.photographs(rig, scene))
     cameras = json.dumps(make_photographs.calibration()).encode()
     for name, data in (("l.pgm", left), ("r.pgm", right), ("cameras.json", cameras)):
         with open(os.path.join(folder, name), "wb") as file:

@@ -1,18 +1,21 @@
 #!/usr/bin/env python3
 """Makes photographs to try everything on, from the chessboard to the volume: two cameras whose lenses bend and
-which hang a little askew look at a chessboard and at the heap of examples/stockpile.
+which look aslant at a chessboard and at the heap of examples/stockpile, beside which five targets lie.
 
     examples/photographs/make_photographs.py FOLDER
 
 Writes FOLDER/left.png and FOLDER/right.png, the heap, and FOLDER/boards/left/01.png and so on, FOLDER/boards/right,
-a board with 9 x 6 inner corners and squares of 250 mm. The cameras have unequal focal lengths, hang 8 m above the
-ground and 1.6 m apart. FOLDER/true.json has the numbers that a calibration should find. Needs numpy, Pillow and
-OpenCV's package (cv2).
+a board with 9 x 6 inner corners and squares of 250 mm. The cameras have unequal focal lengths and are 1.6 m apart.
+They look 12 degrees aslant, are turned by 30 degrees, and the left one is 8.2 m above the ground. FOLDER/targets.csv
+has the targets: their places in the left photograph to a tenth of a pixel, as they are found in it, and in the frame
+of the site in metres, which is that of examples/stockpile. FOLDER/true.json has the numbers that a calibration should
+find. Needs numpy, Pillow and OpenCV's package (cv2).
 """
 
 import argparse
 import functools
 import json
+import math
 import os
 import sys
 
@@ -37,6 +40,8 @@ RIGHT = (
     (-0.008, 0.015, -0.01),
 )
 FINE = 1_000_000
+# Turns between the axes right, down and away and those right, up and back.
+FLIP = numpy.diag([1.0, -1.0, -1.0]) if numpy is not None else None
 
 # The board: inner corners, the side of a square in metres, and how it is held: the turn, and its middle's place
 # from the left camera in metres, to the right, down and away.
@@ -55,8 +60,56 @@ POSES = [
     ((-0.5, -0.1, 0.1), (1.3, -0.6, 3.4)),
     ((0.05, 0.5, -0.2), (0.4, 0.7, 3.3)),
 ]
-# Each pixel of a board's picture is the mean of so many by so many places.
+# Each pixel of a board's or a target's picture is the mean of so many by so many places.
 PARTS = 4
+
+# The targets: plates of four squares, two of them white. Their names, the places of their middles in micrometres and
+# on what they lie. TARGET is the side of a plate.
+TARGET = 600_000
+TARGETS = {
+    "T1": ((-5_600_000, 1_800_000, 0), "ground"),
+    "T2": ((-2_000_000, -6_300_000, 0), "ground"),
+    "T3": ((6_200_000, -3_600_000, 0), "ground"),
+    "T4": ((5_000_000, 5_000_000, 0), "ground"),
+    "T5": ((-600_000, 4_400_000, heap.CRATE_HEIGHT), "crate"),
+}
+# A target is looked for within so many pixels of where it is seen.
+NEAR = 3
+
+
+class Rig:
+    """How the pair hangs in the site's frame: where the left camera is, in micrometres; by how many degrees the pair is
+    turned counterclockwise, as seen from above; and by how many it is then tilted from looking straight down, and
+    towards where, clockwise from the top of the picture.
+
+    The columns of `axes` are the right of the level pair, its top and what is behind it.
+    """
+
+    def __init__(self, place, turn=0, tilt=0, towards=0):
+        self.place = numpy.array(place, float)
+        turn, tilt, towards = map(math.radians, (turn, tilt, towards))
+        about = tilt * numpy.array([math.cos(towards), -math.sin(towards), 0])
+        self.axes = cv2.Rodrigues(numpy.array([0, 0, turn]))[0] @ cv2.Rodrigues(about)[0]
+
+    def camera(self, is_right):
+        """Where a camera is."""
+        return self.place + (heap.BASELINE * self.axes[:, 0] if is_right else 0)
+
+    def looks(self, camera, parts):
+        """Where parts x parts places of each pixel look: to the east, to the north, up."""
+        return rays(camera, parts) @ FLIP @ self.axes.T
+
+
+@functools.lru_cache(maxsize=1)
+def hanging():
+    """The pair above the heap that looks straight down."""
+    return Rig((0, 0, heap.MOUNT))
+
+
+@functools.lru_cache(maxsize=1)
+def aslant():
+    """The pair of the photographs."""
+    return Rig((900_000, -2_600_000, 8_200_000), 30, 12, 15)
 
 
 def turned(camera):
@@ -85,20 +138,79 @@ def rays(camera, parts):
     return level / level[:, 2:]
 
 
-def photograph(camera, camera_x, sample):
-    """What a camera sees of the heap. Its rays are rounded to a millionth of the focal length."""
-    samples = bytearray()
-    for at, (right, down, _) in enumerate(rays(camera, 1).tolist()):
-        ray = heap.Ray(camera_x, round(FINE * right), round(-FINE * down), FINE)
-        samples.append(sample(heap.surface(ray), at % heap.WIDTH, at // heap.WIDTH))
-    return numpy.frombuffer(bytes(samples), numpy.uint8).reshape(heap.HEIGHT, heap.WIDTH)
+class Scene:
+    """What is photographed: the grey values and first surfaces of a heap, and whether targets lie beside it."""
+
+    def __init__(self, made=heap, has_targets=True):
+        self.made, self.targets = made, TARGETS if has_targets else {}
+
+    def seen(self, camera, rig, is_right):
+        """The grey values that a camera sees."""
+        x, y, mount = (round(it) for it in rig.camera(is_right).tolist())
+        looks = rig.looks(camera, 1)
+        greys, names = [], []
+        for right, up, down in (looks / -looks[:, 2:]).tolist():
+            ray = heap.Ray(x, round(FINE * right), round(FINE * up), FINE, y)
+            depth, name = self.made.first_surface(ray, mount)
+            # Grains are counted from the cameras that look straight down, so that they stay where they are.
+            greys.append(self.made.grey_at(*ray.place(depth), depth - mount + heap.MOUNT, name))
+            names.append(name)
+        greys = numpy.array(greys)
+        for place, lies_on in self.targets.values():
+            paint(greys, numpy.array(names) == lies_on, rig.camera(is_right), rig.looks(camera, PARTS), place)
+        return greys.reshape(heap.HEIGHT, heap.WIDTH)
 
 
-def photographs():
-    """The left and the right picture of the heap, each with noise of its own, the right one darker."""
-    left = photograph(LEFT, 0, lambda grey, x, y: grey + heap.noise(x, y, 31) % 5)
-    right = photograph(RIGHT, heap.BASELINE, lambda grey, x, y: grey * 4 // 5 + 6 + heap.noise(x, y, 32) % 5)
-    return left, right
+def paint(greys, can_show, camera, looks, place):
+    """Paints a target over the grey values of those pixels that show what it lies on."""
+    depths = (place[2] - camera[2]) / looks[:, 2]
+    x, y = (camera[axis] + depths * looks[:, axis] - place[axis] for axis in (0, 1))
+    is_plate = (abs(x) <= TARGET / 2) & (abs(y) <= TARGET / 2)
+    plate = numpy.where((x > 0) == (y > 0), 215.0, 25.0)
+    whole = lambda it: it.reshape(heap.HEIGHT, PARTS, heap.WIDTH, PARTS).sum(axis=(1, 3)).ravel()
+    shares = whole(is_plate) / PARTS**2
+    painted = whole(numpy.where(is_plate, plate, 0)) / PARTS**2 + (1 - shares) * greys
+    greys[:] = numpy.where(can_show & (shares > 0), numpy.rint(painted), greys)
+
+
+def with_noise(greys, seed):
+    """The samples of a picture: its grey values with noise of its own."""
+    drawn = [heap.noise(x, y, seed) % 5 for y in range(heap.HEIGHT) for x in range(heap.WIDTH)]
+    return (greys + numpy.array(drawn).reshape(greys.shape)).astype(numpy.uint8)
+
+
+def photographs(rig=None, scene=None, seeds=(31, 32)):
+    """The left and the right picture of a scene, each with noise of its own, the right one darker."""
+    rig, scene = rig or aslant(), scene or Scene()
+    left, right = scene.seen(LEFT, rig, False), scene.seen(RIGHT, rig, True)
+    return with_noise(left, seeds[0]), with_noise(right * 4 // 5 + 6, seeds[1])
+
+
+def seen_at(camera, rig, is_right, place):
+    """Where a camera shows a place of the site, in pixels."""
+    k, d, _ = camera
+    away = turned(camera) @ FLIP @ rig.axes.T @ (numpy.array(place) - rig.camera(is_right))
+    return cv2.projectPoints(away[None], numpy.zeros(3), numpy.zeros(3), numpy.array(k), numpy.array(d))[0][0, 0]
+
+
+def found_targets(picture, rig=None):
+    """The targets' places in the left picture, as the corners of their squares are found in it."""
+    ends = (cv2.TERM_CRITERIA_COUNT + cv2.TERM_CRITERIA_EPS, 100, 1e-4)
+    found = {}
+    for name, (place, _) in TARGETS.items():
+        begin = numpy.rint(seen_at(LEFT, rig or aslant(), False, place)).astype(numpy.float32)
+        corner = cv2.cornerSubPix(picture, begin.reshape(1, 1, 2), (NEAR, NEAR), (-1, -1), ends)
+        found[name] = tuple(corner.ravel().tolist())
+    return found
+
+
+def targets_text(picture, rig=None):
+    """The table that tools/site_pose.py reads."""
+    lines = ["name,x,y,east,north,up"]
+    for name, (x, y) in found_targets(picture, rig).items():
+        place = ",".join(f"{it / 1_000_000:.3f}" for it in TARGETS[name][0])
+        lines.append(f"{name},{x:.1f},{y:.1f},{place}")
+    return "\n".join(lines) + "\n"
 
 
 def board_picture(camera, camera_x, pose):
@@ -136,8 +248,11 @@ def write(folder):
         for side, pixels in zip(("left", "right"), pair):
             sgm_files.write_png(os.path.join(folder, "boards", side, f"{number:02}.png"), pixels)
     sgm_files.progress("the heap")
-    for side, pixels in zip(("left", "right"), photographs()):
+    pair = photographs()
+    for side, pixels in zip(("left", "right"), pair):
         sgm_files.write_png(os.path.join(folder, f"{side}.png"), pixels)
+    with open(os.path.join(folder, "targets.csv"), "w") as file:
+        file.write(targets_text(pair[0]))
 
 
 def main():
@@ -147,7 +262,7 @@ def main():
     words = parser.parse_args()
     sgm_files.need(numpy=numpy, PIL=Image, cv2=cv2)
     write(words.folder)
-    print(f"{len(POSES)} pairs of the board and one of the heap in {words.folder}")
+    print(f"{len(POSES)} pairs of the board and one of the heap with {len(TARGETS)} targets in {words.folder}")
 
 
 if __name__ == "__main__":

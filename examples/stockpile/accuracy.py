@@ -11,6 +11,7 @@ prints tables in Markdown, all of them where none is named:
     heights  the same for cells of 100 and 125 mm, from four heights of the cameras;
     volumes  the heap's volume above the measured ground by calibration_3.json, which has finer disparities, cells by
              their mean and bridges, from eight heights of the cameras and over sizes of cells;
+    cameras  the same at 8.00 m, where baseline, focal length or disparities are a little off;
     settings the error of the disparity on the cone and the heap's volume, over windows and penalties;
     tilt     values that gather at whole disparities, on ground that rises by 1 in 8;
     texture  level ground that has less and less texture.
@@ -23,7 +24,7 @@ be without them. What is true is computed for each pixel from the ray that goes 
 points and cells are those of the definitions (tests/reference_matching.py); tests/compare.sh shows that the
 program's are the same. These numbers are for people, and use floating point. Takes half a minute to a minute of
 a processor for each pair and setting, of which there are fifteen; volumes takes some seconds for each of its eight
-pairs, and needs numpy (tests/quick_reference.py).
+pairs, as cameras does for its one, and both need numpy (tests/quick_reference.py).
 """
 
 import argparse
@@ -331,6 +332,28 @@ def errors_by_place(scene, found):
     return lists
 
 
+def cameras():
+    """What a camera that isn't quite as its calibration says makes of the volume, beside the same by the right one."""
+    import quick_reference
+
+    settings, lines = calibration("calibration_3.json"), []
+    found, _ = quick_reference.match_planes(*pictures(Heap(HEIGHTS[0])), None, settings)
+    true = settings.camera
+    kinds = {
+        "baseline 1 % too long": {"baseline": true["baseline"] * 101 // 100},
+        "focal length 1 % too long": {"focal": true["focal"] * 101 // 100},
+        "disparities a tenth of a pixel too large": {"doffs": 26},
+    }
+
+    def volume(change):
+        settings.camera = {**true, **change}
+        return 1 + heap_volume(found, HEIGHTS[0], 125_000, settings)[3]
+
+    for name, change in kinds.items():
+        lines.append([name, f"{100 * (volume(change) / volume({}) - 1):+.2f} %"])
+    print_table(["Calibration", "Volume"], lines)
+
+
 def mean_and_deviation(errors):
     return f"{statistics.fmean(errors):+.3f}", f"{statistics.pstdev(errors):.3f}"
 
@@ -378,6 +401,7 @@ TABLES = {
     "cells": cells,
     "heights": heights,
     "volumes": volumes,
+    "cameras": cameras,
     "settings": settings,
     "tilt": tilt,
     "texture": texture,

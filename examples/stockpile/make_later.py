@@ -24,36 +24,40 @@ from make_stockpile import BASELINE, CONE_X, HEIGHT, MOUNT, WIDTH
 CUT_HEIGHT, CUT_LENGTH = 2_000_000, 2
 
 
-def depth_of_cut(ray):
+def depth_of_cut(ray, mount=MOUNT):
     """The depth from which on the ray is below the plane. Each ray is steeper than it, so there is one."""
-    away = CUT_LENGTH * (MOUNT - CUT_HEIGHT) + ray.camera_x - CONE_X
+    away = CUT_LENGTH * (mount - CUT_HEIGHT) + ray.camera_x - CONE_X
     return away * ray.focal // (CUT_LENGTH * ray.focal - ray.right)
 
 
-def first_surface(ray):
-    """The depth and the name of the first surface that the ray meets.
+def first_surface(ray, mount=MOUNT):
+    """The depth and the name of the first surface that the ray meets, with the cameras so high above the ground.
 
     A ray is steeper than the cone's sides and than the plane, so it is in what is left of the heap from the depth on
     at which it is in the cone and below the plane.
     """
-    depth, name = before.first_surface(ray)
+    depth, name = before.first_surface(ray, mount)
     if name != "cone":
         return depth, name
-    cut = depth_of_cut(ray)
+    cut = depth_of_cut(ray, mount)
     if cut <= depth:
         return depth, name
     # Beyond the heap's old surface only the crate and the ground can be met before the plane is.
-    behind = before.depth_of_crate(ray)
-    return min((cut, "cut"), (MOUNT, "ground"), (behind if behind is not None else MOUNT, "crate"))
+    behind = before.depth_of_crate(ray, mount)
+    return min((cut, "cut"), (mount, "ground"), (behind if behind is not None else mount, "crate"))
 
 
 def surface(ray):
     """The grey value of the first surface that the ray meets."""
     depth, name = first_surface(ray)
+    return grey_at(*ray.place(depth), depth, name)
+
+
+def grey_at(x, y, depth, name):
+    """The grey value of a place on that surface, so far below the height of these cameras."""
     if name != "cut":
         # A duller day.
-        return before.surface_at(ray, depth, name) * 7 // 8 + 8
-    x, y = ray.place(depth)
+        return before.grey_at(x, y, depth, name) * 7 // 8 + 8
     return 56 + before.texture(x, y, 51) * 5 // 8
 
 

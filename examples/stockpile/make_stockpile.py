@@ -38,14 +38,16 @@ CRATE_HEIGHT = 1_200_000
 
 
 class Ray:
-    """The ray from x = camera_x, y = 0 that goes right and up by so much for each focal length of depth."""
+    """The ray from camera_x, camera_y that goes right and up by so much for each focal length of depth."""
 
-    def __init__(self, camera_x, right, up, focal=FOCAL):
+    def __init__(self, camera_x, right, up, focal=FOCAL, camera_y=0):
         self.camera_x, self.right, self.up, self.focal = camera_x, right, up, focal
+        self.camera_y = camera_y
 
     def place(self, depth):
         """Where the ray is at that depth below the camera."""
-        return self.camera_x + self.right * depth // self.focal, self.up * depth // self.focal
+        x, y = self.right * depth // self.focal, self.up * depth // self.focal
+        return self.camera_x + x, self.camera_y + y
 
 
 def through_pixel(camera_x, x, y):
@@ -62,7 +64,7 @@ def depth_of_cone(ray, mount=MOUNT):
     these numbers no pixel makes the square's factor 0.
     """
     tip = mount - CONE_HEIGHT
-    aside, ahead = ray.focal * (ray.camera_x - CONE_X), ray.focal * -CONE_Y
+    aside, ahead = ray.focal * (ray.camera_x - CONE_X), ray.focal * (ray.camera_y - CONE_Y)
     wide, high = CONE_RADIUS**2, CONE_HEIGHT**2
     a = wide * ray.focal**2 - high * (ray.right**2 + ray.up**2)
     half_b = -wide * ray.focal**2 * tip - high * (aside * ray.right + ahead * ray.up)
@@ -82,7 +84,7 @@ def depth_of_crate(ray, mount=MOUNT):
     if ray.right:
         sides += [(edge - ray.camera_x) * ray.focal // ray.right for edge in (CRATE_WEST, CRATE_EAST)]
     if ray.up:
-        sides += [edge * ray.focal // ray.up for edge in (CRATE_SOUTH, CRATE_NORTH)]
+        sides += [(edge - ray.camera_y) * ray.focal // ray.up for edge in (CRATE_SOUTH, CRATE_NORTH)]
 
     def is_on_crate(depth):
         # A side's depth is rounded, so the place on it may lie beside it by as much.
@@ -134,7 +136,11 @@ def surface(ray, mount=MOUNT):
 
 def surface_at(ray, depth, name):
     """The grey value of that surface where the ray meets it."""
-    x, y = ray.place(depth)
+    return grey_at(*ray.place(depth), depth, name)
+
+
+def grey_at(x, y, depth, name):
+    """The grey value of a place on that surface, so far below the height of these cameras."""
     if name == "ground":
         return 40 + texture(x, y, 1) * 5 // 8
     if name == "crate":

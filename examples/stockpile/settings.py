@@ -1,13 +1,14 @@
 #!/usr/bin/env python3
-"""Measures what the window and the penalties cost and gain, on the example: each setting is a match of its own.
+"""Measures what the window and the penalties cost and gain, on the example by version 3: each setting is a match.
 
     examples/stockpile/settings.py [SETTING..]
 
 prints a table in Markdown: the pixels that have a disparity; the empty cells of the region `pile`; the error of
 its volume above the measured ground, against the true cone; the error of the highest height; how rough the level
 ground comes out (the root of the mean square about its mean); and the area of the crate, which has 0.96 square
-metres seen from above: its cells higher than half of it. A SETTING is WIDTHxHEIGHT,P1,P2 (9x7,10,120); those of
-the guide's table without any. The program is the one that the variable SGM names (./sgm of this repository
+metres seen from above: its cells higher than half of it. A SETTING is WIDTHxHEIGHT,P1,P2 (9x7,25,100), with
+`,adapt` behind it where P2 follows the image; those of the guide's table without any. All else is as
+calibration_3.json has it. The program is the one that the variable SGM names (./sgm of this repository
 without it). The numbers are for people, and use floating point.
 """
 
@@ -27,35 +28,36 @@ import make_stockpile as truth
 HERE = os.path.dirname(os.path.abspath(__file__))
 SGM = os.path.realpath(os.environ.get("SGM", os.path.join(HERE, "..", "..", "sgm")))
 SETTINGS = (
-    "9x7,10,120",
-    "3x3,2,16",
-    "5x5,4,48",
-    "7x7,8,93",
-    "9x7,2,120",
-    "9x7,40,120",
-    "9x7,10,10",
-    "9x7,10,30",
-    "9x7,10,480",
-    "9x7,10,4000",
+    "9x7,25,100",
+    "9x7,25,1200,adapt",
+    "7x7,19,77",
+    "5x5,10,39",
+    "3x3,3,13",
+    "9x7,5,100",
+    "9x7,60,100",
+    "9x7,25,25",
+    "9x7,25,400",
+    "9x7,25,4000",
 )
 METRE = 1_000_000
 CUBE = METRE**3
 
 
 def setting_word(word):
-    """The sides of the window, p1 and p2."""
-    found = re.fullmatch("([3579])x([357]),([0-9]{1,4}),([0-9]{1,4})", word)
+    """The sides of the window, p1 and p2, and whether p2 follows the image."""
+    found = re.fullmatch("([3579])x([357]),([0-9]{1,4}),([0-9]{1,4})(,adapt)?", word)
     if not found or not 1 <= int(found[3]) <= int(found[4]) <= 4000:
         raise argparse.ArgumentTypeError(f"{word} isn't WIDTHxHEIGHT,P1,P2 as the calibration has them")
-    return tuple(map(int, found.groups()))
+    return *map(int, found.groups()[:4]), found[5] is not None
 
 
 def survey(setting, folder):
     """The line that the program prints, and the heights, of the example with that setting."""
-    width, height, p1, p2 = setting
-    with open(os.path.join(HERE, "calibration.json"), encoding="utf-8") as file:
+    width, height, p1, p2, adapt = setting
+    with open(os.path.join(HERE, "calibration_3.json"), encoding="utf-8") as file:
         calibration = json.load(file)
-    calibration |= {"census": {"width": width, "height": height}, "penalties": {"p1": p1, "p2": p2}}
+    penalties = {"p1": p1, "p2": p2, "adapt": adapt}
+    calibration |= {"census": {"width": width, "height": height}, "penalties": penalties}
     name, out = os.path.join(folder, "c.json"), os.path.join(folder, "o")
     with open(name, "w", encoding="utf-8") as file:
         json.dump(calibration, file)
@@ -88,11 +90,11 @@ def line(setting, folder):
     base = statistics.mean(on_ground)
     volume = sum(height - base for height in filled) * head["cellsize"] ** 2
     rough = math.sqrt(statistics.mean((height - base) ** 2 for height in on_ground))
-    width, height, p1, p2 = setting
+    width, height, p1, p2, adapt = setting
     parts = [
         f"{width} x {height}",
         p1,
-        p2,
+        f"{p2}, adapt" if adapt else p2,
         f"{100 * valid / pixels:.1f} %",
         f"{len(on_pile) - len(filled)} of {len(on_pile)}",
         f"{100 * (volume / compare_truth.true_volume() - 1):+.1f} %",
@@ -104,9 +106,9 @@ def line(setting, folder):
 
 
 def main():
-    epilog = "Example: examples/stockpile/settings.py 9x7,10,120 5x5,4,48"
+    epilog = "Example: examples/stockpile/settings.py 9x7,25,100 5x5,10,39"
     parser = argparse.ArgumentParser(description=__doc__.split("\n\n")[0], epilog=epilog)
-    parser.add_argument("settings", nargs="*", type=setting_word, metavar="SETTING", help="WIDTHxHEIGHT,P1,P2")
+    parser.add_argument("settings", nargs="*", type=setting_word, metavar="SETTING", help="WIDTHxHEIGHT,P1,P2[,adapt]")
     words = parser.parse_args()
     print("| Window | p1 | p2 | Pixels with a disparity | Empty cells | Volume | Height | Ground's roughness | Crate |")
     print("|---|---|---|---|---|---|---|---|---|", flush=True)
