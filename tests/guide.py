@@ -7,9 +7,9 @@ The commands are those that stand between ```sh and ```; they are run as they st
 repository, with `./sgm` and `./sgm_series` being the programs that the variables SGM and SGM_SERIES name (they
 themselves without them), and /tmp/survey and /tmp/heap being in a new folder. Each has to end with 0 and to write
 the files that it names, and the grids in metres have to be the survey's and the change's. Other blocks that begin
-with ``` show files and what is printed; in the chapters on certificates, on change and on many pairs, whose numbers
-no package has a part in, each line of such a block has to be printed by one of the commands. Needs what the tools
-need, and GDAL. Takes a minute.
+with ``` show what is printed; in the chapters on certificates, on change and on many pairs, whose numbers no package
+has a part in, each line of such a block has to be printed by one of the commands, and in the one from photographs to
+a volume too, where OpenCV is of the version that printed it. Needs what the tools need, and GDAL. Takes a minute.
 """
 
 import argparse
@@ -21,11 +21,19 @@ import subprocess
 import sys
 import tempfile
 
+sys.path.insert(0, os.path.join(os.path.dirname(os.path.abspath(__file__)), "..", "tools"))
+
+import sgm_files
+
+cv2 = sgm_files.package("cv2")
+
 TOP = os.path.realpath(os.path.join(os.path.dirname(os.path.abspath(__file__)), ".."))
 GUIDE = os.path.join(TOP, "docs", "GUIDE.md")
 BLOCK = re.compile(r"^```sh\n(.*?)^```$", re.M | re.S)
 # The chapters in which all that is shown is printed.
 PRINTED = ("## 11. ", "## 12. ", "## 13. ")
+# The one whose numbers depend on OpenCV, and the version that they are of.
+BY_OPENCV, OPENCV = "## From photographs", "4.6.0"
 # The folders of the guide.
 FOLDERS = ("/tmp/survey", "/tmp/heap")
 
@@ -41,12 +49,13 @@ def commands(text):
 def shown(text):
     """The lines of blocks that show what is printed, in the chapters in which all of them do."""
     kind, chapter = None, ""
+    chapters = (*PRINTED, BY_OPENCV) if cv2 and cv2.__version__ == OPENCV else PRINTED
     for line in text.splitlines():
         if line.startswith("```"):
             kind = line[3:] if kind is None else None
         elif line.startswith("## "):
             chapter = line
-        elif kind == "" and chapter.startswith(PRINTED):
+        elif kind == "" and chapter.startswith(chapters):
             yield line
 
 
