@@ -36,10 +36,10 @@ import tempfile
 HERE = os.path.dirname(os.path.abspath(__file__))
 sys.path.insert(0, os.path.join(HERE, "..", "tools"))
 
-import sgm_files
-from sgm_files import Wrong, numpy
+from sgm_tools import files, running
+from sgm_tools.running import Wrong, numpy
 
-cv2 = sgm_files.package("cv2")
+cv2 = running.package("cv2")
 SGM = os.path.realpath(os.environ.get("SGM", os.path.join(HERE, "..", "sgm")))
 PLAIN = {
     "disparities": {"first": 0, "count": 64},
@@ -66,7 +66,7 @@ FILTERED |= {"speckleWindowSize": 100, "speckleRange": 2}
 
 def read_pfm(name):
     """The rows of a PFM from the top, as floats; its own order is from the bottom."""
-    data = sgm_files.read_bytes(name)
+    data = files.read_bytes(name)
     head = re.match(rb"Pf\s+([0-9]{1,5})\s+([0-9]{1,5})\s+(-?[0-9.]+)[ \t\r]*\n", data)
     if not head:
         raise Wrong(f"{name}: not a PFM of one channel")
@@ -81,7 +81,7 @@ def read_pfm(name):
 def read_truth(name, unit):
     """The true disparities in pixels, NaN where they aren't known."""
     if not name.lower().endswith(".pfm"):
-        samples, _ = sgm_files.read_pgm(name)
+        samples, _ = files.read_pgm(name)
         return numpy.where(samples == 0, numpy.nan, samples / unit)
     rows = read_pfm(name)
     return numpy.where(numpy.isfinite(rows), rows, numpy.nan)
@@ -286,7 +286,7 @@ def matched(folder, left, right, calibration, options):
         raise Unknown(line)
     if done.returncode:
         raise Wrong(line)
-    values, has_value = sgm_files.read_disparities(out + ".pgm")
+    values, has_value = files.read_disparities(out + ".pgm")
     return numpy.where(has_value, values / 16 + calibration["disparities"]["first"], numpy.nan)
 
 
@@ -306,7 +306,7 @@ def of_opencv(left, right, span, settings):
 
 
 def in_bytes(name):
-    samples, most = sgm_files.read_pgm(name)
+    samples, most = files.read_pgm(name)
     return (samples.astype(numpy.int64) * 255 // most).astype(numpy.uint8)
 
 
@@ -362,7 +362,7 @@ def compare(title, folder, left, right, calibration, truth, both, words):
     row(*["---"] * len(HEADS))
     unknown = {}
     for name, changed, options in variants(words, calibration):
-        sgm_files.progress(f"{title}: {name}")
+        running.progress(f"{title}: {name}")
         try:
             found = matched(folder, left, right, changed, options)
         except Unknown as why:
@@ -370,7 +370,7 @@ def compare(title, folder, left, right, calibration, truth, both, words):
             continue
         if found.shape != truth.shape:
             raise Wrong(f"the truth is {width} x {height}, the pictures {found.shape[1]} x {found.shape[0]}")
-        sgm_files.progress("")
+        running.progress("")
         row(name, *figures(found, truth, both))
     if cv2 is not None and "warp" not in calibration:
         pair = in_bytes(left), in_bytes(right)
@@ -392,13 +392,13 @@ def compare_scenes(words, folder):
 
 def compare_pair(words, folder):
     left, right, calib, truth_name = words.files
-    calibration = sgm_files.read_json(calib) if calib != "-" else PLAIN
+    calibration = files.read_json(calib) if calib != "-" else PLAIN
     if not {"disparities", "penalties", "census"} <= set(calibration):
         raise Wrong(f"{calib}: not a calibration of sgm")
     truth = read_truth(truth_name, words.unit)
     both = numpy.ones(truth.shape, bool)
     if words.mask:
-        both = sgm_files.read_grey(words.mask) == 255
+        both = files.read_grey(words.mask) == 255
     if both.shape != truth.shape:
         raise Wrong(f"{words.mask}: its size isn't that of {truth_name}")
     print_rival()
@@ -451,10 +451,10 @@ def words_of():
 
 def main():
     words = words_of()
-    sgm_files.need(numpy=numpy)
+    running.need(numpy=numpy)
     with tempfile.TemporaryDirectory(prefix="sgm-accuracy.") as folder:
         (compare_scenes if words.scenes else compare_pair)(words, folder)
 
 
 if __name__ == "__main__":
-    sgm_files.run(main)
+    running.run(main)

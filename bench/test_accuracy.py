@@ -17,7 +17,7 @@ NAN, INF = float("nan"), float("inf")
 
 
 def setUpModule():
-    accuracy.sgm_files.need_for_tests(numpy=numpy, PIL=accuracy.sgm_files.Image)
+    accuracy.running.need_for_tests(numpy=numpy, PIL=accuracy.running.Image)
 
 
 def in_file(data, name, call, *more):
@@ -175,7 +175,7 @@ class Tables(unittest.TestCase):
                     f'cp "{heap}/expected/out.pgm" "$5.pgm"\n'
                 )
             os.chmod(program, 0o755)
-            samples, _ = accuracy.sgm_files.read_pgm(os.path.join(heap, "expected", "out.pgm"))
+            samples, _ = accuracy.files.read_pgm(os.path.join(heap, "expected", "out.pgm"))
             # 28 pixels are 448 sixteenths, and a sample of 16 is a disparity of 28.
             samples = numpy.where(samples == 0, 0, samples - 16 + 448).astype(">u2")
             with open(truth, "wb") as file:

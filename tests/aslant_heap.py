@@ -22,8 +22,8 @@ sys.path[:0] = [os.path.join(TOP, "examples", "photographs")]
 
 import compare_photographs
 import make_photographs
-import sgm_files
-from sgm_files import Wrong
+from sgm_tools import running
+from sgm_tools.running import Wrong
 
 # The most that the volume may be off, in percent, by each of the three ways.
 MOST = (0.7, 0.7, 1.5)
@@ -32,7 +32,7 @@ MOST = (0.7, 0.7, 1.5)
 def main():
     epilog = "Example: tests/aslant_heap.py"
     argparse.ArgumentParser(description=__doc__.split("\n\n")[0], epilog=epilog).parse_args()
-    sgm_files.need(numpy=sgm_files.numpy, PIL=sgm_files.Image, cv2=make_photographs.cv2)
+    running.need(numpy=running.numpy, PIL=running.Image, cv2=make_photographs.cv2)
     with tempfile.TemporaryDirectory(prefix="sgm-aslant_heap.") as folder:
         make_photographs.write(folder)
         words = ["--left", "boards/left", "--right", "boards/right", "--board", "9x6", "--square", "250"]
@@ -47,4 +47,4 @@ def main():
 
 
 if __name__ == "__main__":
-    sgm_files.run(main)
+    running.run(main)

@@ -22,14 +22,13 @@ SGM = os.path.realpath(os.environ.get("SGM", os.path.join(HERE, "..", "sgm")))
 CHECKER = os.path.join(TOOLS, "check_trace.py")
 sys.path.insert(0, TOOLS)
 
-import check_trace
 import random_inputs
-import sgm_files
-from sgm_files import Wrong
+from sgm_tools import certificates, running
+from sgm_tools.running import Wrong
 
 # Every so many cases the checker runs as a command.
 EVERY = 20
-DIRECTIONS = list(check_trace.DIRECTIONS)
+DIRECTIONS = list(certificates.DIRECTIONS)
 
 
 def others(draw, text):
@@ -73,19 +72,19 @@ class Case:
     def check(self, as_command):
         """The kinds of this case; raises Wrong where a certificate doesn't hold or one that was changed does."""
         # The checker takes what the program has accepted, and numbers as they stand in any JSON.
-        pair = check_trace.Pair(*self.given[:2], check_trace.calibration_of(self.given[2]))
+        pair = certificates.Pair(*self.given[:2], certificates.calibration_of(self.given[2]))
         x, y, d = (self.draw.below(it) for it in (pair.left.width, pair.left.height, pair.count))
         words = self.words(x, y, d)
         status, text, err = self.run(*words)
         if status != 0 or err:
             raise Wrong(f"{' '.join(words[3:])}: the program ends with {status}: {err}")
-        ray = check_trace.Ray(pair, self.direction, x, y)
-        found = check_trace.fault(ray, d, text)
+        ray = certificates.Ray(pair, self.direction, x, y)
+        found = certificates.fault(ray, d, text)
         if found:
             raise Wrong(f"{' '.join(words[3:])}: {found}")
         wrong = list(others(self.draw, text))
         for other in wrong:
-            if check_trace.fault(ray, d, other) is None:
+            if certificates.fault(ray, d, other) is None:
                 raise Wrong(f"{' '.join(words[3:])}: what was changed holds too:\n{other}")
         if as_command:
             self.check_as_command(words, text, self.draw.of(wrong))
@@ -109,7 +108,7 @@ def main():
     parser.add_argument("--seed", type=int, default=0, help="another one gives other cases (0)")
     parser.add_argument("--cases", type=int, default=300, metavar="N", help="how many (300)")
     words = parser.parse_args()
-    sgm_files.need(numpy=sgm_files.numpy)
+    running.need(numpy=running.numpy)
     seen = {"adaptive": 0, "third": 0, "void": 0, "long": 0, "changed": 0}
     number = held = 0
     while held < words.cases:
@@ -134,4 +133,4 @@ def main():
 
 
 if __name__ == "__main__":
-    sgm_files.run(main)
+    running.run(main)

@@ -23,9 +23,9 @@ import tempfile
 
 sys.path.insert(0, os.path.join(os.path.dirname(os.path.abspath(__file__)), "..", "tools"))
 
-import sgm_files
+from sgm_tools import running
 
-cv2 = sgm_files.package("cv2")
+cv2 = running.package("cv2")
 
 TOP = os.path.realpath(os.path.join(os.path.dirname(os.path.abspath(__file__)), ".."))
 GUIDE = os.path.join(TOP, "docs", "GUIDE.md")

@@ -21,8 +21,8 @@ sys.path[:0] = [os.path.join(TOP, "tools"), HEAP]
 
 import compare_change
 import make_later
-import sgm_files
-from sgm_files import Wrong, numpy
+from sgm_tools import files, grids, running
+from sgm_tools.running import Wrong, numpy
 
 
 def run_program(*words):
@@ -34,13 +34,13 @@ def run_program(*words):
 
 
 def same(name, expected):
-    if sgm_files.read_bytes(name) != sgm_files.read_bytes(os.path.join(HEAP, "expected", expected)):
+    if files.read_bytes(name) != files.read_bytes(os.path.join(HEAP, "expected", expected)):
         raise Wrong(f"{os.path.basename(name)} isn't expected/{expected}")
 
 
 def check_difference(earlier, later, change, said):
     """The difference cell by cell, and what the program printed of it."""
-    before, after, made = (sgm_files.read_grid(name + ".asc") for name in (earlier, later, change))
+    before, after, made = (grids.read_grid(name + ".asc") for name in (earlier, later, change))
     both = before.filled & after.filled
     if not (both == made.filled).all() or not (made.heights[both] == after.heights[both] - before.heights[both]).all():
         raise Wrong("the difference isn't that of the two grids")
@@ -51,7 +51,7 @@ def check_difference(earlier, later, change, said):
 
 def main():
     argparse.ArgumentParser(description=__doc__.split("\n\n")[0], epilog="Example: tests/later_heap.py").parse_args()
-    sgm_files.need(numpy=numpy)
+    running.need(numpy=numpy)
     with tempfile.TemporaryDirectory(prefix="sgm-later_heap.") as folder:
         pairs = {"earlier": HEAP, "later": os.path.join(folder, "pictures")}
         make_later.write_pair(pairs["later"])
@@ -70,4 +70,4 @@ def main():
 
 
 if __name__ == "__main__":
-    sgm_files.run(main)
+    running.run(main)

@@ -22,13 +22,12 @@ HERE = os.path.dirname(os.path.abspath(__file__))
 TOP = os.path.dirname(HERE)
 sys.path[:0] = [os.path.join(TOP, name) for name in ("tools", "examples/photographs", "examples/stockpile")]
 
-import change_volumes
 import compare_change
 import compare_photographs
 import make_later
 import make_photographs as made
-import sgm_files
-from sgm_files import Wrong
+from sgm_tools import changes, files, running
+from sgm_tools.running import Wrong
 
 # The grid and the regions of examples/stockpile, and first of all the part of the heap from which something was taken,
 # with two cells around it.
@@ -70,8 +69,8 @@ def changed(folder, earlier, later):
     """Prints what has changed between two surveys, and gives the part of the error in that of the region `taken`."""
     words = ["change", earlier + ".asc", later + ".asc", "change"]
     print(compare_photographs.run(compare_photographs.program(), *words, folder=folder), end="")
-    calibration = sgm_files.read_json(earlier + ".json")
-    tallies = dict(change_volumes.tallies(os.path.join(folder, "change"), calibration))
+    calibration = files.read_json(earlier + ".json")
+    tallies = dict(changes.tallies(os.path.join(folder, "change"), calibration))
     true, errors = compare_change.true_volume(), {}
     for name in ("taken", "pile"):
         measured = (tallies[name].fill - tallies[name].cut) / METRE**3
@@ -95,7 +94,7 @@ def main():
     parser = argparse.ArgumentParser(description=__doc__.split("\n\n")[0], epilog=epilog)
     parser.add_argument("--more", action="store_true", help="from more places")
     count = None if parser.parse_args().more else 1
-    sgm_files.need(numpy=sgm_files.numpy, PIL=sgm_files.Image, cv2=made.cv2)
+    running.need(numpy=running.numpy, PIL=running.Image, cv2=made.cv2)
     with tempfile.TemporaryDirectory(prefix="sgm-moved_heap.") as folder:
         before = surveys(folder, "earlier", EARLIER[:count], made.Scene(), 31)
         after = surveys(folder, "later", LATER[:count], made.Scene(make_later), 61)
@@ -107,4 +106,4 @@ def main():
 
 
 if __name__ == "__main__":
-    sgm_files.run(main)
+    running.run(main)

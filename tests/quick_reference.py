@@ -18,8 +18,8 @@ import reference_matching as matching
 
 sys.path.insert(0, os.path.join(os.path.dirname(os.path.abspath(__file__)), "..", "tools"))
 
-import sgm_files
-from sgm_files import numpy
+from sgm_tools import running
+from sgm_tools.running import numpy
 
 # How many of the bits of a number below 2^16 are set.
 BITS = [bin(number).count("1") for number in range(1 << 16)]
@@ -281,5 +281,5 @@ def main(words):
 
 
 if __name__ == "__main__":
-    sgm_files.need(numpy=numpy)
+    running.need(numpy=numpy)
     sys.exit(main(sys.argv[1:]))

@@ -19,7 +19,7 @@ import unittest
 TOP = os.path.realpath(os.path.join(os.path.dirname(os.path.abspath(__file__)), ".."))
 sys.path.insert(0, os.path.join(TOP, "tools"))
 
-import sgm_files
+from sgm_tools import running
 
 FOLDERS = ["tests", "tools", "bench", "packaging", "examples/pair", "examples/photographs", "examples/stockpile"]
 FOLDERS += ["examples/slope"]
@@ -103,7 +103,7 @@ def write_inputs(folder):
 
 
 def setUpModule():
-    sgm_files.need_for_tests(numpy=sgm_files.numpy, PIL=sgm_files.Image, cv2=sgm_files.package("cv2"))
+    running.need_for_tests(numpy=running.numpy, PIL=running.Image, cv2=running.package("cv2"))
 
 
 class Manners(unittest.TestCase):

@@ -15,11 +15,11 @@ HERE = os.path.dirname(os.path.abspath(__file__))
 SLOPE = os.path.join(HERE, "..", "examples", "slope")
 sys.path[:0] = [SLOPE, os.path.join(HERE, "..", "tools")]
 
-import sgm_files
+from sgm_tools import files, running
 
 
 def setUpModule():
-    sgm_files.need_for_tests(numpy=sgm_files.numpy)
+    running.need_for_tests(numpy=running.numpy)
 
 
 class Slope(unittest.TestCase):
@@ -40,7 +40,7 @@ class Slope(unittest.TestCase):
             ]
             self.assertEqual(subprocess.run(command, capture_output=True, text=True).stderr, "")
             report = [
-                sgm_files.read_bytes(name)
+                files.read_bytes(name)
                 for name in (out + ".csv", os.path.join(SLOPE, "expected", "out.csv"))
             ]
             self.assertEqual(*report)
@@ -57,7 +57,7 @@ class Slope(unittest.TestCase):
             ("left.pgm", make_slope.left_sample),
             ("right.pgm", make_slope.right_sample),
         ):
-            samples, most = sgm_files.read_pgm(os.path.join(SLOPE, name))
+            samples, most = files.read_pgm(os.path.join(SLOPE, name))
             self.assertEqual((samples.shape, most), ((240, 320), 255))
             for y in (0, 77, 131, 239):
                 self.assertEqual(samples[y].tolist(), [sample(x, y) for x in range(320)])

@@ -42,12 +42,12 @@ sys.path.insert(0, os.path.join(TOP, "tools"))
 
 import opencv_calibration
 import reference_matching
-import sgm_files
-import sgm_regions
 import survey_page
-from sgm_files import Wrong, numpy
+from sgm_tools import exact, files, grids, reports, running
+from sgm_tools import regions as sgm_regions
+from sgm_tools.running import Wrong, numpy
 
-webdriver = sgm_files.package("selenium.webdriver")
+webdriver = running.package("selenium.webdriver")
 EMPTY = -(2**31)
 SIZE = (1280, 1180)
 # Of the window for the picture, so that the map is on it whole.
@@ -92,7 +92,7 @@ class Page:
 
     def shown(self):
         """What is counted, under the names of the report."""
-        return {key: self.exact(key) for key in sgm_files.REPORT_NAMES[1:]}
+        return {key: self.exact(key) for key in reports.REPORT_NAMES[1:]}
 
     def place(self, col, row):
         """Where the middle of a shown cell is in the window."""
@@ -190,7 +190,7 @@ def try_mouse(page, check, grid, regions, report):
     """Each region of the calibration, drawn: the report's numbers, and the calibration's line."""
     for region, line in zip(regions, report):
         page.draw(*corners(region))
-        page.type("base", sgm_files.decimal(region["base"], 6))
+        page.type("base", exact.decimal(region["base"], 6))
         page.type("name", region["name"])
         check.equal(f"{region['name']} drawn", page.shown(), {key: line[key] for key in page.shown()})
         check.equal(f"{region['name']}'s line", page.region(), region)
@@ -323,7 +323,7 @@ def millimetres(micrometres):
 
 def points_in_cells(calibration, out):
     """The heights of the points in each cell, {(column, row): [..]}, by the plain definitions."""
-    values, filled = sgm_files.read_disparities(out + ".pgm")
+    values, filled = files.read_disparities(out + ".pgm")
     grid, first, cells = calibration["grid"], calibration["disparities"]["first"], {}
     for y, x in numpy.argwhere(filled).tolist():
         point = point_at(calibration, x, y, 16 * first + int(values[y, x]))
@@ -494,7 +494,7 @@ def try_foot(page, check, calibration, north):
     # The bar has a line around it.
     check.equal(f"its length on the map, {bar} of {whole}", abs(bar / whole * width / long - 1) < 0.03, True)
     texts = [it.text for it in driver.find_elements("css selector", "#map text")]
-    words = f"{sgm_files.decimal(long, 6)} m"
+    words = f"{exact.decimal(long, 6)} m"
     check.equal("its text and north's", (words in texts, "N" in texts), (True, True))
     script = """const boxOf = (it) => document.getElementById(it).getBoundingClientRect();
         const [arrow, map] = ["north-arrow", "map"].map(boxOf);
@@ -514,7 +514,7 @@ def try_above(page, check, out, calibration, ground):
     check.equal("above what", page.element("above-name").text, ground)
     for row, line in zip(page.driver.find_elements("css selector", "#regions tbody tr"), lines):
         shown = [it.get_attribute("data-exact") for it in row.find_elements("css selector", ".of-above")]
-        shown = ["" if it is None else sgm_files.decimal(int(it), 18) for it in shown]
+        shown = ["" if it is None else exact.decimal(int(it), 18) for it in shown]
         check.equal(f"{line['region']} above the ground", shown, [line["above_m3"], line["plus_minus_m3"]])
 
 
@@ -523,7 +523,7 @@ def try_sure(driver, check, folder, screenshot):
     with open(os.path.join(HEAP, "calibration_3.json")) as file:
         calibration = json.load(file)
     out = matched("heap_3", calibration, folder, HEAP)
-    grid, regions = sgm_files.read_grid(out + ".asc"), calibration["regions"]
+    grid, regions = grids.read_grid(out + ".asc"), calibration["regions"]
     page = page_of(driver, out, calibration, os.path.join(HEAP, "left.pgm"), title="The stockpile")
     page.wait_for_sure()
     # The whole picture, as it stands when it is opened.
@@ -574,9 +574,9 @@ def write_survey(folder, name, heights, regions, report=None):
         file.write(f"ncols {cols}\nnrows {rows}\nxllcorner 0\nyllcorner -1000000\ncellsize 500000\n")
         file.write(f"NODATA_value {EMPTY}\n")
         file.write("".join(" ".join(map(str, row)) + "\n" for row in heights))
-    grid = sgm_files.read_grid(out + ".asc")
+    grid = grids.read_grid(out + ".asc")
     with open(out + ".csv", "w") as file:
-        file.write(",".join(sgm_files.REPORT_NAMES) + "\n")
+        file.write(",".join(reports.REPORT_NAMES) + "\n")
         for region in regions:
             line = report or counted(grid, region, region["base"])[0]
             words = [region["name"], *("" if value is None else value for value in line.values())]
@@ -636,7 +636,7 @@ def try_bridged(driver, check, folder):
     page = page_of(driver, out, calibration)
     both = shown(page, "th"), shown(page, "td")
     check.equal("columns", (both[0][:3], both[1][:3]), (["region", "cells", "empty"], ["heap", "600", "0"]))
-    lines = [line.split(",") for line in sgm_files.read_bytes(out + ".csv").decode().splitlines()]
+    lines = [line.split(",") for line in files.read_bytes(out + ".csv").decode().splitlines()]
     with open(out + ".csv", "w") as file:
         for word, line in zip(("bridged", "17"), lines):
             file.write(",".join([*line[:2], word, *line[2:]]) + "\n")
@@ -701,7 +701,7 @@ def write_third(folder):
     calibration |= {"version": 3}
     calibration["grid"] |= {"keep": "mean", "bridge": 0}
     with open(out + ".csv", "w") as file:
-        file.write(",".join(sgm_files.BRIDGED_NAMES) + "\n")
+        file.write(",".join(reports.BRIDGED_NAMES) + "\n")
         for region in regions:
             line, _ = counted_inside(grid, region)
             file.write(
@@ -924,7 +924,7 @@ def try_again(driver, check, folder):
     check.equal("what the tool says of the page's words", lines, [])
     check.equal("the tool's region is the page's", region, page.region())
     again = matched("again", {**calibration, "regions": [region]}, folder)
-    (line,) = sgm_files.read_report(again + ".csv")
+    (line,) = reports.read_report(again + ".csv")
     shown = page.shown()
     check.equal("matched again", {key: line[key] for key in shown}, shown)
     check.equal("some cells", line["cells"] > 1000, True)
@@ -976,7 +976,7 @@ def written_by_definition(out, calibration, map_of):
     """OUT.pgm of another survey of the pair, and OUT.asc and OUT.csv of this calibration, by the
     plain definitions."""
     shutil.copy(map_of + ".pgm", out + ".pgm")
-    values, filled = sgm_files.read_disparities(out + ".pgm")
+    values, filled = files.read_disparities(out + ".pgm")
     grid, regions = calibration["grid"], calibration["regions"]
     first, points = calibration["disparities"]["first"], []
     for y, x in numpy.argwhere(filled).tolist():
@@ -992,7 +992,7 @@ def written_by_definition(out, calibration, map_of):
             file.write(" ".join(str(EMPTY if it is None else it) for it in row) + "\n")
     corner = grid["west"], grid["south"]
     with open(out + ".csv", "w") as file:
-        file.write(",".join(sgm_files.BRIDGED_NAMES) + "\n")
+        file.write(",".join(reports.BRIDGED_NAMES) + "\n")
         for region in regions:
             line = reference_matching.tally_with_bridges(before, cells, grid["cell"], region, corner)
             file.write(",".join(map(str, [region["name"], *line])) + "\n")
@@ -1015,7 +1015,7 @@ def sixteenth_aslant(calibration, grid, region, plane):
         if grid.filled[row, col]
     ]
     across, along = (sum(part) for part in zip(*cells))
-    rounded, cell, many = sgm_regions.rounded, grid.cell, len(cells)
+    rounded, cell, many = exact.rounded, grid.cell, len(cells)
     rise = (plane["rise_east"] * across + plane["rise_north"] * along) * cell
     place = [grid.west + rounded(across * cell, 2 * many), grid.south + rounded(along * cell, 2 * many)]
     place.append(plane["base"] + rounded(rise, 2000000 * many))
@@ -1034,10 +1034,10 @@ def try_pose(driver, check, folder):
     out, calibration = slanting_survey(folder)
     again = matched("slanting_again", calibration, folder)
     for ending in (".pgm", ".asc", ".csv"):
-        same = sgm_files.read_bytes(out + ending) == sgm_files.read_bytes(again + ending)
+        same = files.read_bytes(out + ending) == files.read_bytes(again + ending)
         check.equal(f"the match with a pose by the definitions: {ending}", same, True)
-    page, report = page_of(driver, out, calibration), sgm_files.read_report(out + ".csv")
-    grid, regions = sgm_files.read_grid(out + ".asc"), calibration["regions"]
+    page, report = page_of(driver, out, calibration), reports.read_report(out + ".csv")
+    grid, regions = grids.read_grid(out + ".asc"), calibration["regions"]
     said = [it for it in page.warnings() if "OUT.csv" in it]
     check.equal("the cells and the report of a survey with a pose", said, [])
     check.equal("cells enough", report[0]["cells"] > 10000 and report[1]["cells"] > 1000, True)
@@ -1080,7 +1080,7 @@ def try_pose(driver, check, folder):
 def try_steps(driver, check, out, calibration):
     """What a step of disparity is worth in height, by which the page warns, is how much higher the
     pixel's point is for one more."""
-    values, filled = sgm_files.read_disparities(out + ".pgm")
+    values, filled = files.read_disparities(out + ".pgm")
     grid, first = calibration["grid"], calibration["disparities"]["first"]
     for near in ((60, 30), (160, 120), (250, 210)):
         x, y = pixel_with(filled, True, near)
@@ -1192,7 +1192,7 @@ def try_control(driver, check, folder):
 
     calibration, out = slanting_calibration(), os.path.join(folder, "slanting")
     left = os.path.join(SLOPE, "left.pgm")
-    values, filled = sgm_files.read_disparities(out + ".pgm")
+    values, filled = files.read_disparities(out + ".pgm")
     page = page_of(driver, out, calibration, left, True)
     photo = Photo(page)
     first, second = pixel_with(filled, True, (70, 60)), pixel_with(filled, True, (240, 180))
@@ -1243,7 +1243,7 @@ def try_control(driver, check, folder):
         const dots = window.devicePixelRatio, pen = document.getElementById("photo").getContext("2d");
         const half = Math.floor(3 * dots), found = pen.getImageData(Math.round(x * dots) - half, Math.round(y * dots) - half, 2 * half, 2 * half).data;
         return [...new Set(Array.from({ length: found.length / 4 }, (_, it) => found.slice(4 * it, 4 * it + 3).join(",")))];"""
-    samples, most = sgm_files.read_pgm(left)
+    samples, most = files.read_pgm(left)
     grey = int(samples[at[1], at[0]]) * 255 // min(most, int(samples.max()))
     check.equal("sharp pixels", driver.execute_script(script, *at), [f"{grey},{grey},{grey}"])
 
@@ -1324,7 +1324,7 @@ def try_no_grid(driver, check, folder):
     check.equal("headings without a grid", headings, ["Control points", "Pictures", "Settings"])
     try_paper(page, check, "control points", [], has_grid=False)
     check.has("no heights", [photo.text("summary")], "The calibration has no grid: there are no heights yet.")
-    values, filled = sgm_files.read_disparities(out + ".pgm")
+    values, filled = files.read_disparities(out + ".pgm")
     place = pixel_with(filled, True, (100, 100))
     photo.mouse(place)
     check.equal("a point without a grid", photo.shown(0), told_point(calibration, values, *place))
@@ -1334,7 +1334,7 @@ def try_no_grid(driver, check, folder):
 
 def try_site_pose(page, photo, check, out, calibration):
     """Five pixels whose places in the site are known: their table gives the pose to tools/site_pose.py."""
-    values, filled = sgm_files.read_disparities(out + ".pgm")
+    values, filled = files.read_disparities(out + ".pgm")
     photo.rows()[0].find_element("tag name", "button").click()
     for row, near in enumerate(((50, 40), (280, 40), (280, 200), (50, 200), (165, 110))):
         x, y = pixel_with(filled, True, near)
@@ -1342,7 +1342,7 @@ def try_site_pose(page, photo, check, out, calibration):
         photo.mouse((x, y))
         place = point_at({**calibration, "pose": POSE}, x, y, sixteenths)
         for at, length in enumerate(place):
-            photo.type(row, 3 + at, sgm_files.decimal(length, 6))
+            photo.type(row, 3 + at, exact.decimal(length, 6))
     check.has("all are known", [photo.text("control-count")], "5 points, 5 with east, north and height")
     with open(out + ".points.csv", "w") as file:
         file.write(page.element("control-csv").get_attribute("value"))
@@ -1370,7 +1370,7 @@ def try_large_numbers(driver, check, folder):
     check.equal("large numbers", (page.shown(), page.exact("mean")), (line, mean))
     page.element("digits").click()
     text = page.element("fill").text
-    check.equal("every digit", text.split(" ")[0], sgm_files.decimal(line["fill"], 18))
+    check.equal("every digit", text.split(" ")[0], exact.decimal(line["fill"], 18))
 
 
 def try_reduced(driver, check, folder):
@@ -1400,7 +1400,7 @@ def write_change(folder, name, changes, regions):
     """OUT.asc and OUT.csv of a change, by differences with None where there is none, and its calibration."""
     rows, cols = len(changes), len(changes[0])
     out, area = os.path.join(folder, name), 250000**2
-    nothing = sgm_files.NO_DIFFERENCE
+    nothing = grids.NO_DIFFERENCE
     with open(out + ".asc", "w") as file:
         file.write(f"ncols {cols}\nnrows {rows}\nxllcorner 0\nyllcorner -1000000\ncellsize 250000\nNODATA_value {nothing}\n")
         file.write("".join(" ".join(str(nothing if it is None else it) for it in row) + "\n" for row in changes))
@@ -1423,7 +1423,7 @@ def try_change(driver, check, folder):
         {"name": "still", "col": 10, "row": 8, "cols": 20, "rows": 15, "base": -7},
     ]
     out, calibration, wanted = write_change(folder, "change", changes, regions)
-    page, grid = page_of(driver, out, calibration), sgm_files.read_grid(out + ".asc")
+    page, grid = page_of(driver, out, calibration), grids.read_grid(out + ".asc")
     check.equal("the change's counts", {key: page.exact("change-" + key) for key in wanted}, wanted)
     check.equal("a change's headings", [it.text for it in driver.find_elements("tag name", "h2")][1], "Change")
     check.equal("warnings of a change", len(page.warnings()), 2)
@@ -1465,7 +1465,7 @@ def run(screenshot, folder):
     known = survey_page.survey(out, calibration, left)
     with open(out + ".html", "w", encoding="utf-8") as file:
         file.write(survey_page.page("The stockpile", known))
-    grid, report = sgm_files.read_grid(out + ".asc"), sgm_files.read_report(out + ".csv")
+    grid, report = grids.read_grid(out + ".asc"), reports.read_report(out + ".csv")
     regions = calibration["regions"]
     driver = browser()
     try:
@@ -1500,7 +1500,7 @@ def main():
     parser = argparse.ArgumentParser(description=__doc__.split("\n\n")[0], epilog=epilog)
     parser.add_argument("--screenshot", metavar="FILE.png", help="where the picture goes")
     words = parser.parse_args()
-    sgm_files.need(numpy=numpy, PIL=sgm_files.Image, selenium=webdriver)
+    running.need(numpy=numpy, PIL=running.Image, selenium=webdriver)
     screenshot = words.screenshot
     if screenshot is None:
         made, screenshot = tempfile.mkstemp(prefix="sgm-survey_page.", suffix=".png")
@@ -1512,4 +1512,4 @@ def main():
 
 
 if __name__ == "__main__":
-    sgm_files.run(main)
+    running.run(main)

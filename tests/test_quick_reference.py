@@ -24,7 +24,7 @@ MOST_CELLS = 6000
 
 
 def setUpModule():
-    quick.sgm_files.need_for_tests(numpy=quick.numpy)
+    quick.running.need_for_tests(numpy=quick.numpy)
 
 
 def pairs():

@@ -25,7 +25,7 @@ sys.path[:0] = [os.path.join(TOP, "examples", "photographs"), os.path.join(TOP, 
 import compare_truth
 import make_photographs
 import make_stockpile as heap
-import sgm_files
+from sgm_tools import running
 
 TOOL = os.path.join(TOP, "tools", "opencv_calibration.py")
 LIMITS = "--unit m --near 4000000 --far 9000000 --mount 8000000 --grid -6400000 -6000000 125000 115 96"
@@ -55,7 +55,7 @@ def survey(folder):
 def main():
     epilog = "Example: tests/unrectified_heap.py"
     argparse.ArgumentParser(description=__doc__.split("\n\n")[0], epilog=epilog).parse_args()
-    sgm_files.need(numpy=sgm_files.numpy, PIL=sgm_files.Image, cv2=make_photographs.cv2)
+    running.need(numpy=running.numpy, PIL=running.Image, cv2=make_photographs.cv2)
     with tempfile.TemporaryDirectory(prefix="sgm-unrectified_heap.") as folder:
         try:
             _, cells, empty, *_ = survey(folder)
@@ -73,4 +73,4 @@ def main():
 
 
 if __name__ == "__main__":
-    sgm_files.run(main)
+    running.run(main)

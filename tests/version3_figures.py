@@ -39,8 +39,8 @@ import accuracy
 import quick_reference
 import random_cases
 import reference_inputs
-import sgm_files
-from sgm_files import Wrong
+from sgm_tools import files, running
+from sgm_tools.running import Wrong
 
 STOCKPILE = os.path.join(HERE, "..", "examples", "stockpile")
 # Of each of the settings P1, P2, whether it follows the image, `fine`, and the options.
@@ -172,7 +172,7 @@ def run_separate(words):
 
 
 def digest_of(path):
-    return hashlib.sha256(sgm_files.read_bytes(path)).hexdigest()[:16]
+    return hashlib.sha256(files.read_bytes(path)).hexdigest()[:16]
 
 
 def found_by(run, pair, folder, name):
@@ -184,13 +184,13 @@ def found_by(run, pair, folder, name):
     status, printed, fault = run(["match", *pair, calib, out, *SETTINGS[name][-1]])
     if status:
         raise Wrong(f"{' '.join(pair)}: {fault.strip() or f'status {status}'}")
-    words, (samples, _) = printed.split(), sgm_files.read_pgm(out + ".pgm")
+    words, (samples, _) = printed.split(), files.read_pgm(out + ".pgm")
     if len(words) != 4 or printed != f"valid {words[1]} of {samples.size}\n":
         raise Wrong(f"{' '.join(pair)}: the summary is {printed!r}")
     found = int(words[1]), int(samples.sum(dtype="int64")), digest_of(out + ".pgm")
     if name not in HEAPS:
         return found
-    table = sgm_files.read_bytes(out + ".csv").decode().splitlines()
+    table = files.read_bytes(out + ".csv").decode().splitlines()
     return *found, digest_of(out + ".asc"), *table
 
 
@@ -211,7 +211,7 @@ def differing(run, scene, names):
     with tempfile.TemporaryDirectory(prefix="sgm-version3_figures.") as folder:
         pair = pair_of(scene, folder)
         for name in names:
-            sgm_files.progress(f"matching {scene}, {name}")
+            running.progress(f"matching {scene}, {name}")
             found, wanted = found_by(run, pair, folder, name), FIGURES[name][scene]
             if found != wanted:
                 lines.append(f"{scene}, {name}: {told(found)}, where there have to be {told(wanted)}")
@@ -227,7 +227,7 @@ def main():
     separate = "by the separate implementation in place of the program"
     parser.add_argument("--separate", action="store_true", help=separate)
     words = parser.parse_args()
-    sgm_files.need(numpy=sgm_files.numpy)
+    running.need(numpy=running.numpy)
     takes_fine = words.separate or reference_inputs.TAKES_FINE
     names = [name for name in words.settings or SETTINGS if takes_fine or not SETTINGS[name][3]]
     run = run_separate if words.separate else run_program
@@ -235,11 +235,11 @@ def main():
     for scene in words.only or SCENES:
         matched, lines = differing(run, scene, names)
         number, differ = number + matched, differ + len(lines)
-        sgm_files.progress("")
+        running.progress("")
         print("".join(line + "\n" for line in lines), end="", flush=True)
     print(f"version3_figures: {number - differ} matches as they have to be, {differ} different")
     return 1 if differ else 0
 
 
 if __name__ == "__main__":
-    sgm_files.run(main)
+    running.run(main)

@@ -11,25 +11,11 @@ the pictures of the chessboard then have to be shrunk alike, before calibrating.
 
 import argparse
 
-import sgm_files
-from sgm_files import Image, Wrong, numpy
+from sgm_tools.files import read_grey, write_pgm
+from sgm_tools.pictures import shrunk
+from sgm_tools.running import Image, Wrong, need, numpy, run
 
 LONGEST_SIDE = 4096
-
-
-def shrunk(grey, times):
-    """Means of squares of times x times pixels, halves up; what is left over at the sides falls away."""
-    height, width = (side // times for side in grey.shape)
-    if not height or not width:
-        raise Wrong(f"--shrink {times} leaves nothing of {grey.shape[1]} x {grey.shape[0]} pixels")
-    squares = grey[: height * times, : width * times].reshape(height, times, width, times)
-    return ((2 * squares.sum(axis=(1, 3), dtype=numpy.int64) + times**2) // (2 * times**2)).astype(numpy.uint8)
-
-
-def write_pgm(name, grey):
-    height, width = grey.shape
-    with open(name, "wb") as file:
-        file.write(f"P5\n{width} {height}\n255\n".encode() + grey.tobytes())
 
 
 def main():
@@ -40,8 +26,8 @@ def main():
     shrink = "each N x N pixels become one, N being 1 to 16 (1)"
     parser.add_argument("--shrink", type=int, default=1, choices=range(1, 17), metavar="N", help=shrink)
     words = parser.parse_args()
-    sgm_files.need(numpy=numpy, PIL=Image)
-    grey = shrunk(sgm_files.read_grey(words.file), words.shrink)
+    need(numpy=numpy, PIL=Image)
+    grey = shrunk(read_grey(words.file), words.shrink)
     if max(grey.shape) > LONGEST_SIDE:
         least = -(-max(grey.shape) * words.shrink // LONGEST_SIDE)
         raise Wrong(f"{words.file}: sgm takes up to {LONGEST_SIDE} pixels a side: --shrink {least}")
@@ -50,4 +36,4 @@ def main():
 
 
 if __name__ == "__main__":
-    sgm_files.run(main)
+    run(main)

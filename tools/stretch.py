@@ -13,23 +13,10 @@ printed. Needs numpy and Pillow.
 
 import argparse
 
-import sgm_files
-from sgm_files import numpy
-
-MAGENTA = (200, 0, 120)
-# Entry 0 of the palette is for no value, the others are the greys from dark to light.
-PALETTE = [MAGENTA] + [(level,) * 3 for level in range(1, 256)]
-DARKEST, LIGHTEST = 16, 255
-
-
-def stretched(values, filled):
-    """Rows of palette numbers, and the values that became the darkest and the lightest grey, or None."""
-    ends = sgm_files.hundredths(values[filled])
-    if ends is None:
-        return numpy.zeros(values.shape, numpy.uint8), None
-    low, high = ends
-    greys = DARKEST + (LIGHTEST - DARKEST) * (values.clip(low, high) - low) // max(1, high - low)
-    return numpy.where(filled, greys, 0).astype(numpy.uint8), ends
+from sgm_tools.files import read_disparities, write_png
+from sgm_tools.grids import NO_DIFFERENCE, read_grid
+from sgm_tools.pictures import PALETTE, stretched
+from sgm_tools.running import run
 
 
 def is_picture(name):
@@ -44,16 +31,16 @@ def main():
     parser.add_argument("--out", required=True, metavar="FILE.png", help="the picture")
     words = parser.parse_args()
     if is_picture(words.file):
-        values, filled = sgm_files.read_disparities(words.file)
+        values, filled = read_disparities(words.file)
         unit = "sixteenths of a pixel above the first disparity"
     else:
-        grid = sgm_files.read_grid(words.file)
-        what = "change" if grid.nothing == sgm_files.NO_DIFFERENCE else "height"
+        grid = read_grid(words.file)
+        what = "change" if grid.nothing == NO_DIFFERENCE else "height"
         values, filled, unit = grid.heights, grid.filled, f"micrometres of {what}"
     numbers, ends = stretched(values, filled)
-    sgm_files.write_png(words.out, numbers, PALETTE)
+    write_png(words.out, numbers, PALETTE)
     print("no value anywhere" if ends is None else f"{ends[0]} (dark) to {ends[1]} (light) {unit}")
 
 
 if __name__ == "__main__":
-    sgm_files.run(main)
+    run(main)

@@ -40,17 +40,12 @@ import json
 import os
 import zlib
 
-import cell_pixels
-import change_volumes
-import check_trace
-import heights_picture
-import sgm_files
-import sgm_points
-import sgm_regions
-import sgm_warp
-import stretch
-from sgm_files import Image, Wrong, numpy, whole
-from sgm_points import Points
+from sgm_tools import calibrations, cells, changes, exact, files, grids, pictures, reports, running, warps
+from sgm_tools import points as sgm_points
+from sgm_tools import regions as sgm_regions
+from sgm_tools.calibrations import whole
+from sgm_tools.points import Points
+from sgm_tools.running import Image, Wrong, numpy
 
 TEMPLATE = os.path.join(os.path.dirname(os.path.realpath(__file__)), "survey_page.html")
 MOST_CELLS = 4_000_000
@@ -68,7 +63,7 @@ LONGEST_LIST = 9
 
 def regions_of(calibration, report):
     """The regions with their lines of the report."""
-    listed = sgm_files.regions_in(calibration)
+    listed = calibrations.regions_in(calibration)
     if [region.get("name") for region in listed] != [line["region"] for line in report]:
         raise Wrong("the regions of the calibration aren't those of the report: is it the calibration of this survey?")
     made = []
@@ -133,7 +128,7 @@ def tallied(row, col, up, shape):
     if not len(first):
         return made
     numbers = numpy.diff(first, append=len(at))
-    means = sgm_points.rounded(numpy.add.reduceat(up, first), numbers)
+    means = exact.rounded(numpy.add.reduceat(up, first), numbers)
     off = up - numpy.repeat(means, numbers)
     squares = numpy.add.reduceat(off.astype(float) ** 2, first)
     # The mean was rounded, so the deviations from it leave a rest.
@@ -148,7 +143,7 @@ def tallied(row, col, up, shape):
 
 def strange_cells(calibration, grid, tally):
     """How many cells have a height that isn't that of their points."""
-    is_mean, bridge = cell_pixels.keeps_mean(calibration), calibration["grid"].get("bridge", 0)
+    is_mean, bridge = cells.keeps_mean(calibration), calibration["grid"].get("bridge", 0)
     there = tally.numbers > 0
     strange = there & (grid.heights != (tally.means if is_mean else tally.highest))
     if not bridge:
@@ -185,17 +180,17 @@ def reduced(grid, block):
 
     made = of_blocks(-BEYOND, numpy.max)
     filled = made != -BEYOND
-    if grid.nothing == sgm_files.NO_DIFFERENCE:
+    if grid.nothing == grids.NO_DIFFERENCE:
         lowest = of_blocks(BEYOND, numpy.min)
         made = numpy.where(filled & (-lowest > made), lowest, made)
     south = grid.south - grid.cell * (rows * block - grid.heights.shape[0])
     heights = numpy.where(filled, made, grid.nothing)
-    return sgm_files.Grid(grid.west, south, grid.cell * block, heights, filled, grid.nothing)
+    return grids.Grid(grid.west, south, grid.cell * block, heights, filled, grid.nothing)
 
 
 def heights_text(grid):
     """The heights as 32 bits each, the least byte first, in base 64; differences as floating point of 64 bits."""
-    is_change = grid.nothing == sgm_files.NO_DIFFERENCE
+    is_change = grid.nothing == grids.NO_DIFFERENCE
     if grid.filled.any() and abs(grid.heights[grid.filled]).max() > (4 * 10**9 if is_change else 2**31 - 1):
         raise Wrong("heights beyond what sgm writes")
     return text_of(numpy.where(grid.filled, grid.heights, grid.nothing).astype("<f8" if is_change else "<i4").tobytes())
@@ -230,7 +225,7 @@ def text_of(data):
 
 
 def picture_text(pixels, palette=None):
-    return "data:image/png;base64," + text_of(sgm_files.png_bytes(pixels, palette))
+    return "data:image/png;base64," + text_of(files.png_bytes(pixels, palette))
 
 
 def thinned(pixels):
@@ -246,24 +241,24 @@ def greys(samples, most):
 
 
 def left_text(name):
-    return picture_text(thinned(greys(*sgm_files.read_pgm(name))))
+    return picture_text(thinned(greys(*files.read_pgm(name))))
 
 
 def rectified(samples, calibration):
     """The rectified left picture; 0 where a pixel is void."""
     height, width = samples.shape
-    warp, xs = sgm_warp.Warp(check_trace.warp_of(calibration, "left"), width, height), numpy.arange(width)
+    warp, xs = warps.Warp(warps.warp_of(calibration, "left"), width, height), numpy.arange(width)
     rows = [warp.rectified(samples, xs, numpy.full(width, y)) for y in range(height)]
     return numpy.array(rows).clip(min=0)
 
 
 def control_of(out, calibration, left):
     """The rectified left picture with the samples of OUT.pgm, in full size, and what makes points of them."""
-    samples, most = sgm_files.read_pgm(left)
-    values, filled = sgm_files.read_disparities(out + ".pgm")
+    samples, most = files.read_pgm(left)
+    values, filled = files.read_disparities(out + ".pgm")
     if samples.shape != values.shape:
         raise Wrong(f"{left} and {out}.pgm have different sizes: is it the left picture of this survey?")
-    sgm_files.progress("rectifying")
+    running.progress("rectifying")
     picture = rectified(samples, calibration)
     found = numpy.where(filled, values + 16, 0).astype("<u2")
     return {
@@ -297,25 +292,25 @@ def survey(out, calibration, left, with_control=False):
     """Everything that the page knows."""
     has_grid = "grid" in calibration or not with_control
     if has_grid:
-        grid = sgm_files.read_grid(out + ".asc")
-        sgm_files.check_grid(calibration, grid)
+        grid = grids.read_grid(out + ".asc")
+        calibrations.check_grid(calibration, grid)
     else:
         # One empty cell, which isn't shown.
-        nothing = numpy.array([[sgm_files.NO_HEIGHT]])
-        grid = sgm_files.Grid(0, 0, 1, nothing, numpy.zeros((1, 1), bool))
-    is_change = grid.nothing == sgm_files.NO_DIFFERENCE
+        nothing = numpy.array([[grids.NO_HEIGHT]])
+        grid = grids.Grid(0, 0, 1, nothing, numpy.zeros((1, 1), bool))
+    is_change = grid.nothing == grids.NO_DIFFERENCE
     if is_change and with_control:
         raise Wrong("a change has no control points: take the page of one of its surveys")
     rows, cols = grid.heights.shape
     block = block_of(rows, cols)
     known = change_of(out, calibration, grid) if is_change else survey_of(out, calibration, grid, block)
     control = control_of(out, calibration, left) if with_control else None
-    sgm_files.progress("drawing")
+    running.progress("drawing")
     # Blocks of cells are no bridges.
     marks = marks_of(known.get("bridged") if block == 1 else None)
     shown = reduced(grid, block)
-    colours, ends = heights_picture.drawn(shown)
-    change_scale = (heights_picture.BLUE, (250, 250, 250), heights_picture.RED)
+    colours, ends = pictures.drawn(shown)
+    change_scale = (pictures.BLUE, (250, 250, 250), pictures.RED)
     return {
         "version": calibration.get("version"),
         "pose": pose_in(calibration),
@@ -330,7 +325,7 @@ def survey(out, calibration, left, with_control=False):
         "cols": shown.heights.shape[1],
         "rows": shown.heights.shape[0],
         "map": picture_text(colours),
-        "scale": {"ends": ends, "colours": change_scale if is_change else heights_picture.SCALE},
+        "scale": {"ends": ends, "colours": change_scale if is_change else pictures.SCALE},
         "settings": settings_of(calibration),
         "made": file_made(out + (".asc" if has_grid else ".pgm")),
         "left": left_text(left) if left and not control else None,
@@ -344,7 +339,7 @@ def survey(out, calibration, left, with_control=False):
 def sure_of(calibration, grid, values, filled, block):
     """How sure the cells that are shown are, how many have a strange height, and which of the grid have
     points."""
-    row, col, up = cell_pixels.points_in_grid(values, filled, Points(calibration), grid)
+    row, col, up = cells.points_in_grid(values, filled, Points(calibration), grid)
     tally = tallied(row, col, up, grid.heights.shape)
     strange, there = strange_cells(calibration, grid, tally), tally.numbers > 0
     if block > 1:
@@ -355,13 +350,13 @@ def sure_of(calibration, grid, values, filled, block):
 
 def survey_of(out, calibration, grid, block):
     """What is a survey's alone."""
-    report = sgm_files.read_report(out + ".csv") if "regions" in calibration else []
+    report = reports.read_report(out + ".csv") if "regions" in calibration else []
     regions = regions_of(calibration, report)
-    values, filled = sgm_files.read_disparities(out + ".pgm")
-    numbers, _ = stretch.stretched(values, filled)
+    values, filled = files.read_disparities(out + ".pgm")
+    numbers, _ = pictures.stretched(values, filled)
     sure, points = {"sure": None, "strange": 0}, grid.filled
     if "grid" in calibration:
-        sgm_files.progress("counting points")
+        running.progress("counting points")
         sure, points = sure_of(calibration, grid, values, filled, block)
     return {
         "change": None,
@@ -370,24 +365,24 @@ def survey_of(out, calibration, grid, block):
         "camera": {key: whole(calibration, "camera", key) for key in ("focal", "baseline", "mount")},
         "disparities": span_of(calibration, values, filled),
         "regions": regions,
-        "disparityMap": picture_text(thinned(numbers), stretch.PALETTE),
+        "disparityMap": picture_text(thinned(numbers), pictures.PALETTE),
     }
 
 
 def change_of(out, calibration, grid):
     """What is a change's alone."""
-    said = sgm_files.read_volumes(out + ".csv")
-    *tallies, _ = change_volumes.tallies(out, calibration)
+    said = reports.read_volumes(out + ".csv")
+    *tallies, _ = changes.tallies(out, calibration)
     report = []
-    for (name, it), (_, at, counts) in zip(tallies, change_volumes.regions_of(calibration, grid)):
+    for (name, it), (_, at, counts) in zip(tallies, changes.regions_of(calibration, grid)):
         found = grid.heights[at][grid.filled[at] & counts]
         lowest, highest = (int(found.min()), int(found.max())) if it.cells else (None, None)
         numbers = (name, it.cells, it.empty, it.fill, it.cut, lowest, highest)
-        report.append(dict(zip(sgm_files.REPORT_NAMES, numbers)))
+        report.append(dict(zip(reports.REPORT_NAMES, numbers)))
     regions = regions_of(calibration, report)
     counts = {key: said[key] for key in ("both", "come", "gone")}
     volumes = {key: str(said[key]) for key in ("fill", "cut")}
-    darkest = heights_picture.darkest_of(grid)
+    darkest = pictures.darkest_of(grid)
     return {
         "sure": None,
         "strange": 0,
@@ -419,12 +414,12 @@ def main():
     words = parser.parse_args()
     if words.control_points and not words.left:
         parser.error("--control-points needs --left")
-    sgm_files.need(numpy=numpy, PIL=Image)
-    calibration = sgm_files.read_json(words.calib)
+    running.need(numpy=numpy, PIL=Image)
+    calibration = files.read_json(words.calib)
     known = survey(words.survey, calibration, words.left, words.control_points)
     title = words.title or f"{'Change' if known['change'] else 'Survey'} {os.path.basename(words.survey)}"
     name = words.out or words.survey + ".html"
-    sgm_files.progress(f"writing {name}")
+    running.progress(f"writing {name}")
     text = page(title, known)
     with open(name, "w", encoding="utf-8") as file:
         file.write(text)
@@ -435,4 +430,4 @@ def main():
 
 
 if __name__ == "__main__":
-    sgm_files.run(main)
+    running.run(main)

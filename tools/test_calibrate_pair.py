@@ -14,16 +14,17 @@ HERE = os.path.dirname(os.path.abspath(__file__))
 TOOL = os.path.join(HERE, "calibrate_pair.py")
 sys.path.insert(0, os.path.join(HERE, "..", "examples", "photographs"))
 
-import calibrate_pair as tool
 import make_photographs as made
-import sgm_files
-from calibrate_pair import Image, cv2, numpy
+from sgm_tools import running
+from sgm_tools import boards as tool
+from sgm_tools.boards import cv2
+from sgm_tools.running import Image, numpy
 
 
 def setUpModule():
     """The pictures of the board, made once."""
     global folder
-    sgm_files.need_for_tests(numpy=numpy, PIL=Image, cv2=cv2)
+    running.need_for_tests(numpy=numpy, PIL=Image, cv2=cv2)
     folder = tempfile.TemporaryDirectory()
     for side in ("left", "right"):
         os.makedirs(os.path.join(folder.name, side))

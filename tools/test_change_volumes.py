@@ -13,16 +13,16 @@ import unittest
 HERE = os.path.dirname(os.path.abspath(__file__))
 TOOL = os.path.join(HERE, "change_volumes.py")
 
-import change_volumes as tool
-import sgm_files
-from sgm_files import decimal
+from sgm_tools import files, running
+from sgm_tools import changes as tool
+from sgm_tools.exact import decimal
 
 NOTHING = -9999999999
 HEAD = "region,cells,empty,fill_m3,cut_m3,net_m3,mean_m,spread_m"
 
 
 def setUpModule():
-    sgm_files.need_for_tests(numpy=sgm_files.numpy)
+    running.need_for_tests(numpy=running.numpy)
 
 
 class Changes(unittest.TestCase):
@@ -68,7 +68,7 @@ class Tables(Changes):
         wanted = self.run_tool("--still", "west")
         self.assertEqual(wanted[0], 0)
         name = os.path.join(self.folder, "c.json")
-        calibration = sgm_files.read_json(name)
+        calibration = files.read_json(name)
         for matrix in ([1 << 30, 0, 0, 0, 858993459, -644245094, 0, 644245094, 858993459], 9 * [0]):
             pose = {"matrix": matrix, "east": 5000000, "north": 0, "up": -7}
             with open(name, "w") as file:

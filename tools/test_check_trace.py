@@ -16,10 +16,10 @@ HERE = os.path.dirname(os.path.abspath(__file__))
 TOOL = os.path.join(HERE, "check_trace.py")
 sys.path.insert(0, os.path.join(HERE, "..", "tests"))
 
-import check_trace as tool
 import reference_matching as matching
-import sgm_files
 from reference_inputs import Calibration, Image
+from sgm_tools import running
+from sgm_tools import certificates as tool
 
 # The worked example, whose certificates were added up by hand.
 LEFT = Image(5, 3, 255, 3 * [90, 10, 50, 20, 40])
@@ -39,7 +39,7 @@ DOWN = {"kind": "projective", "matrix": [8, 0, 0, 0, 8, 3, 0, 0, 8]}
 
 
 def setUpModule():
-    sgm_files.need_for_tests(numpy=sgm_files.numpy)
+    running.need_for_tests(numpy=running.numpy)
 
 
 def mesh(width, height, draw):

@@ -15,20 +15,20 @@ HERE = os.path.dirname(os.path.abspath(__file__))
 TOOL = os.path.join(HERE, "cubic_metres.py")
 sys.path.insert(0, os.path.join(HERE, "..", "tests"))
 
-import cubic_metres as tool
 import reference
 import reference_matching as matching
-import sgm_files
-import sgm_points
-import sgm_regions
-from cubic_metres import moved
+from sgm_tools import running
+from sgm_tools import points as sgm_points
+from sgm_tools import regions as sgm_regions
+from sgm_tools import volumes as tool
+from sgm_tools.exact import moved
 
 HEAD = "region,cells,empty,fill,cut,lowest,highest\n"
 NEW_HEAD = "region,cells,empty,fill_m3,cut_m3,net_m3,lowest_m,highest_m\n"
 
 
 def setUpModule():
-    sgm_files.need_for_tests(numpy=sgm_files.numpy)
+    running.need_for_tests(numpy=running.numpy)
 
 
 def run(text, *options, calibration=None, heights=None):

@@ -1,5 +1,5 @@
 #!/usr/bin/env python3
-"""Tries cell_pixels.py, explain_pixel.py and fine_step.py: with the worked example, whose sums were
+"""Tries cell_pixels.py, explain_pixel.py and what they rest on: with the worked example, whose sums were
 added up by hand, and the separate implementation (tests/reference.py) as the program; with programs
 that say something wrong; and with the worked rows of finer disparities."""
 
@@ -14,10 +14,9 @@ HERE = os.path.dirname(os.path.abspath(__file__))
 TOP = os.path.dirname(HERE)
 REFERENCE = os.path.join(TOP, "tests", "reference.py")
 
-import cell_pixels
-import explain_pixel as tool
-import fine_step
-import sgm_files
+from sgm_tools import cells, files, fine_steps, grids, running
+from sgm_tools import explanations as tool
+from sgm_tools import points as sgm_points
 
 CALIBRATION = """{"version":1,"disparities":{"first":0,"count":2},
  "census":{"width":3,"height":3},"penalties":{"p1":1,"p2":3},
@@ -55,7 +54,7 @@ sys.exit(reference.main(sys.argv[1:]))
 
 
 def setUpModule():
-    sgm_files.need_for_tests(numpy=sgm_files.numpy)
+    running.need_for_tests(numpy=running.numpy)
 
 
 class Tool(unittest.TestCase):
@@ -165,7 +164,7 @@ class Pair:
         self.left, self.right, self.count = Plane(left), Plane(right), count
 
     def finer(self, found, x, y):
-        return fine_step.Finer(self, Plane(found).value, x, y)
+        return fine_steps.Finer(self, Plane(found).value, x, y)
 
 
 SLOPE = Pair(
@@ -257,7 +256,7 @@ class Fine(Tool):
             ([[0, 1, None], [None, 0, None], [None, None, 400]], [0, 1, 0], 0),
             ([[5, None, None], [None, 4, None], [None, None, None]], [5, 4], 5),
         ]:
-            it = fine_step.Mean(Plane(found).value, 1, 1)
+            it = fine_steps.Mean(Plane(found).value, 1, 1)
             self.assertEqual((it.near, it.value), (near, mean))
 
     def write_pair(self):
@@ -378,18 +377,18 @@ class Cells(Tool):
             (4, [], True, True, "0.000004 m, a bridge from cells around it"),
             (4, [], True, False, None),
         ]:
-            self.assertEqual(cell_pixels.told(height, found, is_mean, is_bridged), told)
+            self.assertEqual(cells.told(height, found, is_mean, is_bridged), told)
 
     def test_heap(self):
         """Every hundredth cell of the example: the highest point is the cell, and each point lies in it."""
         heap = os.path.join(TOP, "examples", "stockpile")
-        grid = sgm_files.read_grid(os.path.join(heap, "expected", "out.asc"))
-        values, filled = sgm_files.read_disparities(os.path.join(heap, "expected", "out.pgm"))
-        points = cell_pixels.Points(sgm_files.read_json(os.path.join(heap, "calibration.json")))
+        grid = grids.read_grid(os.path.join(heap, "expected", "out.asc"))
+        values, filled = files.read_disparities(os.path.join(heap, "expected", "out.pgm"))
+        points = sgm_points.Points(files.read_json(os.path.join(heap, "calibration.json")))
         rows, cols = grid.heights.shape
         for at in range(0, rows * cols, 100):
             row, col = divmod(at, cols)
-            found = cell_pixels.pixels_in(values, filled, points, grid, col, row)
+            found = cells.pixels_in(values, filled, points, grid, col, row)
             height = int(grid.heights[row, col]) if grid.filled[row, col] else None
             self.assertEqual(found[0][0] if found else None, height)
             for high, x, y, value, east, north in found:

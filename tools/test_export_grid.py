@@ -12,10 +12,10 @@ import xml.etree.ElementTree
 
 HERE = os.path.dirname(os.path.abspath(__file__))
 
-import sgm_files
+from sgm_tools import running
 
-gdal = sgm_files.package("osgeo.gdal")
-ogr = sgm_files.package("osgeo.ogr")
+gdal = running.package("osgeo.gdal")
+ogr = running.package("osgeo.ogr")
 
 # Cells of 0.25 m; a step from 1 m to 3.000001 m, and an empty cell.
 GRID = """ncols 4
@@ -41,7 +41,7 @@ NO_GDAL = "export_grid: GDAL of Python needed: apt-get install python3-gdal on D
 
 
 def setUpModule():
-    sgm_files.need_for_tests(numpy=sgm_files.numpy)
+    running.need_for_tests(numpy=running.numpy)
 
 
 class Tool(unittest.TestCase):

@@ -14,13 +14,11 @@ import unittest
 HERE = os.path.dirname(os.path.abspath(__file__))
 sys.path.insert(0, os.path.join(HERE, "..", "tests"))
 
-import check_trace
 import reference_matching as matching
-import sgm_files
-import sgm_points
-import sgm_warp
-from sgm_files import numpy
-from sgm_points import ONE, Pose
+from sgm_tools import certificates, running, warps
+from sgm_tools import points as sgm_points
+from sgm_tools.points import ONE, Pose
+from sgm_tools.running import numpy
 
 IDENTITY = [ONE, 0, 0, 0, ONE, 0, 0, 0, ONE]
 QUARTER = [0, -ONE, 0, ONE, 0, 0, 0, 0, ONE]
@@ -63,7 +61,7 @@ SIZES = {"uchar": "B", "float": "f", "double": "d"}
 
 
 def setUpModule():
-    sgm_files.need_for_tests(numpy=numpy)
+    running.need_for_tests(numpy=numpy)
 
 
 def pgm(samples, width, most):
@@ -195,7 +193,7 @@ class Points(unittest.TestCase):
 
     def test_refused_poses(self):
         for pose in (7, {}, {**WORKED["pose"], "matrix": IDENTITY[:8]}, {**WORKED["pose"], "up": 2000000001}):
-            with self.assertRaises(sgm_files.Wrong):
+            with self.assertRaises(running.Wrong):
                 sgm_points.Points({**WORKED, "pose": pose})
 
     def test_of_a_match(self):
@@ -269,26 +267,26 @@ class Warps(unittest.TestCase):
         samples = samples.reshape(self.HEIGHT, self.WIDTH)
         ys, xs = (it.ravel() for it in numpy.mgrid[0 : self.HEIGHT, 0 : self.WIDTH])
         for warp in self.warps():
-            one = check_trace.Picture(samples, 65535, warp, (3, 3), 3)
-            found = sgm_warp.Warp(warp, self.WIDTH, self.HEIGHT).rectified(samples, xs, ys)
+            one = certificates.Picture(samples, 65535, warp, (3, 3), 3)
+            found = warps.Warp(warp, self.WIDTH, self.HEIGHT).rectified(samples, xs, ys)
             for x, y, value in zip(xs.tolist(), ys.tolist(), found.tolist()):
                 wanted = one.value(x, y)
                 self.assertEqual(value, -1 if wanted is None else wanted, (warp["kind"], x, y))
 
     def test_way_back(self):
         for warp in self.warps():
-            it = sgm_warp.Warp(warp, self.WIDTH, self.HEIGHT)
+            it = warps.Warp(warp, self.WIDTH, self.HEIGHT)
             for place in ((5.0, 6.0), (11.3, 9.75), (20.5, 2.25), (8.0, 8.0)):
                 back = it.back(*it.place(*place))
                 for found, wanted in zip(back, place):
                     self.assertAlmostEqual(found, wanted, 2, msg=warp["kind"])
-        far = sgm_warp.Warp(list(self.warps())[1], self.WIDTH, self.HEIGHT)
+        far = warps.Warp(list(self.warps())[1], self.WIDTH, self.HEIGHT)
         self.assertIsNone(far.back(500.0, 3.0))
 
     def test_wrong_mesh(self):
         mesh = list(self.warps())[-1]
-        with self.assertRaises(sgm_files.Wrong):
-            sgm_warp.Warp(mesh, 40, self.HEIGHT)
+        with self.assertRaises(running.Wrong):
+            warps.Warp(mesh, 40, self.HEIGHT)
 
 
 class Tool(unittest.TestCase):

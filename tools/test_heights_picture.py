@@ -7,9 +7,9 @@ import sys
 import tempfile
 import unittest
 
-import sgm_files
-from heights_picture import colours_of, drawn, shaded, zoom_of
-from sgm_files import numpy
+from sgm_tools import grids, running
+from sgm_tools.pictures import colours_of, drawn, shaded, zoom_of
+from sgm_tools.running import numpy
 
 TOOL = os.path.join(os.path.dirname(os.path.abspath(__file__)), "heights_picture.py")
 HEAD = "ncols {}\nnrows {}\nxllcorner 0\nyllcorner 0\ncellsize 1000\nNODATA_value -2147483648\n"
@@ -18,12 +18,12 @@ EMPTY = HEAD.format(2, 1) + "-2147483648 -2147483648\n"
 
 
 def setUpModule():
-    sgm_files.need_for_tests(numpy=numpy, PIL=sgm_files.Image)
+    running.need_for_tests(numpy=numpy, PIL=running.Image)
 
 
 def picture(name):
     """The rows of colours of a PNG."""
-    with sgm_files.Image.open(name) as image:
+    with running.Image.open(name) as image:
         return [[tuple(colour) for colour in row] for row in numpy.array(image.convert("RGB")).tolist()]
 
 
@@ -44,7 +44,7 @@ def grid(rows, size=1000):
     """A grid of these heights, None for an empty cell."""
     filled = numpy.array([[height is not None for height in row] for row in rows])
     heights = numpy.array([[-(2**31) if height is None else height for height in row] for row in rows], numpy.int64)
-    return sgm_files.Grid(0, 0, size, heights, filled)
+    return grids.Grid(0, 0, size, heights, filled)
 
 
 def colours(rows):
@@ -84,7 +84,7 @@ class Colours(unittest.TestCase):
     def test_changes(self):
         """What rose is red, what fell blue, by the larger of both; no change is white, no difference black."""
         changes = grid([[-500, 0, 250, 1000, None]])
-        changes.nothing = sgm_files.NO_DIFFERENCE
+        changes.nothing = grids.NO_DIFFERENCE
         made, ends = drawn(changes)
         self.assertEqual(ends, (-1000, 1000))
         wanted = [(129, 159, 199), (250, 250, 250), (228, 191, 192), (165, 15, 21), (0, 0, 0)]

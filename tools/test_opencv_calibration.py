@@ -16,11 +16,12 @@ HERE = os.path.dirname(os.path.abspath(__file__))
 TOOL = os.path.join(HERE, "opencv_calibration.py")
 sys.path.insert(0, os.path.join(HERE, "..", "tests"))
 
-import opencv_calibration as tool
 import reference_inputs as inputs
 import reference_matching as matching
-import sgm_files
-from opencv_calibration import cv2, numpy
+from sgm_tools import opencv as tool
+from sgm_tools import running
+from sgm_tools.opencv import cv2
+from sgm_tools.running import numpy
 
 LIMITS = "--unit m --near 2000000 --far 4000000 --mount 4000000"
 # Two equal cameras without distortion, level and side by side, the right one 0.5 m to the right.
@@ -48,7 +49,7 @@ MADE_LIMITS = "--unit mm --near 2000000 --far 5000000 --mount 5000000"
 
 
 def setUpModule():
-    sgm_files.need_for_tests(numpy=numpy, cv2=cv2)
+    running.need_for_tests(numpy=numpy, cv2=cv2)
     MADE["R"] = cv2.Rodrigues(numpy.array([0.012, -0.035, 0.016]))[0].tolist()
 
 
@@ -716,8 +717,9 @@ class WithoutOpenCV(unittest.TestCase):
         with tempfile.TemporaryDirectory() as folder:
             with open(os.path.join(folder, name), "w") as file:
                 file.write(given if isinstance(given, str) else json.dumps(given))
-            script = f"import sys; sys.path.insert(0, {HERE!r}); import opencv_calibration as tool; tool.cv2 = None; "
-            script += "sys.argv[0] = 'opencv_calibration'; tool.sgm_files.run(tool.main)"
+            script = f"import sys; sys.path.insert(0, {HERE!r}); import opencv_calibration as tool; "
+            script += "from sgm_tools import opencv, running; opencv.cv2 = None; "
+            script += "sys.argv[0] = 'opencv_calibration'; running.run(tool.main)"
             command = [sys.executable, "-c", script, name, "--out", "made.json", *LIMITS.split()]
             done = subprocess.run(command, cwd=folder, capture_output=True, text=True)
         return done.returncode, done.stderr

@@ -7,14 +7,14 @@ import sys
 import tempfile
 import unittest
 
-import sgm_files
-from sgm_files import Image, numpy
+from sgm_tools import running
+from sgm_tools.running import Image, numpy
 
 TOOL = os.path.join(os.path.dirname(os.path.abspath(__file__)), "photo_to_pgm.py")
 
 
 def setUpModule():
-    sgm_files.need_for_tests(numpy=numpy, PIL=Image)
+    running.need_for_tests(numpy=numpy, PIL=Image)
 
 
 def run(image, *options, **saved):

@@ -16,9 +16,9 @@ sys.path.insert(0, TESTS)
 
 import random_lists
 import reference_lists
-import series_left as tool
 from reference_inputs import Ended
 from test_reference import DISPARITY_TEXT, GRID_TEXT, TABLE_TEXT, WORKED
+from sgm_tools import series as tool
 
 SERIES = os.path.join(TESTS, "reference_series.py")
 # The worked pair's outputs by its calibration, and by the plain settings.

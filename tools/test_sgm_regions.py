@@ -6,9 +6,9 @@ import random
 import unittest
 from fractions import Fraction
 
-import sgm_files
-import sgm_regions as tool
-from sgm_files import Wrong, numpy
+from sgm_tools import grids, running
+from sgm_tools import regions as tool
+from sgm_tools.running import Wrong, numpy
 
 SMALL = {"west": 0, "south": 0, "cell": 1000, "cols": 4, "rows": 3}
 SQUARE = {"west": 0, "south": 0, "cell": 2, "cols": 4, "rows": 4}
@@ -67,7 +67,7 @@ OUTLINES = [
 
 
 def setUpModule():
-    sgm_files.need_for_tests(numpy=numpy)
+    running.need_for_tests(numpy=numpy)
 
 
 def region(grid, base=0, rises=(0, 0), outline=None, place=None):
@@ -242,7 +242,7 @@ class Planes(unittest.TestCase):
             {**region(SMALL), "name": "pile"},
         ]
         found = tool.ground_cells(
-            {"grid": SMALL, "regions": regions}, sgm_files.Grid(0, 0, 1000, heights, filled)
+            {"grid": SMALL, "regions": regions}, grids.Grid(0, 0, 1000, heights, filled)
         )
         self.assertEqual(sorted(found), [(0, 1, 4), (0, 2, 0), (1, 2, 1), (2, 1, 6)])
 

@@ -13,12 +13,11 @@ import unittest
 
 HERE = os.path.dirname(os.path.abspath(__file__))
 
-import sgm_files
-import sgm_points
-import sgm_warp
 import site_pose
-from sgm_files import numpy
-from sgm_points import ONE
+from sgm_tools import running, warps
+from sgm_tools import points as sgm_points
+from sgm_tools.points import ONE
+from sgm_tools.running import numpy
 
 WIDTH, HEIGHT = 160, 120
 CALIBRATION = {
@@ -53,7 +52,7 @@ TARGETS = {
 
 
 def setUpModule():
-    sgm_files.need_for_tests(numpy=numpy)
+    running.need_for_tests(numpy=numpy)
 
 
 def turned(degrees, matrix):
@@ -381,7 +380,7 @@ class FromPhotograph(Tool):
         for warp in (left, matrix):
             whole = {**CALIBRATION, "warp": {"left": warp, "right": {"kind": "identity"}}}
             self.write_json("c.json", whole)
-            there = sgm_warp.Warp(warp, WIDTH, HEIGHT)
+            there = warps.Warp(warp, WIDTH, HEIGHT)
             lines = table_of()
             for line in lines:
                 line[1:3] = (f"{it:.9f}" for it in there.place(*line[1:3]))

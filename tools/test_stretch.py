@@ -7,8 +7,8 @@ import sys
 import tempfile
 import unittest
 
-import sgm_files
-from sgm_files import numpy
+from sgm_tools import running
+from sgm_tools.running import numpy
 
 TOOL = os.path.join(os.path.dirname(os.path.abspath(__file__)), "stretch.py")
 HEAD = b"ncols %d\nnrows %d\nxllcorner 0\nyllcorner 0\ncellsize 1000\nNODATA_value -2147483648\n"
@@ -16,12 +16,12 @@ NONE = (200, 0, 120)
 
 
 def setUpModule():
-    sgm_files.need_for_tests(numpy=numpy, PIL=sgm_files.Image)
+    running.need_for_tests(numpy=numpy, PIL=running.Image)
 
 
 def picture(name):
     """The rows of colours of a PNG that has a palette."""
-    with sgm_files.Image.open(name) as image:
+    with running.Image.open(name) as image:
         assert image.mode == "P", image.mode
         return [[tuple(colour) for colour in row] for row in numpy.array(image.convert("RGB")).tolist()]
 

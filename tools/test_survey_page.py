@@ -18,13 +18,12 @@ import tempfile
 import unittest
 import zlib
 
-import heights_picture
-import sgm_files
-import sgm_points
-import sgm_regions
 import survey_page as tool
 import test_sgm_regions as rows
-from sgm_files import numpy
+from sgm_tools import exact, files, grids, pictures, reports, running
+from sgm_tools import points as sgm_points
+from sgm_tools import regions as sgm_regions
+from sgm_tools.running import numpy
 
 HERE = os.path.dirname(os.path.abspath(__file__))
 TOOL = os.path.join(HERE, "survey_page.py")
@@ -95,7 +94,7 @@ def plainly(matrix, shift, point):
 
 
 def setUpModule():
-    sgm_files.need_for_tests(numpy=numpy, PIL=sgm_files.Image)
+    running.need_for_tests(numpy=numpy, PIL=running.Image)
 
 
 class Heap(unittest.TestCase):
@@ -151,7 +150,7 @@ class Pages(Heap):
         self.assertEqual((status, err), (0, ""))
         self.assertTrue(out.startswith("o.html: "), out)
         known = json.loads(re.search('id="survey">(.*?)</script>', page, re.S)[1])
-        grid, report = sgm_files.read_grid(self.path("o.asc")), sgm_files.read_report(self.path("o.csv"))
+        grid, report = grids.read_grid(self.path("o.asc")), reports.read_report(self.path("o.csv"))
         heights = numpy.frombuffer(base64.b64decode(known["heights"]), "<i4").reshape(known["rows"], known["cols"])
         self.assertTrue((numpy.where(grid.filled, grid.heights, EMPTY) == heights).all())
         for region, line in zip(known["regions"], report):
@@ -203,16 +202,16 @@ class ControlPoints(Heap):
     def picture_of(self, control):
         kind, _, text = control["picture"].partition(",")
         self.assertEqual(kind, "data:image/png;base64")
-        return numpy.asarray(sgm_files.Image.open(io.BytesIO(base64.b64decode(text))))
+        return numpy.asarray(running.Image.open(io.BytesIO(base64.b64decode(text))))
 
     def test_what_it_knows(self):
         known = self.known("--left", self.LEFT)
         self.assertEqual((known["control"], known["pose"], known["hasGrid"]), (None, None, True))
         self.assertIsNotNone(known["left"])
         known = self.known("--left", self.LEFT, "--control-points")
-        control, (samples, _) = known["control"], sgm_files.read_pgm(self.path("o.pgm"))
+        control, (samples, _) = known["control"], files.read_pgm(self.path("o.pgm"))
         self.assertTrue((self.samples_of(control) == samples).all())
-        left, most = sgm_files.read_pgm(self.LEFT)
+        left, most = files.read_pgm(self.LEFT)
         brightest = min(most, int(left.max()))
         self.assertTrue((self.picture_of(control) == left.astype(int) * 255 // brightest).all())
         with open(self.path("c.json")) as file:
@@ -227,7 +226,7 @@ class ControlPoints(Heap):
         matrix = [1, 0, 1, 0, 1, 0, 0, 0, 1]
         self.change("warp", {"left": {"kind": "projective", "matrix": matrix}})
         control = self.known("--left", self.LEFT, "--control-points")["control"]
-        left, most = sgm_files.read_pgm(self.LEFT)
+        left, most = files.read_pgm(self.LEFT)
         moved = left.astype(int)[:, 1:]
         found = self.picture_of(control)
         self.assertTrue((found[:, :-1] == moved * 255 // min(most, moved.max())).all())
@@ -267,7 +266,7 @@ class ControlPoints(Heap):
         with open(self.path("o.asc")) as file:
             head, _, rest = file.read().partition(str(EMPTY))
         with open(self.path("o.asc"), "w") as file:
-            file.write(head + str(sgm_files.NO_DIFFERENCE) + rest)
+            file.write(head + str(grids.NO_DIFFERENCE) + rest)
         with open(self.path("o.csv"), "w") as file:
             file.write("both,come,gone,empty,fill,cut\n0,0,0,0,0,0\n")
         found = self.run_tool("--left", self.LEFT, "--control-points")
@@ -279,7 +278,7 @@ def heights_in_cells(calibration, out):
     """The heights of the points that fall into each cell, by the plain definitions: {(column, row): [..]}."""
     camera, grid, pose = (calibration.get(key) for key in ("camera", "grid", "pose"))
     first, cells = calibration["disparities"]["first"], {}
-    values, filled = sgm_files.read_disparities(out)
+    values, filled = files.read_disparities(out)
     rounded = lambda a, b: (2 * a + b) // (2 * b)
     for y, x in numpy.argwhere(filled).tolist():
         k = 256 * first + 16 * int(values[y, x]) + camera["doffs"]
@@ -344,7 +343,7 @@ class HowSure(Heap):
 
     def test_strange_cells(self):
         """A height that is changed, one that goes, and one without points."""
-        lines = sgm_files.read_bytes(self.path("o.asc")).decode().splitlines()
+        lines = files.read_bytes(self.path("o.asc")).decode().splitlines()
         rows = [line.split() for line in lines[6:]]
         there = [(y, x) for y, row in enumerate(rows) for x, it in enumerate(row) if int(it) != EMPTY]
         empty = next((y, x) for y, row in enumerate(rows) for x, it in enumerate(row) if int(it) == EMPTY)
@@ -389,11 +388,11 @@ class HowSure(Heap):
 
 class Words(Heap):
     def test_ends_of_the_heights(self):
-        known, grid = self.known(), sgm_files.read_grid(self.path("o.asc"))
+        known, grid = self.known(), grids.read_grid(self.path("o.asc"))
         heights = sorted(grid.heights[grid.filled].tolist())
         spare = len(heights) // 100
         self.assertEqual(known["scale"]["ends"], [heights[spare], heights[-1 - spare]])
-        self.assertEqual([tuple(it) for it in known["scale"]["colours"]], heights_picture.SCALE)
+        self.assertEqual([tuple(it) for it in known["scale"]["colours"]], pictures.SCALE)
 
     def test_settings_and_date(self):
         os.utime(self.path("o.asc"), (1767323096, 1767323096))
@@ -410,8 +409,8 @@ class Words(Heap):
 class Changes(Heap):
     def test_what_it_knows(self):
         """A difference of the example's grid: as if the later heights were 0 everywhere."""
-        grid = sgm_files.read_grid(self.path("o.asc"))
-        nothing = sgm_files.NO_DIFFERENCE
+        grid = grids.read_grid(self.path("o.asc"))
+        nothing = grids.NO_DIFFERENCE
         with open(self.path("o.asc")) as file:
             head = file.read().splitlines()[:5]
         rows = [[str(-it) if there else str(nothing) for it, there in zip(*row)] for row in zip(grid.heights, grid.filled)]
@@ -432,15 +431,15 @@ class Changes(Heap):
         darkest = known["change"]["darkest"]
         self.assertEqual((known["sure"], known["strange"], known["scale"]["ends"]), (None, 0, [-darkest, darkest]))
         # What is the report's fill is the difference's cut, since the bases are 0.
-        report = sgm_files.read_report(os.path.join(HEAP, "expected", "out.csv"))
+        report = reports.read_report(os.path.join(HEAP, "expected", "out.csv"))
         for region, line in zip(known["regions"], report):
             self.assertEqual((region["report"]["cut"], region["report"]["lowest"]), (str(line["fill"]), -line["highest"]))
             self.assertEqual(region["base"], 0)
 
     def test_largest_changes(self):
         heights = numpy.array([[1, -7, -(10**10)], [3, -4, -(10**10)], [-7, -9, 5]])
-        nothing = sgm_files.NO_DIFFERENCE
-        grid = sgm_files.Grid(10, 20, 100, numpy.where(heights < -(10**9), nothing, heights), heights > -(10**9), nothing)
+        nothing = grids.NO_DIFFERENCE
+        grid = grids.Grid(10, 20, 100, numpy.where(heights < -(10**9), nothing, heights), heights > -(10**9), nothing)
         made = tool.reduced(grid, 2)
         self.assertEqual(made.heights.tolist(), [[-7, nothing], [-9, 5]])
         self.assertEqual((made.filled.tolist(), made.nothing), ([[True, False], [True, True]], nothing))
@@ -484,7 +483,7 @@ class Reduced(unittest.TestCase):
 
     def test_highest(self):
         heights = numpy.array([[1, 2, EMPTY], [3, -4, EMPTY], [-7, -9, 5]])
-        grid = sgm_files.Grid(10, 20, 100, heights, heights != EMPTY)
+        grid = grids.Grid(10, 20, 100, heights, heights != EMPTY)
         made = tool.reduced(grid, 2)
         self.assertEqual(made.heights.tolist(), [[3, EMPTY], [-7, 5]])
         self.assertEqual(made.filled.tolist(), [[True, False], [True, True]])
@@ -565,9 +564,9 @@ class Legends(Script):
         draw = random.Random(50)
         ends = [(-15656, 3453940), (0, 1), (5, 5), (-MOST, MOST)]
         given = [[it, draw.randint(it[0] - 9, it[1] + 9)] for it in ends for _ in range(50)]
-        wanted = [heights_picture.colours_of(numpy.array([it]), *end)[0].tolist() for end, it in given]
+        wanted = [pictures.colours_of(numpy.array([it]), *end)[0].tolist() for end, it in given]
         script = "const [colours, all] = given; return all.map(([ends, it]) => colourAt(colours, ends, it));"
-        self.assertEqual(self.run_script(script, [heights_picture.SCALE, given]), wanted)
+        self.assertEqual(self.run_script(script, [pictures.SCALE, given]), wanted)
 
 
 @unittest.skipUnless(shutil.which("node"), "node isn't there")
@@ -744,7 +743,7 @@ class Counting(Script):
     def aslant(cells, plane, grid, camera, pose):
         """What a sixteenth of a pixel is in height on a plane at the mean place of cells, (column, row
         from the south), by the definition; None where the camera doesn't look down on it."""
-        rounded, n = sgm_regions.rounded, len(cells)
+        rounded, n = exact.rounded, len(cells)
         across, along = (sum(2 * it[part] + 1 for it in cells) for part in (0, 1))
         west, south, cell = (grid[key] for key in ("west", "south", "cell"))
         base, east, north = (plane[key] for key in ("base", "east", "north"))
@@ -841,8 +840,8 @@ class Counting(Script):
         self.assertEqual([it.get("apart") for it in made], [16, 32, 48, 16, None, 32, 0])
         k = 16 * (48 + 24) - 5
         wanted = [
-            sgm_regions.rounded((256 // 2 - 300) * 1000, k), sgm_regions.rounded(-77 * 1000, k),
-            150000 - sgm_regions.rounded(25600 * 1000, k),
+            exact.rounded((256 // 2 - 300) * 1000, k), exact.rounded(-77 * 1000, k),
+            150000 - exact.rounded(25600 * 1000, k),
         ]
         self.assertEqual([int(it) for it in made[0]["point"]], wanted)
 
@@ -940,7 +939,7 @@ class Bridges(unittest.TestCase):
         there = numpy.array([[1, 1, 0, 1, 1], [0, 1, 1, 0, 0], [1, 0, 1, 1, 1]], bool)
         filled = there.copy()
         filled[0, 2] = filled[2, 1] = True
-        grid = sgm_files.Grid(-100, -2900, 1000, numpy.where(filled, 4000, EMPTY), filled)
+        grid = grids.Grid(-100, -2900, 1000, numpy.where(filled, 4000, EMPTY), filled)
         values = numpy.zeros((3, 5), numpy.int64)
         found = self.bridges(calibration, grid, values, there)
         self.assertEqual(numpy.argwhere(found).tolist(), [[0, 2], [2, 1]])
@@ -950,11 +949,11 @@ class Bridges(unittest.TestCase):
         # A quarter turn to the left puts column x and row y into row 4 - x and column y.
         turned = {**calibration, "pose": {"matrix": QUARTER, "east": -3000, "north": 0, "up": 0}}
         turned["grid"] = {**calibration["grid"], "west": -3100, "south": -100, "cols": 3, "rows": 5}
-        other = sgm_files.Grid(-3100, -100, 1000, grid.heights.T[::-1], filled.T[::-1])
+        other = grids.Grid(-3100, -100, 1000, grid.heights.T[::-1], filled.T[::-1])
         found = self.bridges(turned, other, values, there)
         self.assertEqual(numpy.argwhere(found).tolist(), [[2, 0], [3, 2]])
         grid.filled[0, 0] = False
-        with self.assertRaises(sgm_files.Wrong):
+        with self.assertRaises(running.Wrong):
             self.bridges(calibration, grid, values, there)
 
 

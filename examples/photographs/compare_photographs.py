@@ -32,10 +32,9 @@ sys.path[:0] = [TOOLS, os.path.join(TOP, "examples", "stockpile")]
 import compare_truth
 import make_photographs as made
 import make_stockpile as heap
-import opencv_calibration
-import sgm_files
-import sgm_regions
-from sgm_files import Wrong, numpy
+from sgm_tools import calibrations, files, grids, opencv, running
+from sgm_tools import regions as sgm_regions
+from sgm_tools.running import Wrong, numpy
 
 METRE = 1_000_000
 MOUNT = 8_000_000
@@ -79,8 +78,8 @@ def program():
 
 def exact_pose(rig, cameras):
     """The section `pose` of a pair that hangs so, for the rectification that its exact calibration leads to."""
-    parts = opencv_calibration.read_calibration([cameras], None)
-    turn = opencv_calibration.rectification(parts, False, None)[0]
+    parts = opencv.read_calibration([cameras], None)
+    turn = opencv.rectification(parts, False, None)[0]
     # Of the rectified left camera: its right, its top and what is behind it, in the site's frame.
     axes = rig.axes @ made.FLIP @ made.turned(made.LEFT).T @ turn.T @ made.FLIP
     shift = rig.camera(False) - axes @ [0, 0, MOUNT]
@@ -117,7 +116,7 @@ class Survey:
             words += ["--photograph", "--check", CHECK, "--window", str(WINDOW), "--write", self.name + ".json"]
             said = run_tool("site_pose.py", *words, folder=self.folder)
         else:
-            calibration = sgm_files.read_json(self.path(".first.json"))
+            calibration = files.read_json(self.path(".first.json"))
             with open(self.path(".json"), "w", encoding="utf-8") as file:
                 file.write(json.dumps({**calibration, "pose": self.pose}) + "\n")
         self.match(self.name + ".json")
@@ -126,9 +125,9 @@ class Survey:
 
 def volume_of(survey):
     """The volume of the pile above the plane of the ground, in cubic metres."""
-    calibration, heights = sgm_files.read_json(survey.path(".json")), sgm_files.read_grid(survey.path(".asc"))
+    calibration, heights = files.read_json(survey.path(".json")), grids.read_grid(survey.path(".asc"))
     plane = sgm_regions.Plane(sgm_regions.ground_cells(calibration, heights)).fitted(heights.cell)
-    region = dict(sgm_files.regions_in(calibration)[0])
+    region = dict(calibrations.regions_in(calibration)[0])
     region |= dict(zip(("base", "rise_east", "rise_north"), plane))
     grid = sgm_regions.grid_in(calibration)
     found, bases = sgm_regions.found_in(region, grid, heights.heights, heights.filled)
@@ -142,7 +141,7 @@ def true_height(x, y):
 
 def height_errors(survey, rig):
     """For each of the places how far its cell lies from the true height there, and a quarter of a depth step."""
-    camera, heights = sgm_files.read_json(survey.path(".json"))["camera"], sgm_files.read_grid(survey.path(".asc"))
+    camera, heights = files.read_json(survey.path(".json"))["camera"], grids.read_grid(survey.path(".asc"))
     rows = heights.heights.shape[0]
     for x, y in PLACES:
         col, row = int((x - heights.west) // heights.cell), rows - 1 - int((y - heights.south) // heights.cell)
@@ -170,7 +169,7 @@ class Found:
 
 
 def found_by(survey, rig):
-    sgm_files.progress(f"surveying: {survey.name}")
+    running.progress(f"surveying: {survey.name}")
     said = survey.measured()
     volume, true = volume_of(survey), compare_truth.true_volume() / METRE**3
     errors = list(height_errors(survey, rig))
@@ -193,7 +192,7 @@ def surveys(source, work):
         words = [os.path.join(source, f"{side}.png"), "--out", f"{side}.pgm"]
         run_tool("photo_to_pgm.py", *words, folder=work)
     with open(os.path.join(work, "targets.csv"), "wb") as file:
-        file.write(sgm_files.read_bytes(os.path.join(source, "targets.csv")))
+        file.write(files.read_bytes(os.path.join(source, "targets.csv")))
     true, board = (os.path.join(source, name) for name in ("true.json", "cameras.json"))
     rig = made.aslant()
     return [
@@ -233,9 +232,9 @@ def main():
     parser = argparse.ArgumentParser(description=__doc__.split("\n\n")[0], epilog=epilog)
     parser.add_argument("folder", metavar="FOLDER", help="of make_photographs.py, with cameras.json in it")
     words = parser.parse_args()
-    sgm_files.need(numpy=numpy, PIL=sgm_files.Image, cv2=made.cv2)
+    running.need(numpy=numpy, PIL=running.Image, cv2=made.cv2)
     compare(words.folder)
 
 
 if __name__ == "__main__":
-    sgm_files.run(main)
+    running.run(main)

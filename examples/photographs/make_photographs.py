@@ -23,10 +23,10 @@ HERE = os.path.dirname(os.path.abspath(__file__))
 sys.path[:0] = [os.path.join(HERE, "..", "..", "tools"), os.path.join(HERE, "..", "stockpile")]
 
 import make_stockpile as heap
-import sgm_files
-from sgm_files import Image, numpy
+from sgm_tools import files, running
+from sgm_tools.running import Image, numpy
 
-cv2 = sgm_files.package("cv2")
+cv2 = running.package("cv2")
 
 # Camera matrix, distortion, and the turn out of level of the left and the right camera.
 LEFT = (
@@ -244,13 +244,13 @@ def write(folder):
     with open(os.path.join(folder, "true.json"), "w") as file:
         file.write(json.dumps(calibration(), indent=1) + "\n")
     for number, pair in enumerate(boards(), 1):
-        sgm_files.progress(f"board {number} of {len(POSES)}")
+        running.progress(f"board {number} of {len(POSES)}")
         for side, pixels in zip(("left", "right"), pair):
-            sgm_files.write_png(os.path.join(folder, "boards", side, f"{number:02}.png"), pixels)
-    sgm_files.progress("the heap")
+            files.write_png(os.path.join(folder, "boards", side, f"{number:02}.png"), pixels)
+    running.progress("the heap")
     pair = photographs()
     for side, pixels in zip(("left", "right"), pair):
-        sgm_files.write_png(os.path.join(folder, f"{side}.png"), pixels)
+        files.write_png(os.path.join(folder, f"{side}.png"), pixels)
     with open(os.path.join(folder, "targets.csv"), "w") as file:
         file.write(targets_text(pair[0]))
 
@@ -260,10 +260,10 @@ def main():
     parser = argparse.ArgumentParser(description=__doc__.split("\n\n")[0], epilog=epilog)
     parser.add_argument("folder", metavar="FOLDER", help="is made where it isn't there")
     words = parser.parse_args()
-    sgm_files.need(numpy=numpy, PIL=Image, cv2=cv2)
+    running.need(numpy=numpy, PIL=Image, cv2=cv2)
     write(words.folder)
     print(f"{len(POSES)} pairs of the board and one of the heap with {len(TARGETS)} targets in {words.folder}")
 
 
 if __name__ == "__main__":
-    sgm_files.run(main)
+    running.run(main)

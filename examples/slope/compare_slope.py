@@ -15,11 +15,11 @@ import sys
 HERE = os.path.dirname(os.path.abspath(__file__))
 sys.path.insert(0, os.path.join(HERE, "..", "..", "tools"))
 
-import cubic_metres
 import make_slope as truth
-import sgm_files
-import sgm_regions
-from sgm_files import Wrong
+from sgm_tools import calibrations, files, grids, reports, running
+from sgm_tools import regions as sgm_regions
+from sgm_tools.running import Wrong
+from sgm_tools.volumes import mean_height, net_above
 
 CUBE = 10**18
 
@@ -31,21 +31,21 @@ def tally(region, grid, found, side):
     volumes = [sum(max(0, sign * it) for it in above) * side * side for sign in (1, -1)]
     ends = [int(heights.min()), int(heights.max())] if len(heights) else [None, None]
     empty = sgm_regions.number_of_cells(region, grid) - len(heights)
-    return dict(zip(sgm_files.REPORT_NAMES, [region["name"], len(heights), empty, *volumes, *ends]))
+    return dict(zip(reports.REPORT_NAMES, [region["name"], len(heights), empty, *volumes, *ends]))
 
 
 def compare(out):
     """Prints the comparison, and gives the measured volume, the true one and plus or minus, in
     cubic metres."""
-    calibration = sgm_files.read_json(os.path.join(HERE, "calibration.json"))
-    heights, report = sgm_files.read_grid(out + ".asc"), sgm_files.read_report(out + ".csv")
-    sgm_files.check_grid(calibration, heights)
-    regions, grid = sgm_files.regions_in(calibration), sgm_regions.grid_in(calibration)
+    calibration = files.read_json(os.path.join(HERE, "calibration.json"))
+    heights, report = grids.read_grid(out + ".asc"), reports.read_report(out + ".csv")
+    calibrations.check_grid(calibration, heights)
+    regions, grid = calibrations.regions_in(calibration), sgm_regions.grid_in(calibration)
     found = [sgm_regions.found_in(it, grid, heights.heights, heights.filled) for it in regions]
     lines = [tally(it, grid, cells, heights.cell) for it, cells in zip(regions, found)]
-    if [{key: it[key] for key in sgm_files.REPORT_NAMES} for it in report] != lines:
+    if [{key: it[key] for key in reports.REPORT_NAMES} for it in report] != lines:
         raise Wrong(f"{out}.csv: the report isn't the tally of the cells")
-    heap, ground = ([line[key] for key in sgm_files.REPORT_NAMES] for line in lines[:2])
+    heap, ground = ([line[key] for key in reports.REPORT_NAMES] for line in lines[:2])
     if not heap[1] or not ground[1]:
         raise Wrong(f"{out}.csv: a region has no cell with a height")
 
@@ -63,8 +63,8 @@ def compare(out):
     )
     print(f"{east / 1e6:.4f} and {north / 1e6:.4f}")
 
-    height = cubic_metres.mean_height(ground, regions[1]["base"], heights.cell)
-    measured = cubic_metres.net_above(heap, regions[0]["base"], heights.cell, height) / CUBE
+    height = mean_height(ground, regions[1]["base"], heights.cell)
+    measured = net_above(heap, regions[0]["base"], heights.cell, height) / CUBE
     mean, spread = sgm_regions.ground_spread(*found[1])
     sixteenth = sgm_regions.sixteenth_at(mean, calibration["camera"])
     sure = sgm_regions.plus_minus(heap[1], heights.cell, sixteenth, spread) / CUBE
@@ -89,4 +89,4 @@ def main():
 
 
 if __name__ == "__main__":
-    sgm_files.run(main)
+    running.run(main)

@@ -20,8 +20,8 @@ sys.path.insert(0, os.path.join(HERE, "..", "stockpile"))
 sys.path.insert(0, os.path.join(HERE, "..", "..", "tools"))
 
 import make_stockpile as rig
-import sgm_files
 from make_stockpile import BASELINE, HEIGHT, MOUNT, WIDTH
+from sgm_tools import running
 
 # How the ground rises, in hundredths, from height 0 below the left camera.
 GROUND_EAST, GROUND_NORTH = 4, -3
@@ -127,7 +127,7 @@ def right_sample(x, y):
 
 def write_pair():
     for name, sample in (("left.pgm", left_sample), ("right.pgm", right_sample)):
-        sgm_files.progress(f"making {name}")
+        running.progress(f"making {name}")
         samples = bytes(sample(x, y) for y in range(HEIGHT) for x in range(WIDTH))
         with open(os.path.join(HERE, name), "wb") as file:
             file.write(f"P5\n{WIDTH} {HEIGHT}\n255\n".encode() + samples)
@@ -140,4 +140,4 @@ def main():
 
 
 if __name__ == "__main__":
-    sgm_files.run(main)
+    running.run(main)

@@ -38,10 +38,10 @@ HERE = os.path.dirname(os.path.abspath(__file__))
 sys.path[:0] = [os.path.join(HERE, "..", "..", "tests"), os.path.join(HERE, "..", "..", "tools")]
 
 import compare_truth
-import cubic_metres
 import make_stockpile as heap
 import reference_inputs as inputs
 import reference_matching as matching
+from sgm_tools.volumes import mean_height, net_above
 
 HEIGHTS = (8_000_000, 8_130_000)
 # Over these the ground's disparity goes through one pixel, by about a quarter each.
@@ -273,8 +273,8 @@ def heap_volume(found, mount, cell, settings=None):
     cells = matching.heights(points_of(found, settings, mount), grid, settings.keep)
     cells = matching.bridged(cells, cell, settings.bridge)
     pile, ground = (["", *matching.tally(cells, cell, it)] for it in regions(grid))
-    base = cubic_metres.mean_height(ground, 0, cell)
-    error = lambda height: cubic_metres.net_above(pile, 0, cell, height) / compare_truth.true_volume() - 1
+    base = mean_height(ground, 0, cell)
+    error = lambda height: net_above(pile, 0, cell, height) / compare_truth.true_volume() - 1
     return pile[2], pile[1] + pile[2], base, error(base), error(0)
 
 

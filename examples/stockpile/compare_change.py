@@ -19,11 +19,10 @@ import sys
 HERE = os.path.dirname(os.path.abspath(__file__))
 sys.path.insert(0, os.path.join(HERE, "..", "..", "tools"))
 
-import change_volumes
 import compare_truth
 import make_later
 import make_stockpile as truth
-import sgm_files
+from sgm_tools import changes, grids, running
 
 METRE = 1_000_000
 SQUARE = 20_000
@@ -45,8 +44,8 @@ def true_volume():
 
 def print_cells(out, calibration, noise):
     """How far the cells of the pile are from what has changed there."""
-    grid = sgm_files.read_grid(out + ".asc")
-    (_, at, _), _ = change_volumes.regions_of(calibration, grid)
+    grid = grids.read_grid(out + ".asc")
+    (_, at, _), _ = changes.regions_of(calibration, grid)
     errors = []
     for row in range(at[0].start, at[0].stop):
         for col in range(at[1].start, at[1].stop):
@@ -65,9 +64,9 @@ def compare(out):
     """Prints the comparison, and gives the measured and the true volume."""
     with open(os.path.join(HERE, "calibration.json"), encoding="utf-8") as file:
         calibration = json.load(file)
-    (_, pile), (_, ground), _ = change_volumes.tallies(out, calibration)
+    (_, pile), (_, ground), _ = changes.tallies(out, calibration)
     if not ground.cells or not pile.cells:
-        raise sgm_files.Wrong(f"{out}.asc: a region has no cell with a height in both surveys")
+        raise running.Wrong(f"{out}.asc: a region has no cell with a height in both surveys")
     measured, true = (pile.fill - pile.cut) / METRE**3, true_volume()
     least = ground.root() * pile.cells * pile.area / METRE**3
     print(f"change  true {true:.3f} m3   measured {measured:.3f} m3   {100 * (measured / true - 1):+.2f} %")
@@ -81,10 +80,10 @@ def main():
     parser = argparse.ArgumentParser(description=__doc__.split("\n\n")[0], epilog=epilog)
     parser.add_argument("out", metavar="OUT", help="the last word of the change")
     words = parser.parse_args()
-    sgm_files.need(numpy=sgm_files.numpy)
+    running.need(numpy=running.numpy)
     compare(words.out)
     return 0
 
 
 if __name__ == "__main__":
-    sgm_files.run(main)
+    running.run(main)

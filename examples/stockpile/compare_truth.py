@@ -21,8 +21,8 @@ import sys
 HERE = os.path.dirname(os.path.abspath(__file__))
 sys.path.insert(0, os.path.join(HERE, "..", "..", "tools"))
 
-import cubic_metres
 import make_stockpile as truth
+from sgm_tools.volumes import mean_height, net_above
 
 METRE = 1_000_000
 
@@ -119,8 +119,8 @@ def compare(out):
     (pile, ground), (pile_base, ground_base) = map(whole_numbers, lines), (region["base"] for region in regions)
     if ground[1] == 0 or pile[1] == 0:
         raise NotASurvey(f"{out}.csv: a region has no cell with a height")
-    base = cubic_metres.mean_height(ground, ground_base, head["cellsize"])
-    volume, measured = true_volume(), cubic_metres.net_above(pile, pile_base, head["cellsize"], base)
+    base = mean_height(ground, ground_base, head["cellsize"])
+    volume, measured = true_volume(), net_above(pile, pile_base, head["cellsize"], base)
     height, highest = truth.CONE_HEIGHT, pile[-1]
     low, high = (end / METRE for end in ground[-2:])
     print(f"ground  true 0.000 m     measured {base / METRE:.3f} m, its cells {low:.3f} to {high:.3f} m")

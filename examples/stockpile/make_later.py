@@ -17,8 +17,8 @@ import sys
 sys.path.insert(0, os.path.join(os.path.dirname(os.path.abspath(__file__)), "..", "..", "tools"))
 
 import make_stockpile as before
-import sgm_files
 from make_stockpile import BASELINE, CONE_X, HEIGHT, MOUNT, WIDTH
+from sgm_tools import running
 
 # The plane: how high it stands at the cone's axis, and over which length to the east it falls by 1.
 CUT_HEIGHT, CUT_LENGTH = 2_000_000, 2
@@ -72,7 +72,7 @@ def right_sample(x, y):
 def write_pair(folder):
     os.makedirs(folder, exist_ok=True)
     for name, sample in (("left.pgm", left_sample), ("right.pgm", right_sample)):
-        sgm_files.progress(f"making {name}")
+        running.progress(f"making {name}")
         samples = bytes(sample(x, y) for y in range(HEIGHT) for x in range(WIDTH))
         with open(os.path.join(folder, name), "wb") as file:
             file.write(f"P5\n{WIDTH} {HEIGHT}\n255\n".encode() + samples)
@@ -87,4 +87,4 @@ def main():
 
 
 if __name__ == "__main__":
-    sgm_files.run(main)
+    running.run(main)

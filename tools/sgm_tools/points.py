@@ -5,7 +5,9 @@ Lengths are whole micrometres. All is exact, by the definitions of docs/FORMATS.
 numbers of any size, and with arrays of int64, where a sum of a pose is parted so that it stays below 2^63.
 """
 
-from sgm_files import Wrong, numpy, whole
+from sgm_tools.calibrations import whole
+from sgm_tools.exact import rounded
+from sgm_tools.running import Wrong, numpy
 
 # What says where the camera's frame lies, and what is measured in it.
 CAMERA_FRAME = ("focal", "baseline", "cx", "cy", "doffs", "mount")
@@ -17,11 +19,6 @@ MOST_LENGTH = 2_000_000_000
 # By how much a product of two rows may be off that of a rotation's.
 NEARLY = 1 << 45
 SHIFTS = ("east", "north", "up")
-
-
-def rounded(a, b):
-    """To the nearest whole number, halves up."""
-    return (2 * a + b) // (2 * b)
 
 
 # Poses

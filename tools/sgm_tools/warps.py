@@ -4,7 +4,7 @@ and which rectified place shows a place of the photograph.
 Needs numpy. Places are pixels, (0, 0) being the middle of the upper left one.
 """
 
-from sgm_files import Wrong, numpy
+from sgm_tools.running import Wrong, numpy
 
 # How near the way back has to come, in pixels, after at most so many steps.
 NEAR_ENOUGH, MOST_STEPS = 1e-4, 60
@@ -12,6 +12,46 @@ NEAR_ENOUGH, MOST_STEPS = 1e-4, 60
 MOST_ELEMENT = 1 << 40
 # Over so many pixels a slope of the warp is taken.
 SPAN = 0.25
+
+
+def warp_of(calibration, side):
+    """The side's warp, with all that its kind needs."""
+    if "warp" not in calibration:
+        return {"kind": "identity"}
+    try:
+        warp = calibration["warp"][side]
+        if warp["kind"] == "identity":
+            return warp
+        if warp["kind"] == "projective":
+            numbers, count = warp["matrix"], 9
+        else:
+            numbers, count = warp["nodes"], 2 * warp["cols"] * warp["rows"]
+        if len(numbers) == count and all(type(it) is int for it in numbers) and warp.get("step", 1) >= 1:
+            return warp
+    except (KeyError, TypeError, AttributeError):
+        pass
+    raise Wrong(f"the calibration's warp of the {side} picture isn't one")
+
+
+def place(warp, x, y):
+    """Where in the camera's picture the rectified pixel is taken from, in 1/256 of a pixel."""
+    kind = warp["kind"]
+    if kind == "identity":
+        return 256 * x, 256 * y
+    if kind == "projective":
+        a = warp["matrix"]
+        below = a[6] * x + a[7] * y + a[8]
+        if below <= 0:
+            raise Wrong("a matrix of the calibration has a denominator that isn't positive")
+        return 256 * (a[0] * x + a[1] * y + a[2]) // below, 256 * (a[3] * x + a[4] * y + a[5]) // below
+    # A mesh: between four nodes, in proportion.
+    step, cols, nodes = warp["step"], warp["cols"], warp["nodes"]
+    (col, a), (row, b) = divmod(x, step), divmod(y, step)
+    corners = [(col, row, (step - a) * (step - b)), (col + 1, row, a * (step - b))]
+    corners += [(col, row + 1, (step - a) * b), (col + 1, row + 1, a * b)]
+    u = sum(weight * nodes[2 * (j * cols + i)] for i, j, weight in corners)
+    v = sum(weight * nodes[2 * (j * cols + i) + 1] for i, j, weight in corners)
+    return u // step**2, v // step**2
 
 
 class Warp:

@@ -7,7 +7,7 @@ where they are most alike, there the finer disparity is. Then comes the mean of 
 the pixels around it that are near.
 """
 
-from sgm_points import rounded
+from sgm_tools.exact import rounded
 
 REACH = range(-2, 3)
 PLACES = [(i, j) for j in REACH for i in REACH]
@@ -63,7 +63,7 @@ def spread(one, other):
 class Finer:
     """What the grey values say at a pixel that has a disparity.
 
-    `pair` has both pictures, the first disparity and how many there are (as check_trace.Pair), and
+    `pair` has both pictures, the first disparity and how many there are (as Pair), and
     value_at(x, y) is the map: sixteenths, or None. `scores` has for each change its A, B and score,
     `v` is V, `best` the change with the greatest score; `value` is what comes out, and `stays` says
     why it is what it was, or is None.

@@ -11,8 +11,10 @@ import decimal
 import json
 import re
 
-import sgm_files
-from sgm_files import Wrong
+from sgm_tools import exact
+from sgm_tools.files import read_bytes
+from sgm_tools.running import Wrong
+from sgm_tools.words import metres_word
 
 MOST_METRES = 10**8
 LEAST_CODE, MOST_CODE = 1024, 1 << 20
@@ -30,7 +32,7 @@ class Site:
         """The text of site.json."""
         parts = []
         if self.east or self.north:
-            offset = ", ".join(sgm_files.decimal(it, 6) for it in (self.east, self.north))
+            offset = ", ".join(exact.decimal(it, 6) for it in (self.east, self.north))
             parts.append(f'"offset": [{offset}]')
         if self.epsg is not None:
             parts.append(f'"epsg": {self.epsg}')
@@ -51,7 +53,7 @@ def is_code(value):
 
 
 def read_site(name):
-    text = sgm_files.read_bytes(name)
+    text = read_bytes(name)
     try:
         top = json.loads(text.decode("utf-8"), parse_float=decimal.Decimal)
     except (ValueError, RecursionError) as error:
@@ -71,11 +73,9 @@ def read_site(name):
 # Words
 
 
-def metres_word(word):
-    """A reader of metres: whole micrometres."""
-    if not re.fullmatch(r"[+-]?[0-9]{1,9}(\.[0-9]{1,9})?", word):
-        raise argparse.ArgumentTypeError(f"{word} isn't a number of metres")
-    found = micrometres(decimal.Decimal(word))
+def micrometres_word(word: str) -> int:
+    """A number of metres: whole micrometres."""
+    found = micrometres(metres_word(word))
     if found is None:
         raise argparse.ArgumentTypeError(f"{word} is more than {MOST_METRES} metres")
     return found
@@ -92,7 +92,7 @@ def add_words(option, site):
     """The options that say where the site lies; `site` is the help of --site."""
     option("--site", metavar="FILE.json", help=site)
     offset = "what the frame's origin has for coordinates in the map, in metres (0 0)"
-    option("--offset", nargs=2, type=metres_word, metavar=("EAST", "NORTH"), help=offset)
+    option("--offset", nargs=2, type=micrometres_word, metavar=("EAST", "NORTH"), help=offset)
     epsg = "the map's coordinate system, by its code of EPSG"
     option("--epsg", type=code_word, metavar="CODE", help=epsg)
 

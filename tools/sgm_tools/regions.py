@@ -4,9 +4,11 @@ the plane that fits a piece of ground best.
 A region is its object in the calibration, with whole numbers in micrometres, and a grid an object
 with `west`, `south`, `cell`, `cols` and `rows`. Columns count from the west; a `row` counts from
 the north and `south` rows from the south, all from 0 and over the whole grid. Everything is exact:
-Python's own numbers, and with numpy whole numbers that are held below 2^63. """
+Python's own numbers, and with numpy whole numbers that are held below 2^63."""
 
-from sgm_files import Wrong, numpy, regions_in, whole
+from sgm_tools.calibrations import regions_in, whole
+from sgm_tools.exact import rounded
+from sgm_tools.running import Wrong, numpy
 
 # The unit of a rise is a micrometre a metre, and heights are at the middles of cells, so at halves
 # of a cell.
@@ -14,11 +16,6 @@ RISE_UNIT = 2_000_000
 MOST_RISE, MOST_LENGTH = 1_000_000, 2_000_000_000
 LEAST_NUMBERS, MOST_NUMBERS = 6, 2000
 GRID_KEYS = ("west", "south", "cell", "cols", "rows")
-
-
-def rounded(a, b):
-    """a / b to the nearest whole number, halves up."""
-    return (2 * a + b) // (2 * b)
 
 
 def grid_in(calibration):

@@ -1,0 +1,1 @@
+"""What a surveyor uses beside the program sgm."""

@@ -1,0 +1,182 @@
+"""Lists of a series, and which of their entries have whole outputs."""
+
+import functools
+import os
+import re
+import stat
+from typing import NamedTuple
+
+from sgm_tools.calibrations import regions_in, whole
+from sgm_tools.files import PGM_HEAD, read_json
+from sgm_tools.grids import NO_HEIGHT
+from sgm_tools.reports import read_report
+from sgm_tools.running import Wrong
+
+LONGEST_LIST, MOST_ENTRIES = 1048576, 1000
+WORD = re.compile(rb"[^ \t\r\n]+")
+ENDINGS = (b".pgm", b".asc", b".csv")
+# The words of a grid's head whose numbers are the calibration's, with its keys.
+GRID_KEYS = (("ncols", "cols"), ("nrows", "rows"), ("xllcorner", "west"), ("yllcorner", "south"), ("cellsize", "cell"))
+ROW = re.compile(rb"-?[0-9]+(?: -?[0-9]+)*\n")
+# A picture's head is looked for in so many bytes first.
+USUAL_HEAD = 65536
+
+
+# The list
+
+
+class Entry(NamedTuple):
+    """An entry's words, as the bytes that they are."""
+
+    left: bytes
+    right: bytes
+    calib: bytes
+    out: bytes
+
+    def inputs(self):
+        return {self.left, self.right} | (set() if self.calib == b"-" else {self.calib})
+
+    def outputs(self):
+        return {self.out + ending for ending in ENDINGS}
+
+
+def first_clash(entries, name):
+    """The number of the first entry that writes what another one reads or writes, or is read itself, or the list."""
+    written = set().union(*(entry.outputs() for entry in entries))
+    outs = set()
+    for number, entry in enumerate(entries):
+        if entry.out in outs or written & entry.inputs() or name in entry.outputs():
+            return number
+        outs.add(entry.out)
+    return None
+
+
+def read_list(name):
+    """The entries of the list, or a Wrong with the program's words on its first fault."""
+    with open(name, "rb") as file:
+        data = file.read(LONGEST_LIST + 1)
+    if len(data) > LONGEST_LIST:
+        raise Wrong("list is too long")
+    try:
+        data.decode("utf-8")
+    except UnicodeDecodeError:
+        raise Wrong("list is not text")
+    entries = []
+    for number, line in enumerate(data.split(b"\n"), 1):
+        words = WORD.findall(line)
+        if len(words) not in (0, 4):
+            raise Wrong(f"line {number} does not have four words")
+        entries += [Entry(*words)] if words else []
+    if len(entries) > MOST_ENTRIES:
+        raise Wrong("too many entries")
+    clash = first_clash(entries, os.fsencode(name))
+    if clash is not None:
+        raise Wrong(f"entry {clash} clashes")
+    return entries
+
+
+# The files
+
+
+def file_name(word):
+    """The word as Python's functions take a name; its bytes are those of the word in each locale."""
+    if b"\0" in word:
+        raise Wrong(f"{os.fsdecode(word)!r}: no file has such a name")
+    return os.fsdecode(word)
+
+
+def open_file(name):
+    """The file, open for reading. What is no file isn't waited for."""
+    if not stat.S_ISREG(os.stat(name).st_mode):
+        raise Wrong(f"{name}: not a file")
+    return open(name, "rb")
+
+
+def sides(name):
+    """The width and height of an input picture."""
+    with open_file(name) as file:
+        data = file.read(USUAL_HEAD)
+        head = PGM_HEAD.match(data) or PGM_HEAD.match(data + file.read())
+    if not head or max(len(number.lstrip(b"0")) for number in head.groups()) > 9:
+        raise Wrong(f"{name}: not a binary PGM")
+    return int(head[1]), int(head[2])
+
+
+class Wanted(NamedTuple):
+    """What a calibration asks for: the head of OUT.asc, its columns and rows, and the names of the regions."""
+
+    head: bytes = None
+    cols: int = None
+    rows: int = None
+    regions: list = None
+
+
+@functools.lru_cache(maxsize=None)
+def wanted_by(calib):
+    if calib == b"-":
+        return Wanted()
+    name = file_name(calib)
+    try:
+        top = read_json(name)
+        if "grid" not in top and "regions" not in top:
+            return Wanted()
+        numbers = [whole(top, "grid", key) for _, key in GRID_KEYS]
+        regions = [it.get("name") for it in regions_in(top)] if "regions" in top else None
+    except Wrong as error:
+        raise Wrong(str(error) if str(error).startswith(name) else f"{name}: {error}")
+    lines = [f"{word} {number}\n" for (word, _), number in zip(GRID_KEYS, numbers)]
+    return Wanted(f"{''.join(lines)}NODATA_value {NO_HEIGHT}\n".encode(), *numbers[:2], regions)
+
+
+def check_disparities(name, width, height):
+    head = f"P5\n{width} {height}\n65535\n".encode()
+    with open_file(name) as file:
+        begin = file.read(len(head))
+        length = os.fstat(file.fileno()).st_size
+    if begin != head[: len(begin)] or (begin != head and length != len(begin)):
+        raise Wrong(f"{name}: not a disparity picture of {width} x {height}")
+    if length != len(head) + 2 * width * height:
+        raise Wrong(f"{name}: {length} of {len(head) + 2 * width * height} bytes")
+
+
+def check_grid(name, wanted):
+    with open_file(name) as file:
+        if file.read(len(wanted.head)) != wanted.head:
+            raise Wrong(f"{name}: not a grid of heights by this calibration")
+        rows = 0
+        for line in file:
+            if line.count(b" ") != wanted.cols - 1 or not ROW.fullmatch(line):
+                raise Wrong(f"{name}: row {rows} is cut short or isn't one")
+            rows += 1
+    if rows != wanted.rows:
+        raise Wrong(f"{name}: {rows} of {wanted.rows} rows")
+
+
+def check_report(name, regions):
+    with open_file(name) as file:
+        file.seek(max(0, os.fstat(file.fileno()).st_size - 1))
+        is_ended = file.read() == b"\n"
+    found = [line["region"] for line in read_report(name)]
+    if found != regions[: len(found)]:
+        raise Wrong(f"{name}: not the regions of this calibration")
+    # A line that is cut within its last number looks like a line.
+    if not is_ended or len(found) < len(regions):
+        raise Wrong(f"{name}: cut short")
+
+
+def fault(entry):
+    """Why an entry is left, or None where it is done."""
+    try:
+        width, height = sides(file_name(entry.left))
+        wanted = wanted_by(entry.calib)
+        out = file_name(entry.out)
+        check_disparities(out + ".pgm", width, height)
+        if wanted.head is not None:
+            check_grid(out + ".asc", wanted)
+        if wanted.regions is not None:
+            check_report(out + ".csv", wanted.regions)
+    except OSError as error:
+        return ": ".join(str(it) for it in (error.filename, error.strerror or error) if it)
+    except Wrong as error:
+        return str(error)
+    return None
