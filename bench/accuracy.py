@@ -225,9 +225,7 @@ def write_pair(folder, scene):
     names = []
     for side in ("left", "right"):
         names.append(os.path.join(folder, side + ".pgm"))
-        samples = getattr(scene, side)
-        with open(names[-1], "wb") as file:
-            file.write(f"P5\n{samples.shape[1]} {samples.shape[0]}\n255\n".encode() + samples.tobytes())
+        files.write_pgm(names[-1], getattr(scene, side))
     return names
 
 

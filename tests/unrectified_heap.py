@@ -25,22 +25,17 @@ sys.path[:0] = [os.path.join(TOP, "examples", "photographs"), os.path.join(TOP, 
 import compare_truth
 import make_photographs
 import make_stockpile as heap
-from sgm_tools import running
+from sgm_tools import files, running
 
 TOOL = os.path.join(TOP, "tools", "opencv_calibration.py")
 LIMITS = "--unit m --near 4000000 --far 9000000 --mount 8000000 --grid -6400000 -6000000 125000 115 96"
 REGIONS = " --region pile 15 18 77 78 0 --region ground 95 24 17 48 0"
 
 
-def pgm(pixels):
-    height, width = pixels.shape
-    return f"P5\n{width} {height}\n255\n".encode() + pixels.tobytes()
-
-
 def survey(folder):
     """The report's line of the pile, after the tool and the program have run in the folder."""
     rig, scene = make_photographs.hanging(), make_photographs.Scene(has_targets=False)
-    left, right = map(pgm, make_photographs.photographs(rig, scene))
+    left, right = map(files.pgm_bytes, make_photographs.photographs(rig, scene))
     cameras = json.dumps(make_photographs.calibration()).encode()
     for name, data in (("l.pgm", left), ("r.pgm", right), ("cameras.json", cameras)):
         with open(os.path.join(folder, name), "wb") as file:

@@ -23,24 +23,23 @@ import re
 
 from sgm_tools.boards import calibrate, cv2, pairs_with_boards, places_of, refuse_bad
 from sgm_tools.running import Image, Wrong, need, numpy, progress, run
-from sgm_tools.words import positive_word
+from sgm_tools.words import parser_of, positive_word
 
 
 # Calibrating
 
 
-def board_word(word):
+def board_word(word: str) -> tuple[int, int]:
     found = re.fullmatch("([0-9]{1,3})[xX]([0-9]{1,3})", word)
     if not found or min(int(found[1]), int(found[2])) < 3:
         raise argparse.ArgumentTypeError(f"{word} isn't COLUMNSxROWS of inner corners, each 3 or more")
     return int(found[1]), int(found[2])
 
 
-def words_of():
+def words_of() -> argparse.Namespace:
     epilog = """example:
   tools/calibrate_pair.py --left boards/left --right boards/right --board 9x6 --square 25 --out cameras.json"""
-    layout = argparse.RawDescriptionHelpFormatter
-    parser = argparse.ArgumentParser(description=__doc__.split("\n\n")[0], epilog=epilog, formatter_class=layout)
+    parser = parser_of(__doc__, epilog)
     option = parser.add_argument
     option("--left", required=True, nargs="+", metavar="PATH", help="folders or pictures of the left camera")
     option("--right", required=True, nargs="+", metavar="PATH", help="those of the right camera, in the same order")
@@ -53,7 +52,7 @@ def words_of():
     return parser.parse_args()
 
 
-def main():
+def main() -> None:
     words = words_of()
     need(numpy=numpy, PIL=Image, cv2=cv2)
     left, right, size = pairs_with_boards(words)
@@ -63,8 +62,8 @@ def main():
         raise Wrong(f"OpenCV finds no cameras for these pictures: {error.err}")
     progress("")
     print(f"{len(left)} pairs of {size[0]} x {size[1]} with a board")
-    for name, error in errors.items():
-        print(f"{name}: {error:.3f} pixels")
+    for name, off in errors.items():
+        print(f"{name}: {off:.3f} pixels")
     refuse_bad(errors, parts["T"], words.worst)
     whole = {"imageSize": list(size), **{name: part.tolist() for name, part in parts.items()}}
     with open(words.out, "w") as file:
@@ -72,5 +71,9 @@ def main():
     print(f"baseline: {float(numpy.linalg.norm(parts['T'])):.6g}, in the unit of --square")
 
 
-if __name__ == "__main__":
+def command() -> None:
     run(main)
+
+
+if __name__ == "__main__":
+    command()

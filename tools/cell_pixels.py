@@ -11,8 +11,6 @@ a bridge. Without --all no more than ten are shown. tools/explain_pixel.py shows
 Needs numpy.
 """
 
-import argparse
-
 from sgm_tools.calibrations import check_grid
 from sgm_tools.cells import keeps_mean, pixels_in, told
 from sgm_tools.exact import decimal, sixteenths
@@ -20,14 +18,14 @@ from sgm_tools.files import read_disparities, read_json
 from sgm_tools.grids import read_grid
 from sgm_tools.points import Points
 from sgm_tools.running import Wrong, need, numpy, run
-from sgm_tools.words import digits
+from sgm_tools.words import digits, parser_of
 
 SHOWN = 10
 
 
-def main():
+def main() -> None:
     epilog = "Example: tools/cell_pixels.py /tmp/heap 53 54 --calib examples/stockpile/calibration.json"
-    parser = argparse.ArgumentParser(description=__doc__.split("\n\n")[0], epilog=epilog)
+    parser = parser_of(__doc__, epilog)
     parser.add_argument("survey", metavar="OUT", help="the last word of the match")
     parser.add_argument("col", metavar="COL", type=digits(9), help="the cell's column, from 0 at the west")
     parser.add_argument("row", metavar="ROW", type=digits(9), help="the cell's row, from 0 at the north")
@@ -55,5 +53,9 @@ def main():
         print(f"pixel {x} {y}: disparity {sixteenths(value, points.first)}, at {where}, height {decimal(high, 6)} m")
 
 
-if __name__ == "__main__":
+def command() -> None:
     run(main)
+
+
+if __name__ == "__main__":
+    command()

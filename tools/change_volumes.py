@@ -16,21 +16,20 @@ region's area (its cells). A net volume below it says nothing: it could be noise
 rounded by --digits alone, halves away from 0. Needs numpy.
 """
 
-import argparse
 import csv
 import sys
 
 from sgm_tools.changes import still_one, table, tallies
 from sgm_tools.files import read_json
 from sgm_tools.running import need, numpy, progress, run
-from sgm_tools.words import add_digits
+from sgm_tools.words import add_digits, parser_of
 
 HEAD = ["region", "cells", "empty", "fill_m3", "cut_m3", "net_m3", "mean_m", "spread_m"]
 
 
-def main():
+def main() -> None:
     epilog = "Example: tools/change_volumes.py /tmp/change --calib calibration.json --still ground --digits 3"
-    parser = argparse.ArgumentParser(description=__doc__.split("\n\n")[0], epilog=epilog)
+    parser = parser_of(__doc__, epilog)
     parser.add_argument("change", metavar="OUT", help="the last word of the change")
     parser.add_argument("--calib", required=True, metavar="FILE.json", help="the calibration of either survey")
     parser.add_argument("--still", metavar="NAME", help="a region in which nothing has changed")
@@ -39,10 +38,15 @@ def main():
     need(numpy=numpy)
     named = tallies(words.change, read_json(words.calib))
     still = still_one(named, words.still) if words.still is not None else None
-    lines = [HEAD + (["least_m3"] if still else []), *table(named, still, words.digits)]
+    head: list[object] = [*HEAD, *(["least_m3"] if still else [])]
+    lines = [head, *table(named, still, words.digits)]
     progress("")
     csv.writer(sys.stdout, lineterminator="\n").writerows(lines)
 
 
-if __name__ == "__main__":
+def command() -> None:
     run(main)
+
+
+if __name__ == "__main__":
+    command()

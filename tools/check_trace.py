@@ -16,17 +16,15 @@ It prints `the certificate holds: least E` and ends with 0, or names the first l
 at the top, and ends with 1. Needs numpy, which reads the pictures.
 """
 
-import argparse
-
 from sgm_tools.certificates import DIRECTIONS, Pair, Ray, calibration_of, fault, read_trace
 from sgm_tools.running import Wrong, progress, run
-from sgm_tools.words import add_pair, add_pixel, digits
+from sgm_tools.words import add_pair, add_pixel, digits, parser_of
 
 
-def main():
+def main() -> None:
     epilog = "Example: ./sgm trace l.pgm r.pgm c.json right 20 11 3 > t.txt; "
     epilog += "tools/check_trace.py l.pgm r.pgm c.json right 20 11 3 t.txt"
-    parser = argparse.ArgumentParser(description=__doc__.split("\n\n")[0], epilog=epilog)
+    parser = parser_of(__doc__, epilog)
     add_pair(parser)
     parser.add_argument("dir", metavar="DIR", choices=DIRECTIONS, help=" ".join(DIRECTIONS))
     add_pixel(parser)
@@ -45,5 +43,9 @@ def main():
     print(f"the certificate holds: least {ray.least[-1][words.d]}")
 
 
-if __name__ == "__main__":
+def command() -> None:
     run(main)
+
+
+if __name__ == "__main__":
+    command()

@@ -48,18 +48,17 @@ fall away; with it the numbers are rounded to so many decimals, halves away from
 output where --out isn't given. Needs Python alone, and numpy for --heights.
 """
 
-import argparse
 import csv
 import sys
 
 from sgm_tools.running import need, numpy, progress, run
 from sgm_tools.volumes import COVERED, made
-from sgm_tools.words import add_digits
+from sgm_tools.words import add_digits, parser_of
 
 
-def main():
+def main() -> None:
     epilog = "Example: tools/cubic_metres.py heap.csv --ground ground --calibration heap.json --digits 3"
-    parser = argparse.ArgumentParser(description=__doc__.split("\n\n")[0], epilog=epilog)
+    parser = parser_of(__doc__, epilog)
     parser.add_argument("file", metavar="OUT.csv", help="the report, or the volumes, that sgm has written")
     parser.add_argument("--ground", metavar="NAME", help="the region of flat ground above which others are measured")
     parser.add_argument("--calibration", metavar="CALIB.json", help="the calibration of the survey; --ground needs it")
@@ -85,5 +84,9 @@ def main():
             csv.writer(file, lineterminator="\n").writerows(lines)
 
 
-if __name__ == "__main__":
+def command() -> None:
     run(main)
+
+
+if __name__ == "__main__":
+    command()

@@ -21,8 +21,6 @@ It ends with 0 where all of it holds together, and names what doesn't and ends w
 for small pictures, a minute for large ones.
 """
 
-import argparse
-
 from sgm_tools.certificates import Pair, calibration_of
 from sgm_tools.explanations import (
     check_certificates,
@@ -35,13 +33,13 @@ from sgm_tools.explanations import (
 )
 from sgm_tools.programs import given_program
 from sgm_tools.running import Wrong, progress, run
-from sgm_tools.words import add_pair, add_pixel
+from sgm_tools.words import add_pair, add_pixel, parser_of
 
 
-def main():
+def main() -> None:
     epilog = "Example: tools/explain_pixel.py examples/stockpile/left.pgm examples/stockpile/right.pgm "
     epilog += "examples/stockpile/calibration.json 168 150"
-    parser = argparse.ArgumentParser(description=__doc__.split("\n\n")[0], epilog=epilog)
+    parser = parser_of(__doc__, epilog)
     add_pair(parser)
     add_pixel(parser)
     program = "the program (that of the variable SGM, of this repository, or of the PATH)"
@@ -67,5 +65,9 @@ def main():
     print("\n".join(lines))
 
 
-if __name__ == "__main__":
+def command() -> None:
     run(main)
+
+
+if __name__ == "__main__":
+    command()

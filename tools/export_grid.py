@@ -26,6 +26,7 @@ from sgm_tools.grids import read_grid
 from sgm_tools.rasters import DRIVERS, gdal, ogr, osr, style_name, write_all
 from sgm_tools.running import Wrong, need, numpy, progress, run
 from sgm_tools.site import add_words, micrometres_word, site_of
+from sgm_tools.words import parser_of
 
 NO_GDAL = 3
 
@@ -33,16 +34,16 @@ NO_GDAL = 3
 # Words
 
 
-def interval_word(word):
+def interval_word(word: str) -> str:
     found = micrometres_word(word)
     if found < 1000:
         raise argparse.ArgumentTypeError(f"{word} is less than a millimetre")
     return decimal(found, 6)
 
 
-def words_of():
+def words_of() -> argparse.Namespace:
     epilog = "Example: tools/export_grid.py /tmp/heap.asc --out /tmp/heap.tif --offset 412300 5654100 --epsg 25833"
-    parser = argparse.ArgumentParser(description=__doc__.split("\n\n")[0], epilog=epilog)
+    parser = parser_of(__doc__, epilog)
     option = parser.add_argument
     option("file", metavar="OUT.asc", help="the heights, or the difference, that sgm has written")
     option("--out", required=True, metavar="FILE.tif", help="the GeoTIFF; its style goes beside it")
@@ -61,7 +62,7 @@ def words_of():
     return words
 
 
-def main():
+def main() -> None:
     words = words_of()
     need(numpy=numpy)
     grid, site = read_grid(words.file), site_of(words)
@@ -80,5 +81,9 @@ def main():
     print(f"{filled} of {grid.heights.size} cells")
 
 
-if __name__ == "__main__":
+def command() -> None:
     run(main)
+
+
+if __name__ == "__main__":
+    command()

@@ -14,19 +14,18 @@ the offset in them, as floating point of 64 bits, and a comment says so. With --
 since 32 bits don't hold coordinates of a map to a millimetre; the comment says what is to be added. Needs numpy.
 """
 
-import argparse
-
 from sgm_tools.clouds import greys_of, write_points
 from sgm_tools.files import read_disparities, read_json
 from sgm_tools.points import Points
 from sgm_tools.running import need, numpy, progress, run
 from sgm_tools.site import add_words, site_of
+from sgm_tools.words import parser_of
 
 
-def main():
+def main() -> None:
     epilog = "Example: tools/export_points.py /tmp/heap.pgm --calib examples/stockpile/calibration.json "
     epilog += "--left examples/stockpile/left.pgm --out /tmp/heap.ply"
-    parser = argparse.ArgumentParser(description=__doc__.split("\n\n")[0], epilog=epilog)
+    parser = parser_of(__doc__, epilog)
     option = parser.add_argument
     option("disparities", metavar="OUT.pgm", help="the disparities that sgm has written")
     option("--calib", required=True, metavar="FILE.json", help="the calibration of that match")
@@ -47,5 +46,9 @@ def main():
     print(f"{count} points")
 
 
-if __name__ == "__main__":
+def command() -> None:
     run(main)
+
+
+if __name__ == "__main__":
+    command()

@@ -11,17 +11,16 @@ what fell is blue, the more the darker, the same change in both ways being equal
 measurement. Needs numpy and Pillow.
 """
 
-import argparse
-
 from sgm_tools.files import write_png
 from sgm_tools.grids import NO_DIFFERENCE, read_grid
 from sgm_tools.pictures import LONGEST_SIDE, drawn, zoom_of, zoomed
 from sgm_tools.running import run
+from sgm_tools.words import parser_of
 
 
-def main():
+def main() -> None:
     epilog = "Example: tools/heights_picture.py heap.asc --out heap.png --zoom 2"
-    parser = argparse.ArgumentParser(description=__doc__.split("\n\n")[0], epilog=epilog)
+    parser = parser_of(__doc__, epilog)
     parser.add_argument("file", metavar="OUT.asc", help="the heights, or the difference, that sgm has written")
     parser.add_argument("--out", required=True, metavar="FILE.png", help="the picture")
     side = f"side of a cell, 1 to 16 (4, or less where a side would be above {LONGEST_SIDE} pixels)"
@@ -35,5 +34,9 @@ def main():
     print(f"{ends[0]} ({low}) to {ends[1]} ({high}) micrometres of {what}" if ends else "every cell is empty")
 
 
-if __name__ == "__main__":
+def command() -> None:
     run(main)
+
+
+if __name__ == "__main__":
+    command()

@@ -14,18 +14,19 @@ import argparse
 import math
 
 from sgm_tools.calibrations import calibration_text, settings_of
+from sgm_tools.kinds import Json
 from sgm_tools.middlebury import FARTHEST, number, read_lines, rows_of, span_of
 from sgm_tools.running import Wrong, run
-from sgm_tools.words import add_settings, check_settings
+from sgm_tools.words import add_settings, check_settings, parser_of
 
 
-def calibration(found, words):
+def calibration(found: dict[str, str], words: argparse.Namespace) -> Json:
     matrix, doffs, span = rows_of(found, "cam0"), number(found, "doffs"), span_of(found, words.tight)
     focal, baseline = matrix[0][0], 1000 * number(found, "baseline")
     if not (0 < focal <= 65536 and 1 <= baseline <= FARTHEST):
         raise Wrong("the focal length and the baseline aren't those of a pair")
 
-    def distance(disparity):
+    def distance(disparity: int) -> float:
         return focal * baseline / (disparity + doffs) if disparity + doffs > 0 else FARTHEST
 
     far = min(FARTHEST, math.ceil(distance(span["first"])))
@@ -44,9 +45,9 @@ def calibration(found, words):
     }
 
 
-def words_of():
+def words_of() -> argparse.Namespace:
     epilog = "Example: tools/middlebury_calibration.py calib.txt --adapt --out calibration.json"
-    parser = argparse.ArgumentParser(description=__doc__.split("\n\n")[0], epilog=epilog)
+    parser = parser_of(__doc__, epilog)
     parser.add_argument("file", metavar="FILE", help="calib.txt of the pair")
     parser.add_argument("--out", required=True, metavar="FILE.json", help="the calibration of sgm")
     parser.add_argument("--adapt", action="store_true", help="let P2 follow the image")
@@ -57,7 +58,7 @@ def words_of():
     return words
 
 
-def main():
+def main() -> None:
     words = words_of()
     made = calibration(read_lines(words.file), words)
     with open(words.out, "w", encoding="ascii") as file:
@@ -67,5 +68,9 @@ def main():
     print(f"disparities {span['first']} to {last}, {camera['near']} to {camera['far']} micrometres away")
 
 
-if __name__ == "__main__":
+def command() -> None:
     run(main)
+
+
+if __name__ == "__main__":
+    command()

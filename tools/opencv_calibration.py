@@ -41,8 +41,11 @@ Needs numpy, and OpenCV's package (cv2) for YAML, for XML, and where a rectifica
 import argparse
 import functools
 import re
+from collections.abc import Iterable
+from typing import Any
 
 from sgm_tools.calibrations import calibration_text, settings_of
+from sgm_tools.kinds import Json
 from sgm_tools.opencv import (
     MICROMETRES,
     View,
@@ -62,6 +65,7 @@ from sgm_tools.words import (
     check_settings,
     metres_word,
     number_word,
+    parser_of,
     sides_word,
     whole_word,
 )
@@ -84,7 +88,7 @@ LONGEST = 16777216
 # The calibration
 
 
-def grid_of(words):
+def grid_of(words: argparse.Namespace) -> Json:
     """The grid's numbers, and in version 3 how points become its cells."""
     grid = dict(zip(("west", "south", "cell", "cols", "rows"), words.grid))
     if words.version != 3:
@@ -93,13 +97,13 @@ def grid_of(words):
     return {**grid, "keep": keep, "bridge": bridge}
 
 
-def region_of(values):
+def region_of(values: Iterable[object]) -> Json:
     return dict(zip(("name", "col", "row", "cols", "rows", "base"), values))
 
 
-def regions_of(words):
+def regions_of(words: argparse.Namespace) -> tuple[list[Json], list[str]]:
     """The regions, those with outlines last, and lines about them."""
-    made, lines = [region_of(values) for values in words.region], []
+    made, lines = [region_of(values) for values in words.region], list[str]()
     if words.version != 3 or words.grid is None:
         return made, lines
     grid, taken = grid_of(words), None
@@ -112,19 +116,20 @@ def regions_of(words):
             lines.append(f"the outline {name} reaches beyond the grid: what lies there has no part")
         made.append({**region_of([name, *least, 0]), "outline": outline})
     if words.base_from is not None:
-        taken, said = base_from(*words.base_from, grid)
+        heights, earlier = words.base_from
+        taken, said = base_from(heights, earlier, grid)
         lines.append(said)
     planes = dict(words.plane)
     for region in made:
         base, east, north = planes.get(region["name"], taken or (region["base"], 0, 0))
-        outline = {"outline": region.pop("outline")} if "outline" in region else {}
-        region |= {"base": base, "rise_east": east, "rise_north": north, **outline}
+        bound = {"outline": region.pop("outline")} if "outline" in region else {}
+        region |= {"base": base, "rise_east": east, "rise_north": north, **bound}
         if abs(base) > BASE[1] or not is_in_range(region, grid):
             raise Wrong(
                 f"the base of the region {region['name']} leaves the range of heights"
                 " within its rectangle"
             )
-        if outline and not number_of_cells(region, grid):
+        if bound and not number_of_cells(region, grid):
             lines.append(f"no cell's middle lies in the outline {region['name']}")
     return made, lines
 
@@ -132,7 +137,7 @@ def regions_of(words):
 # Outlines and planes
 
 
-def calibration(parts, words):
+def calibration(parts: Json, words: argparse.Namespace) -> tuple[Json, str]:
     """The calibration, and the lines about it."""
     r1, r2, p1, p2 = rectification(parts, words.centred, words.alpha)
     camera = camera_of(p1, p2, MICROMETRES[words.unit], words)
@@ -167,12 +172,12 @@ def calibration(parts, words):
 # Words
 
 
-def region_words(values, grid):
+def region_words(values: list[str], grid: list[int] | None) -> list[Any]:
     """A region's name and numbers from its words."""
     name, *words = values
     if grid is None:
         raise argparse.ArgumentTypeError("a region is of a grid, and --grid isn't given")
-    made = [checked_name(name)]
+    made: list[Any] = [checked_name(name)]
     for key, word in zip(("COL", "ROW", "COLS", "ROWS", "BASE"), words):
         try:
             made.append(whole_word(*range_of(key, made, grid))(word))
@@ -181,7 +186,7 @@ def region_words(values, grid):
     return made
 
 
-def outline_words(word):
+def outline_words(word: str) -> tuple[str, str]:
     """An outline's name, and its file or its numbers."""
     name, sign, source = word.partition("=")
     if not sign or not source:
@@ -189,7 +194,7 @@ def outline_words(word):
     return checked_name(name), source
 
 
-def plane_words(values, names):
+def plane_words(values: list[str], names: list[str]) -> tuple[str, tuple[int, ...]]:
     """A plane's name and numbers from its words."""
     name, *words = values
     if name not in names:
@@ -205,13 +210,13 @@ def plane_words(values, names):
     return name, tuple(made)
 
 
-def checked_name(name):
+def checked_name(name: str) -> str:
     if not re.fullmatch("[A-Za-z0-9 _.-]{1,64}", name):
         raise argparse.ArgumentTypeError(f"NAME {name!r} isn't 1 to 64 letters, digits, spaces, _, - and .")
     return name
 
 
-def range_of(key, made, grid):
+def range_of(key: str, made: list[Any], grid: list[int]) -> tuple[int, int]:
     """The range of a region's number, given its name and the numbers before it."""
     _, _, _, cols, rows = grid
     if key == "BASE":
@@ -221,14 +226,13 @@ def range_of(key, made, grid):
     return 1, cols - made[1] if key == "COLS" else rows - made[2]
 
 
-def words_of():
+def words_of() -> argparse.Namespace:
     """The words, in their ranges: what the program would refuse in its calibration is refused here."""
     epilog = """example:
   tools/opencv_calibration.py intrinsics.yml extrinsics.yml --size 1280x960 --unit mm \\
       --near 6000000 --far 9000000 --mount 8500000 --grid -6000000 -5000000 50000 240 200 \\
       --region pile 20 30 120 110 0 --region ground 160 40 40 60 0 --out calibration.json"""
-    layout = argparse.RawDescriptionHelpFormatter
-    parser = argparse.ArgumentParser(description=__doc__.split("\n\n")[0], epilog=epilog, formatter_class=layout)
+    parser = parser_of(__doc__, epilog)
     option = parser.add_argument
     option("files", nargs="+", metavar="FILE", help="JSON, or YAML or XML of cv2.FileStorage")
     option("--out", required=True, metavar="FILE.json", help="the calibration of sgm")
@@ -258,8 +262,8 @@ def words_of():
     origin_word = functools.partial(metres_word, signs="-")
     option("--outline-origin", type=origin_word, nargs=2, metavar=("EAST", "NORTH"), help=origin)
     plane = "with --version 3: the base plane of the region NAME; may come many times"
-    numbers = ("NAME", "BASE", "RISE_EAST", "RISE_NORTH")
-    option("--plane", nargs=4, action="append", default=[], metavar=numbers, help=plane)
+    rises = ("NAME", "BASE", "RISE_EAST", "RISE_NORTH")
+    option("--plane", nargs=4, action="append", default=[], metavar=rises, help=plane)
     ground = (
         "with --version 3: the base plane of all other regions is that of the ground of this match"
     )
@@ -274,6 +278,14 @@ def words_of():
     option("--centred", action="store_true", help="each picture about its own middle; doffs says by how much these differ")
     option("--alpha", type=number_word(0, 1), help="of cv2.stereoRectify: 0 fills the picture, 1 loses nothing")
     words = parser.parse_args()
+    check_words(parser, words)
+    read_regions(parser, words)
+    words.outline_origin = words.outline_origin or (0, 0)
+    return words
+
+
+def check_words(parser: argparse.ArgumentParser, words: argparse.Namespace) -> None:
+    """Ends where the words don't belong together, or are out of their ranges."""
     if words.near > words.far:
         parser.error("--near is above --far")
     check_settings(parser, words)
@@ -292,6 +304,10 @@ def words_of():
         parser.error(
             f"--region: {len(words.region) + len(words.outline)} of them, {MOST_REGIONS} at most"
         )
+
+
+def read_regions(parser: argparse.ArgumentParser, words: argparse.Namespace) -> None:
+    """Reads the words of regions, outlines and planes; ends where one isn't what it should be."""
     try:
         words.region = [region_words(values, words.grid) for values in words.region]
     except argparse.ArgumentTypeError as error:
@@ -300,7 +316,7 @@ def words_of():
         words.outline = [outline_words(word) for word in words.outline]
     except argparse.ArgumentTypeError as error:
         parser.error(f"--outline: {error}")
-    names = [values[0] for values in words.region] + [name for name, _ in words.outline]
+    names = [str(values[0]) for values in words.region] + [name for name, _ in words.outline]
     for name, _ in words.outline:
         if names.count(name) > 1:
             parser.error(f"--outline: {names.count(name)} regions have the name {name}")
@@ -308,11 +324,9 @@ def words_of():
         words.plane = [plane_words(values, names) for values in words.plane]
     except argparse.ArgumentTypeError as error:
         parser.error(f"--plane: {error}")
-    words.outline_origin = words.outline_origin or (0, 0)
-    return words
 
 
-def main():
+def main() -> None:
     words = words_of()
     need(numpy=numpy)
     try:
@@ -328,5 +342,9 @@ def main():
     print(lines)
 
 
-if __name__ == "__main__":
+def command() -> None:
     run(main)
+
+
+if __name__ == "__main__":
+    command()

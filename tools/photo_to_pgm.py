@@ -9,18 +9,17 @@ each square of N x N pixels one pixel, their mean: a photograph of more than 409
 the pictures of the chessboard then have to be shrunk alike, before calibrating. Needs numpy and Pillow.
 """
 
-import argparse
-
 from sgm_tools.files import read_grey, write_pgm
 from sgm_tools.pictures import shrunk
 from sgm_tools.running import Image, Wrong, need, numpy, run
+from sgm_tools.words import parser_of
 
 LONGEST_SIDE = 4096
 
 
-def main():
+def main() -> None:
     epilog = "Example: tools/photo_to_pgm.py photo.jpg --out left.pgm --shrink 2"
-    parser = argparse.ArgumentParser(description=__doc__.split("\n\n")[0], epilog=epilog)
+    parser = parser_of(__doc__, epilog)
     parser.add_argument("file", metavar="PHOTO", help="the photograph")
     parser.add_argument("--out", required=True, metavar="FILE.pgm", help="the grey picture")
     shrink = "each N x N pixels become one, N being 1 to 16 (1)"
@@ -35,5 +34,9 @@ def main():
     print(f"{grey.shape[1]} x {grey.shape[0]}")
 
 
-if __name__ == "__main__":
+def command() -> None:
     run(main)
+
+
+if __name__ == "__main__":
+    command()

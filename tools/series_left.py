@@ -30,21 +30,22 @@ import sys
 
 from sgm_tools.running import progress, run
 from sgm_tools.series import fault, read_list
+from sgm_tools.words import parser_of
 
 
 # The files
 
 
-def part_word(word):
+def part_word(word: str) -> tuple[int, int]:
     found = re.fullmatch("([0-9]{1,9})/([0-9]{1,9})", word)
     if not found or not 1 <= int(found[1]) <= int(found[2]):
         raise argparse.ArgumentTypeError(f"not K/N with K from 1 to N: {word}")
     return int(found[1]), int(found[2])
 
 
-def main():
+def main() -> int:
     epilog = "Example: tools/series_left.py list > left, and then sgm_series left"
-    parser = argparse.ArgumentParser(description=__doc__.split("\n\n")[0], epilog=epilog)
+    parser = parser_of(__doc__, epilog)
     parser.add_argument("list", metavar="LIST", help="the list of the series, which isn't changed")
     parser.add_argument("--part", type=part_word, default=(1, 1), metavar="K/N", help="part K of N alone, K being 1 to N")
     parser.add_argument("--why", action="store_true", help="say on standard error what isn't whole")
@@ -66,5 +67,9 @@ def main():
     return 0
 
 
-if __name__ == "__main__":
+def command() -> None:
     run(main)
+
+
+if __name__ == "__main__":
+    command()

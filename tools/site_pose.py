@@ -53,6 +53,8 @@ import decimal
 import json
 import os
 import re
+from collections.abc import Callable
+from typing import NoReturn
 
 from sgm_tools.calibrations import calibration_text
 from sgm_tools.files import read_json
@@ -60,31 +62,30 @@ from sgm_tools.points import Points
 from sgm_tools.poses import OLD_VERSION, from_camera, from_level, from_points, with_pose
 from sgm_tools.running import Wrong, need, numpy, progress, run
 from sgm_tools.site import Site, add_words
-from sgm_tools.words import metres_word, number_word
+from sgm_tools.words import metres_word, number_word, parser_of
 
 
 # Words
 
 
-def level_word(word):
+def level_word(word: str) -> tuple[int, ...]:
     if not re.fullmatch("[0-9]{1,4}(,[0-9]{1,4}){3}", word):
         raise argparse.ArgumentTypeError(f"{word} isn't COL,ROW,COLS,ROWS")
     return tuple(map(int, word.split(",")))
 
 
-def window_word(word):
+def window_word(word: str) -> int:
     if not re.fullmatch("[0-9]{1,3}", word) or not 3 <= int(word) <= 101 or int(word) % 2 == 0:
         raise argparse.ArgumentTypeError(f"{word} isn't an odd number from 3 to 101")
     return int(word)
 
 
-def words_of():
+def words_of() -> argparse.Namespace:
     epilog = """example:
   tools/site_pose.py calibration.json heap.pgm targets.csv --photograph --check T4,T7 --write posed.json
   tools/site_pose.py calibration.json heap.pgm --level 20,150,80,40 --level 240,160,60,40 --write posed.json
   tools/site_pose.py calibration.json --camera 12.40 -3.15 8.02 --look 18.00 4.50 0.30 --write posed.json"""
-    layout = argparse.RawDescriptionHelpFormatter
-    parser = argparse.ArgumentParser(description=described(), epilog=epilog, formatter_class=layout)
+    parser = parser_of(__doc__, epilog, ("It ends", "- 3:"))
     option = parser.add_argument
     option("calibration", metavar="CALIB.json", help="the calibration, of version 3")
     option("disparities", metavar="OUT.pgm", nargs="?", help="what a match with it has written")
@@ -102,13 +103,14 @@ def words_of():
     upwards = "the cameras look upwards, and flat points aren't taken for mirrored ones"
     option("--upwards", action="store_true", help=upwards)
     level = "a rectangle of the rectified picture that shows level ground; may stand several times"
-    rectangle = {"metavar": "COL,ROW,COLS,ROWS", "help": level}
-    option("--level", type=level_word, action="append", default=[], **rectangle)
+    rectangle = "COL,ROW,COLS,ROWS"
+    option("--level", type=level_word, action="append", default=[], metavar=rectangle, help=level)
     height = "the height of the level ground (0)"
     option("--height", type=metres_word, metavar="METRES", help=height)
-    metres = {"type": metres_word, "nargs": 3, "metavar": ("E", "N", "H")}
-    option("--camera", help="where the left camera is, in metres", **metres)
-    option("--look", help="a point on its axis, in metres", **metres)
+    place, camera = ("E", "N", "H"), "where the left camera is, in metres"
+    option("--camera", type=metres_word, nargs=3, metavar=place, help=camera)
+    look = "a point on its axis, in metres"
+    option("--look", type=metres_word, nargs=3, metavar=place, help=look)
     roll = "by how much the camera is turned clockwise, as seen from behind it (0)"
     option("--roll", type=number_word(-360, 360), metavar="DEGREES", help=roll)
     option("--write", metavar="OUT.json", help="the calibration with the pose")
@@ -120,13 +122,7 @@ def words_of():
     return words
 
 
-def described():
-    """What --help says first: the first line, and the statuses."""
-    parts = __doc__.split("\n\n")
-    return "\n\n".join([parts[0], *(it for it in parts if it.startswith(("It ends", "- 3:")))])
-
-
-def check_words(words, error):
+def check_words(words: argparse.Namespace, error: Callable[[str], NoReturn]) -> None:
     """Ends where the words don't belong together; chooses the way to a pose."""
     words.check = [name for names in words.check for name in names.split(",") if name]
     if words.camera is not None:
@@ -164,7 +160,7 @@ def check_words(words, error):
         words.site = os.path.join(os.path.dirname(words.write), "site.json")
 
 
-def main():
+def main() -> None:
     words = words_of()
     need(numpy=numpy)
     calibration = read_json(words.calibration)
@@ -180,12 +176,17 @@ def main():
         with open(words.write, "w", encoding="utf-8") as file:
             file.write(calibration_text(with_pose(calibration, pose)))
     if words.site is not None:
-        site = Site(*(words.offset or (0, 0)), words.epsg)
+        east, north = words.offset or (0, 0)
+        site = Site(east, north, words.epsg)
         with open(words.site, "w", encoding="utf-8") as file:
             file.write(site.text())
     progress("")
     print(json.dumps(pose.section(), separators=(",", ":")))
 
 
-if __name__ == "__main__":
+def command() -> None:
     run(main)
+
+
+if __name__ == "__main__":
+    command()

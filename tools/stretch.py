@@ -11,22 +11,21 @@ without a value are magenta. The greys are a display, not a measurement; the val
 printed. Needs numpy and Pillow.
 """
 
-import argparse
-
 from sgm_tools.files import read_disparities, write_png
 from sgm_tools.grids import NO_DIFFERENCE, read_grid
 from sgm_tools.pictures import PALETTE, stretched
 from sgm_tools.running import run
+from sgm_tools.words import parser_of
 
 
-def is_picture(name):
+def is_picture(name: str) -> bool:
     with open(name, "rb") as file:
         return file.read(2) == b"P5"
 
 
-def main():
+def main() -> None:
     epilog = "Example: tools/stretch.py heap.pgm --out heap.png"
-    parser = argparse.ArgumentParser(description=__doc__.split("\n\n")[0], epilog=epilog)
+    parser = parser_of(__doc__, epilog)
     parser.add_argument("file", metavar="OUT", help="OUT.pgm or OUT.asc, as sgm has written it")
     parser.add_argument("--out", required=True, metavar="FILE.png", help="the picture")
     words = parser.parse_args()
@@ -42,5 +41,9 @@ def main():
     print("no value anywhere" if ends is None else f"{ends[0]} (dark) to {ends[1]} (light) {unit}")
 
 
-if __name__ == "__main__":
+def command() -> None:
     run(main)
+
+
+if __name__ == "__main__":
+    command()

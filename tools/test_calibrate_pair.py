@@ -17,6 +17,7 @@ sys.path.insert(0, os.path.join(HERE, "..", "examples", "photographs"))
 import make_photographs as made
 from sgm_tools import running
 from sgm_tools import boards as tool
+from sgm_tools import opencv
 from sgm_tools.boards import cv2
 from sgm_tools.running import Image, numpy
 
@@ -80,12 +81,10 @@ class Cameras(Case):
         self.assertLess(abs(numpy.array(found["R"]) - true["R"]).max(), 0.02)
         self.assertAlmostEqual(numpy.linalg.norm(found["T"]), numpy.linalg.norm(true["T"]), delta=0.008)
         # What a lens does 100 pixels from the axis: within a quarter of a pixel of what it does in truth.
-        import opencv_calibration
-
         for key, focal in (("D1", 150), ("D2", 152)):
             for x, y in ((100 / focal, 0), (0, -100 / focal), (70 / focal, 70 / focal)):
-                ours = opencv_calibration.distorted(numpy.ravel(found[key]), x, y)
-                theirs = opencv_calibration.distorted(numpy.array(true[key]), x, y)
+                ours = opencv.distorted(numpy.ravel(found[key]), x, y)
+                theirs = opencv.distorted(numpy.array(true[key]), x, y)
                 self.assertLess(focal * numpy.hypot(*numpy.subtract(ours, theirs)), 0.5, (key, x, y))
         lines = out.splitlines()
         self.assertEqual(lines[0], "12 pairs of 320 x 240 with a board")

@@ -13,8 +13,7 @@ import unittest
 
 HERE = os.path.dirname(os.path.abspath(__file__))
 
-import site_pose
-from sgm_tools import running, warps
+from sgm_tools import poses, running, warps
 from sgm_tools import points as sgm_points
 from sgm_tools.points import ONE
 from sgm_tools.running import numpy
@@ -225,13 +224,13 @@ class FromPoints(Tool):
         lines[3][3] += decimal.Decimal("0.4")
         self.write_points(lines)
         status, out, err = self.run_tool("c.json", "o.pgm", "p.csv")
-        self.assertEqual((status, err.count("\n")), (site_pose.TOO_FAR, 1))
+        self.assertEqual((status, err.count("\n")), (poses.TOO_FAR, 1))
         self.assertRegex(err, r"^site_pose: D lies [0-9.]+ mm from its place, --worst is 50\n$")
         # What is known of the points is printed all the same.
         self.assertEqual([line.split()[0] for line in out.splitlines()[1:7]], list(TARGETS))
         self.assertEqual(self.run_tool("c.json", "o.pgm", "p.csv", "--worst", "500")[0], 0)
         words = ("c.json", "o.pgm", "p.csv", "--write", "w.json")
-        self.assertEqual(self.run_tool(*words)[0], site_pose.TOO_FAR)
+        self.assertEqual(self.run_tool(*words)[0], poses.TOO_FAR)
         self.assertFalse(os.path.exists(self.path("w.json")))
 
     def test_scale(self):
@@ -250,25 +249,25 @@ class FromPoints(Tool):
     def test_too_few(self):
         line = "2 points, at least 3 are needed beside those of --check"
         self.write_points(table_of()[:2])
-        self.refused(site_pose.TOO_FEW, line)
+        self.refused(poses.TOO_FEW, line)
         self.write_points(table_of()[:4])
-        self.refused(site_pose.TOO_FEW, line, "o.pgm", "p.csv", "--check", "A", "--check", "D")
+        self.refused(poses.TOO_FEW, line, "o.pgm", "p.csv", "--check", "A", "--check", "D")
         self.write_points([])
-        self.refused(site_pose.TOO_FEW, line.replace("2", "0", 1))
+        self.refused(poses.TOO_FEW, line.replace("2", "0", 1))
 
     def test_on_a_line(self):
         targets = {"A": (20, 20, 100), "B": (60, 50, 100), "C": (100, 80, 100), "D": (120, 95, 100)}
         self.write_picture(picture(targets))
         self.write_points(table_of(targets))
-        self.refused(site_pose.ON_A_LINE, "the points lie on one line, and fix no rotation about it")
+        self.refused(poses.ON_A_LINE, "the points lie on one line, and fix no rotation about it")
         # In the site's frame alone.
         self.write_picture(picture())
         lines = [[*line[:3], number, 2 * number, 0] for number, line in enumerate(table_of())]
         self.write_points(lines)
-        self.refused(site_pose.ON_A_LINE, "the points lie on one line, and fix no rotation about it")
+        self.refused(poses.ON_A_LINE, "the points lie on one line, and fix no rotation about it")
         # All on one place.
         self.write_points([[*line[:3], 1, 2, 3] for line in table_of()])
-        self.refused(site_pose.ON_A_LINE, "the points lie on one line, and fix no rotation about it")
+        self.refused(poses.ON_A_LINE, "the points lie on one line, and fix no rotation about it")
 
     MIRRORED = (
         "the points are mirrored: are east and north, or x and y, exchanged, or a sign wrong?"
@@ -277,9 +276,9 @@ class FromPoints(Tool):
 
     def test_mirrored(self):
         self.write_points([[*line[:3], line[4], line[3], line[5]] for line in table_of()])
-        self.refused(site_pose.MIRRORED, self.MIRRORED)
+        self.refused(poses.MIRRORED, self.MIRRORED)
         self.write_points([[*line[:5], -line[5]] for line in table_of()])
-        self.refused(site_pose.MIRRORED, self.MIRRORED)
+        self.refused(poses.MIRRORED, self.MIRRORED)
 
     def test_mirrored_in_a_plane(self):
         """Flat points fit both ways, and then the cameras would stand below them."""
@@ -289,12 +288,12 @@ class FromPoints(Tool):
         self.is_near(self.pose("o.pgm", "p.csv")[0], POSE)
         exchanged = [[*line[:3], line[4], line[3], line[5]] for line in table_of(targets)]
         self.write_points(exchanged)
-        self.refused(site_pose.MIRRORED, self.MIRRORED)
+        self.refused(poses.MIRRORED, self.MIRRORED)
         found, _ = self.pose("o.pgm", "p.csv", "--upwards")
         self.assertLess(found["matrix"][8], 0)
         # Three points are flat ones.
         self.write_points(exchanged[:3])
-        self.refused(site_pose.MIRRORED, self.MIRRORED)
+        self.refused(poses.MIRRORED, self.MIRRORED)
 
     def test_looking_up(self):
         """Cameras that look up at what isn't flat need no word for it."""
@@ -307,30 +306,30 @@ class FromPoints(Tool):
         samples[:, 77:84] = 0
         self.write_picture(samples)
         line = "E: of the 7 x 7 pixels around it 0 have a disparity, and no 25 are of one surface"
-        self.refused(site_pose.NO_PLACE, line)
+        self.refused(poses.NO_PLACE, line)
         # Where two surfaces meet and neither has more than half.
         samples = picture()
         samples[:, 80] = 0
         samples[:, 81:] = numpy.where(samples[:, 81:] == 346, 800, samples[:, 81:])
         self.write_picture(samples)
         line = "E: of the 7 x 7 pixels around it 42 have a disparity, and no 25 are of one surface"
-        self.refused(site_pose.NO_PLACE, line)
-        self.assertEqual(self.run_tool("c.json", "o.pgm", "p.csv", "--window", "9")[0], site_pose.NO_PLACE)
+        self.refused(poses.NO_PLACE, line)
+        self.assertEqual(self.run_tool("c.json", "o.pgm", "p.csv", "--window", "9")[0], poses.NO_PLACE)
         lines = table_of()
         lines[1][1] = 159.5
         self.write_points(lines)
-        self.refused(site_pose.NO_PLACE, "B: 159.5 18.5 is outside the picture of 160 x 120")
+        self.refused(poses.NO_PLACE, "B: 159.5 18.5 is outside the picture of 160 x 120")
 
     def test_distance(self):
         camera = {**CALIBRATION["camera"], "near": 4000000}
         self.write_json("c.json", {**CALIBRATION, "camera": camera})
-        self.refused(site_pose.NO_PLACE, "D: its distance is below near or above far")
+        self.refused(poses.NO_PLACE, "D: its distance is below near or above far")
 
     def test_versions(self):
         for version in (1, 2, None, "3"):
             self.write_json("c.json", {**CALIBRATION, "version": version})
             line = f"c.json: a pose needs a calibration of version 3, and this is one of version {version}"
-            self.refused(site_pose.OLD_VERSION, line)
+            self.refused(poses.OLD_VERSION, line)
 
     def test_tables(self):
         good = table_of()
@@ -353,7 +352,7 @@ class FromPoints(Tool):
             line[4] += decimal.Decimal("5654100.125")
         self.write_points(lines)
         far = "A is farther than 2 km from the site's origin: --offset with --map-coordinates takes an offset off"
-        self.refused(site_pose.OUT_OF_RANGE, far)
+        self.refused(poses.OUT_OF_RANGE, far)
         offset = ("--offset", "412300", "5654100.125", "--map-coordinates")
         words = (*offset, "--epsg", "25833", "--write", "w.json")
         self.is_near(self.pose("o.pgm", "p.csv", *words)[0], POSE)
@@ -390,7 +389,7 @@ class FromPhotograph(Tool):
             lines[0][1:3] = 400, 7
             self.write_points(lines)
             line = "A: 400 7 of the photograph isn't in the rectified picture"
-            self.refused(site_pose.NO_PLACE, line, "o.pgm", "p.csv", "--photograph")
+            self.refused(poses.NO_PLACE, line, "o.pgm", "p.csv", "--photograph")
 
     def test_without_a_warp(self):
         self.is_near(self.pose("o.pgm", "p.csv", "--photograph")[0], POSE)
@@ -432,9 +431,9 @@ class FromLevel(Tool):
 
     def test_refused(self):
         line = "--level: 100,0,61,10 isn't a rectangle of the picture's pixels, which is 160 x 120"
-        self.refused(site_pose.NO_PLACE, line, "o.pgm", "--level", "100,0,61,10")
+        self.refused(poses.NO_PLACE, line, "o.pgm", "--level", "100,0,61,10")
         line = "--level: 100 pixels, of which 0 have a disparity: no half of them is of one plane"
-        self.refused(site_pose.NO_PLACE, line, "o.pgm", "--level", "80,0,10,10")
+        self.refused(poses.NO_PLACE, line, "o.pgm", "--level", "80,0,10,10")
 
 
 class FromCamera(Tool):
@@ -480,7 +479,7 @@ class FromCamera(Tool):
         line = "--camera is farther than 2 km from the site's origin:"
         line += " --offset with --map-coordinates takes an offset off"
         words = ("--camera", "2001", "0", "5", "--look", "2000", "0", "0")
-        self.refused(site_pose.OUT_OF_RANGE, line, *words)
+        self.refused(poses.OUT_OF_RANGE, line, *words)
         found, _ = self.pose(*words, "--map-coordinates", "--offset", "2000", "0", "--site", "s.json")
         self.assertEqual(self.leads(found, (0, 0, 8000000)), (1000000, 0, 5000000))
         line = "--look: the point isn't a millimetre away from the camera"

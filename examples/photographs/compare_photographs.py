@@ -181,9 +181,7 @@ def found_by(survey, rig):
 def put_pair(folder, pair):
     """Writes a pair as left.pgm and right.pgm."""
     for side, pixels in zip(("left", "right"), pair):
-        height, width = pixels.shape
-        with open(os.path.join(folder, f"{side}.pgm"), "wb") as file:
-            file.write(f"P5\n{width} {height}\n255\n".encode() + pixels.tobytes())
+        files.write_pgm(os.path.join(folder, f"{side}.pgm"), pixels)
 
 
 def surveys(source, work):

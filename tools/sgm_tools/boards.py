@@ -1,9 +1,20 @@
 """Pictures of a chessboard, and the cameras that they give. Needs OpenCV."""
 
+from __future__ import annotations
+
+import argparse
 import os
+from collections.abc import Sequence
+from typing import TYPE_CHECKING
 
 from sgm_tools.files import read_grey
+from sgm_tools.kinds import Floats, Greys, Size
 from sgm_tools.running import Wrong, numpy, package, progress
+
+if TYPE_CHECKING:
+    from numpy.typing import NDArray
+
+    Corners = NDArray[numpy.float32]
 
 cv2 = package("cv2")
 ENDINGS = (".png", ".jpg", ".jpeg", ".tif", ".tiff", ".bmp", ".pgm", ".ppm", ".webp")
@@ -14,7 +25,7 @@ LONGEST_SIDE = 4096
 # Pictures and boards
 
 
-def pictures_of(paths):
+def pictures_of(paths: Sequence[str]) -> list[str]:
     """The pictures that the words name, those of each folder sorted by name."""
     names = []
     for path in paths:
@@ -30,7 +41,7 @@ def pictures_of(paths):
     return names
 
 
-def corners_in(grey, board):
+def corners_in(grey: Greys, board: Size) -> Corners | None:
     """The board's inner corners row by row, or None where it isn't found."""
     plain = cv2.CALIB_CB_NORMALIZE_IMAGE + cv2.CALIB_CB_ACCURACY
     for flags in (plain, plain + cv2.CALIB_CB_EXHAUSTIVE):
@@ -40,7 +51,7 @@ def corners_in(grey, board):
     return None
 
 
-def refined(grey, corners, board):
+def refined(grey: Greys, corners: Corners, board: Size) -> Corners:
     """The corners anew, each from the greys within two fifths of a square around it."""
     rows = corners.reshape(board[1], board[0], 2)
     steps = [numpy.hypot(*numpy.moveaxis(numpy.diff(rows, axis=axis), -1, 0)).min() for axis in (0, 1)]
@@ -48,16 +59,19 @@ def refined(grey, corners, board):
     if half < 2:
         return corners
     ends = (cv2.TERM_CRITERIA_COUNT + cv2.TERM_CRITERIA_EPS, 50, 0.001)
-    return cv2.cornerSubPix(grey, corners[:, None].copy(), (half, half), (-1, -1), ends)[:, 0]
+    places = corners[:, None].copy()
+    made: Corners = cv2.cornerSubPix(grey, places, (half, half), (-1, -1), ends)[:, 0]
+    return made
 
 
-def boards_of(names, board):
+def boards_of(names: Sequence[str], board: Size) -> tuple[list[Corners | None], Size]:
     """The corners, or None, of each picture, and the size of all of them."""
-    found, size = [], None
+    found: list[Corners | None] = []
+    size: Size = (0, 0)
     for number, name in enumerate(names, 1):
         grey = read_grey(name)
-        shape = grey.shape[::-1]
-        if size is not None and shape != size:
+        shape = (grey.shape[1], grey.shape[0])
+        if found and shape != size:
             sizes = f"{shape[0]} x {shape[1]}, but {names[0]} is {size[0]} x {size[1]}"
             raise Wrong(f"{name}: {sizes}: one size is needed")
         size = shape
@@ -68,7 +82,7 @@ def boards_of(names, board):
     return found, size
 
 
-def alike(left, right):
+def alike(left: Corners, right: Corners) -> Corners:
     """The right corners in the order of the left ones: a board that looks the same upside down may be counted from
     its other end."""
     is_turned = (left[-1] - left[0]) @ (right[-1] - right[0]) < 0
@@ -78,14 +92,16 @@ def alike(left, right):
 # Calibrating
 
 
-def places_of(board, square):
+def places_of(board: Size, square: float) -> Corners:
     """The corners on the board itself."""
     across, down = board
     grid = numpy.mgrid[0:across, 0:down].T.reshape(-1, 2) * square
     return numpy.column_stack([grid, numpy.zeros(len(grid))]).astype(numpy.float32)
 
 
-def calibrate(left, right, places, size, with_k3):
+def calibrate(
+    left: list[Corners], right: list[Corners], places: Corners, size: Size, with_k3: bool
+) -> tuple[dict[str, Floats], dict[str, float]]:
     """The parts of the file, the errors of both cameras, of the pair and of the rows, all in pixels."""
     flags = 0 if with_k3 else cv2.CALIB_FIX_K3
     objects = [places] * len(left)
@@ -102,7 +118,14 @@ def calibrate(left, right, places, size, with_k3):
     return parts, {"left camera": first, "right camera": second, "pair": pair, "rows of the rectified pair": rows}
 
 
-def rows_apart(left, right, lenses, size, turn, shift):
+def rows_apart(
+    left: list[Corners],
+    right: list[Corners],
+    lenses: Sequence[Floats],
+    size: Size,
+    turn: Floats,
+    shift: Floats,
+) -> float:
     """How far a corner's rows in the rectified pair are apart: the root of the mean square."""
     k1, d1, k2, d2 = lenses
     r1, r2, p1, p2 = cv2.stereoRectify(k1, d1, k2, d2, size, turn, shift, flags=cv2.CALIB_ZERO_DISPARITY)[:4]
@@ -112,7 +135,7 @@ def rows_apart(left, right, lenses, size, turn, shift):
     return float(numpy.sqrt((apart**2).mean()))
 
 
-def refuse_bad(errors, shift, worst):
+def refuse_bad(errors: dict[str, float], shift: Floats, worst: float) -> None:
     """Stops where the errors are too large, or the cameras don't stand side by side."""
     for name, error in errors.items():
         if not error <= worst:
@@ -125,7 +148,7 @@ def refuse_bad(errors, shift, worst):
         raise Wrong("the second camera stands to the left of the first one: exchange --left and --right")
 
 
-def pairs_with_boards(words):
+def pairs_with_boards(words: argparse.Namespace) -> tuple[list[Corners], list[Corners], Size]:
     """The corners of the pairs in which both pictures show the board, and the pictures' size."""
     lefts, rights = pictures_of(words.left), pictures_of(words.right)
     if len(lefts) != len(rights):

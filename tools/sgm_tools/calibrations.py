@@ -1,13 +1,18 @@
 """What tools read in a calibration, and how they write one. Numbers are Python's own."""
 
+from __future__ import annotations
+
+import argparse
 import json
 
+from sgm_tools.grids import Grid
+from sgm_tools.kinds import Json, Size
 from sgm_tools.running import Wrong
 
 
-def whole(top, *keys):
+def whole(top: Json, *keys: str) -> int:
     """The whole number that stands at these keys of a calibration."""
-    value = top
+    value: object = top
     for key in keys:
         value = value.get(key) if isinstance(value, dict) else None
     if isinstance(value, bool) or not isinstance(value, int):
@@ -15,7 +20,7 @@ def whole(top, *keys):
     return value
 
 
-def regions_in(calibration):
+def regions_in(calibration: Json) -> list[Json]:
     listed = calibration.get("regions", [])
     if not isinstance(listed, list):
         raise Wrong("the calibration's regions aren't a list")
@@ -24,7 +29,7 @@ def regions_in(calibration):
     return listed
 
 
-def check_grid(calibration, grid):
+def check_grid(calibration: Json, grid: Grid) -> None:
     """Stops where the calibration's grid isn't that of the heights."""
     rows, cols = grid.heights.shape
     theirs = [whole(calibration, "grid", key) for key in ("west", "south", "cell", "cols", "rows")]
@@ -36,7 +41,7 @@ def check_grid(calibration, grid):
             raise Wrong("a region of the calibration sticks out of the grid")
 
 
-def calibration_text(calibration):
+def calibration_text(calibration: Json) -> str:
     """JSON with one line for each key of the top, and no longer than needed."""
     lines = [
         f"{json.dumps(key)}:{json.dumps(value, separators=(',', ':'))}"
@@ -55,20 +60,20 @@ PENALTIES, ADAPTED_PENALTIES = (10, 120), (10, 400)
 THIRD_PENALTIES, THIRD_ADAPTED = (25, 100), (25, 1200)
 
 
-def settings_of(words, span, census):
+def settings_of(words: argparse.Namespace, span: dict[str, int], census: Size) -> Json:
     """The sections of the matching, in the version that is asked for; the window is a width and a height."""
     width, height = census
-    census = {"width": width, "height": height}
+    window = {"width": width, "height": height}
     if words.version == 3:
         usual = THIRD_ADAPTED if words.adapt else THIRD_PENALTIES
         p1, p2 = words.penalties or (in_proportion(it, width * height - 1) for it in usual)
         penalties = {"p1": p1, "p2": p2, "adapt": words.adapt}
-        return {"version": 3, "disparities": {**span, "fine": not words.no_fine}, "census": census, "penalties": penalties}
+        return {"version": 3, "disparities": {**span, "fine": not words.no_fine}, "census": window, "penalties": penalties}
     p1, p2 = words.penalties or (ADAPTED_PENALTIES if words.adapt else PENALTIES)
     penalties = {"p1": p1, "p2": p2} | ({"adapt": True} if words.adapt else {})
-    return {"version": 2 if words.adapt else 1, "disparities": span, "census": census, "penalties": penalties}
+    return {"version": 2 if words.adapt else 1, "disparities": span, "census": window, "penalties": penalties}
 
 
-def in_proportion(penalty, neighbours):
+def in_proportion(penalty: int, neighbours: int) -> int:
     """A penalty of a window of 9 x 7, which has 62 neighbours, for one with others."""
     return max(1, (penalty * neighbours + 31) // 62)

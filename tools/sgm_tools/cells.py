@@ -1,21 +1,36 @@
 """Which pixels have made a cell of the heights."""
 
+from __future__ import annotations
+
+from collections.abc import Sequence
+
 from sgm_tools.exact import decimal, rounded
+from sgm_tools.grids import Grid
+from sgm_tools.kinds import Flags, Ints, Json
+from sgm_tools.points import Points
 from sgm_tools.running import Wrong
 
+# Height, column, row, disparity, east and north of a pixel whose point falls into the cell.
+Found = tuple[int, int, int, int, int, int]
 
-def pixels_in(values, filled, points, grid, col, row):
+
+def pixels_in(
+    values: Ints, filled: Flags, points: Points, grid: Grid, col: int, row: int
+) -> list[Found]:
     """The pixels whose points fall into the cell: height, x, y, value, east, north; the highest first."""
     below = grid.heights.shape[0] - 1 - row
     west, south = grid.west + col * grid.cell, grid.south + below * grid.cell
     xs, ys, found, east, north, up = points.in_picture(values, filled)
     inside = (west <= east) & (east < west + grid.cell)
     inside &= (south <= north) & (north < south + grid.cell)
-    listed = zip(*(it[inside] for it in (up, xs, ys, found, east, north)))
-    return sorted((tuple(map(int, it)) for it in listed), key=lambda it: (-it[0], it[2], it[1]))
+    columns = [it[inside].tolist() for it in (up, xs, ys, found, east, north)]
+    listed: list[Found] = list(zip(*columns))
+    return sorted(listed, key=lambda it: (-it[0], it[2], it[1]))
 
 
-def points_in_grid(values, filled, points, grid):
+def points_in_grid(
+    values: Ints, filled: Flags, points: Points, grid: Grid
+) -> tuple[Ints, Ints, Ints]:
     """The row, the column and the height of each point that falls into the grid, as arrays."""
     *_, east, north, up = points.in_picture(values, filled)
     col, south = (east - grid.west) // grid.cell, (north - grid.south) // grid.cell
@@ -24,15 +39,15 @@ def points_in_grid(values, filled, points, grid):
     return rows - 1 - south[inside], col[inside], up[inside]
 
 
-def keeps_mean(calibration):
+def keeps_mean(calibration: Json) -> bool:
     """Whether cells keep the mean of their points; without the key they keep the highest."""
-    keep = calibration["grid"].get("keep", "highest")
+    keep: object = calibration["grid"].get("keep", "highest")
     if keep not in ("highest", "mean"):
         raise Wrong("the calibration's grid.keep is neither highest nor mean")
     return keep == "mean"
 
 
-def told(height, found, is_mean, is_bridged):
+def told(height: int | None, found: Sequence[Found], is_mean: bool, is_bridged: bool) -> str | None:
     """What a cell of that height is, by its pixels; None where they can't have made it."""
     if not found:
         if height is None:

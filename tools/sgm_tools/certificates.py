@@ -4,15 +4,20 @@ Nothing is taken from the program: the pixels that a line of them needs are rect
 worked out, and so are the least energies along the line.
 """
 
+from __future__ import annotations
+
 import functools
 import operator
 import re
+from collections.abc import Callable, Sequence
 
 from sgm_tools.calibrations import whole
 from sgm_tools.files import read_bytes, read_json, read_pgm
+from sgm_tools.kinds import Json, Samples
 from sgm_tools.running import Wrong
 from sgm_tools.warps import place, warp_of
 
+Pixel = tuple[int, int]
 DIRECTIONS = {
     "right": (1, 0), "left": (-1, 0), "down": (0, 1), "downright": (1, 1), "downleft": (-1, 1),
     "up": (0, -1), "upright": (1, -1), "upleft": (-1, -1),
@@ -35,7 +40,9 @@ PLAIN = {
 class Picture:
     """One of the two pictures, of which only those pixels are rectified that are asked for."""
 
-    def __init__(self, samples, most, warp, window, version):
+    def __init__(
+        self, samples: Samples, most: int, warp: Json, window: Sequence[int], version: int
+    ) -> None:
         self.samples, self.most, self.warp = samples, most, warp
         self.height, self.width = samples.shape
         if warp["kind"] == "mesh":
@@ -43,10 +50,11 @@ class Picture:
             if [warp["cols"], warp["rows"]] != needed:
                 raise Wrong("a mesh of the calibration isn't made for pictures of this size")
         self.across, self.down = window[0] // 2, window[1] // 2
-        self.value = functools.cache(self.value)
-        self.code = functools.cache(self.code if version < 3 else self.code_about_the_middle)
+        code = self.code_about_itself if version < 3 else self.code_about_the_middle
+        self.value: Callable[[int, int], int | None] = functools.cache(self.rectified)
+        self.code: Callable[[int, int], list[bool] | None] = functools.cache(code)
 
-    def value(self, x, y):
+    def rectified(self, x: int, y: int) -> int | None:
         """The rectified pixel: the mean of the four samples around its place. None where one that counts is missing."""
         if not (0 <= x < self.width and 0 <= y < self.height):
             return None
@@ -62,25 +70,28 @@ class Picture:
                 total += across * down * int(self.samples[j, i])
         return total // 65536
 
-    def code(self, x, y):
+    def code_about_itself(self, x: int, y: int) -> list[bool] | None:
         """Of each neighbour in the window, row by row: is it less than the pixel? None where one has no value."""
         rows, cols = range(-self.down, self.down + 1), range(-self.across, self.across + 1)
-        near = [self.value(x + i, y + j) for j in rows for i in cols]
-        if None in near:
+        values = [self.value(x + i, y + j) for j in rows for i in cols]
+        near = [value for value in values if value is not None]
+        if len(near) < len(values):
             return None
         centre = near.pop(len(near) // 2)
         return [neighbour < centre for neighbour in near]
 
-    def code_about_the_middle(self, x, y):
+    def code_about_the_middle(self, x: int, y: int) -> list[bool] | None:
         """The code of version 3. Of each neighbour in the window: is it less than the third of the five values of the
         pixel and of those that touch its sides? What has no value counts as the pixel itself, which needs one."""
         own = self.value(x, y)
         if own is None:
             return None
 
-        def near(i, j):
+        here: int = own
+
+        def near(i: int, j: int) -> int:
             value = self.value(x + i, y + j)
-            return own if value is None else value
+            return here if value is None else value
 
         middle = sorted((own, near(1, 0), near(-1, 0), near(0, 1), near(0, -1)))[2]
         rows, cols = range(-self.down, self.down + 1), range(-self.across, self.across + 1)
@@ -93,7 +104,7 @@ class Picture:
 class Pair:
     """Both pictures and the settings: what a cost is, and what a jump is."""
 
-    def __init__(self, left, right, calibration):
+    def __init__(self, left: str, right: str, calibration: Json) -> None:
         self.version = whole(calibration, "version")
         if self.version not in (1, 2, 3):
             raise Wrong(f"the calibration has version {self.version}; 1, 2 and 3 are known here")
@@ -112,16 +123,16 @@ class Pair:
         most = self.window[0] * self.window[1] - 1
         # What stands where a code is missing.
         self.missing = most if self.version < 3 else 3 * most // 7
-        self.single_cost = functools.cache(self.single_cost)
+        self.single_cost: Callable[[int, int, int], int] = functools.cache(self.differing)
 
-    def single_cost(self, x, y, d):
+    def differing(self, x: int, y: int, d: int) -> int:
         """In how many places the codes of the left pixel and of the right one that index d leads to differ."""
         ours, theirs = self.left.code(x, y), self.right.code(x - self.first - d, y)
         if ours is None or theirs is None:
             return self.missing
         return sum(map(operator.ne, ours, theirs))
 
-    def cost(self, x, y, d):
+    def cost(self, x: int, y: int, d: int) -> int:
         """The cost of an index at a pixel; in version 3 half of it is that of the pixels to its left and right."""
         own = self.single_cost(x, y, d)
         if self.version < 3:
@@ -129,15 +140,15 @@ class Pair:
         beside = (self.single_cost(i, y, d) if 0 <= i < self.left.width else own for i in (x - 1, x + 1))
         return (2 * own + sum(beside)) // 4
 
-    def far(self, here, before):
+    def far(self, here: Pixel, before: Pixel) -> int:
         """What a change by more than one costs between two neighbouring pixels."""
-        values = [self.left.value(*pixel) for pixel in (here, before)]
-        if not self.follows or None in values:
+        values = self.left.value(*here), self.left.value(*before)
+        if not self.follows or values[0] is None or values[1] is None:
             return self.p2
-        one, other = (255 * value // self.left.most for value in values)
+        one, other = (255 * value // self.left.most for value in (values[0], values[1]))
         return max(self.p1, self.p2 // max(1, abs(one - other)))
 
-    def jump(self, far, before, here):
+    def jump(self, far: int, before: int, here: int) -> int:
         """What it costs to go from the index before to that here."""
         return 0 if before == here else self.p1 if abs(before - here) == 1 else far
 
@@ -152,31 +163,34 @@ class Ray:
     is what a jump to that pixel costs.
     """
 
-    def __init__(self, pair, direction, x, y):
+    def __init__(self, pair: Pair, direction: str, x: int, y: int) -> None:
         if not (0 <= x < pair.left.width and 0 <= y < pair.left.height):
             raise Wrong(f"there is no pixel {x} {y}")
-        self.pair, self.pixels = pair, []
+        self.pair = pair
+        self.pixels: list[Pixel] = []
         across, down = DIRECTIONS[direction]
         while 0 <= x < pair.left.width and 0 <= y < pair.left.height:
             self.pixels.insert(0, (x, y))
             x, y = x - across, y - down
-        self.far, self.least = [0], []
+        self.far = [0]
+        self.least: list[list[int]] = []
         for before, here in zip(self.pixels, self.pixels[1:]):
             self.far.append(pair.far(here, before))
         for number, pixel in enumerate(self.pixels):
-            costs = [pair.cost(*pixel, d) for d in range(pair.count)]
+            costs = [pair.cost(pixel[0], pixel[1], d) for d in range(pair.count)]
             self.least.append(self.next_least(costs, self.far[number]) if number else costs)
 
-    def next_least(self, costs, far):
+    def next_least(self, costs: list[int], far: int) -> list[int]:
         """Least energies one pixel further: the same index, one beside it, or any other, whichever has least."""
-        before, made = self.least[-1], []
+        before = self.least[-1]
+        made: list[int] = []
         any_other = min(before) + far
         for d, cost in enumerate(costs):
             beside = [before[e] + self.pair.p1 for e in (d - 1, d + 1) if 0 <= e < len(before)]
             made.append(cost + min(before[d], any_other, *beside))
         return made
 
-    def best_before(self, number, d):
+    def best_before(self, number: int, d: int) -> int:
         """The least of the indices that pixel number - 1 has in a sequence of the least energy with d at that pixel."""
         energies = [energy + self.pair.jump(self.far[number], e, d) for e, energy in enumerate(self.least[number - 1])]
         return energies.index(min(energies))
@@ -185,11 +199,11 @@ class Ray:
 # The certificate
 
 
-def read_trace(name):
+def read_trace(name: str) -> str:
     return read_bytes(name).decode("ascii", "replace")
 
 
-def fault(ray, d, text):
+def fault(ray: Ray, d: int, text: str) -> str | None:
     """The first line of the certificate that doesn't hold, and why; None where all of it holds."""
     first, *lines = text.split("\n")
     if not FIRST_LINE.fullmatch(first):
@@ -197,7 +211,8 @@ def fault(ray, d, text):
     energy = int(first.split()[1])
     if energy != ray.least[-1][d]:
         return f"line 1: the least energy is {ray.least[-1][d]}, not {energy}"
-    indices, total = [], 0
+    indices: list[int] = []
+    total = 0
     for number, line in enumerate(lines[: len(ray.pixels)]):
         words = OTHER_LINE.fullmatch(line)
         if not words:
@@ -223,7 +238,9 @@ def fault(ray, d, text):
     return None
 
 
-def line_fault(ray, number, pixel, index, cost, jump, index_before):
+def line_fault(
+    ray: Ray, number: int, pixel: Pixel, index: int, cost: int, jump: int, index_before: int
+) -> str | None:
     """What is wrong with a line by itself and the index before it, or None."""
     pair = ray.pair
     if pixel != ray.pixels[number]:
@@ -239,5 +256,5 @@ def line_fault(ray, number, pixel, index, cost, jump, index_before):
     return None
 
 
-def calibration_of(name):
+def calibration_of(name: str) -> Json:
     return PLAIN if name == "-" else read_json(name)

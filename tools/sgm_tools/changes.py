@@ -1,12 +1,16 @@
 """What came and went in each region between two surveys, from the difference that `sgm change` has written. All
 is exact, in whole micrometres."""
 
+from __future__ import annotations
+
 import math
+from collections.abc import Iterator
 
 from sgm_tools import regions
 from sgm_tools.calibrations import check_grid, regions_in
 from sgm_tools.exact import moved
-from sgm_tools.grids import NO_DIFFERENCE, read_grid
+from sgm_tools.grids import NO_DIFFERENCE, Grid, read_grid
+from sgm_tools.kinds import Flags, Ints, Json
 from sgm_tools.reports import read_volumes
 from sgm_tools.running import Wrong, numpy
 
@@ -14,7 +18,7 @@ from sgm_tools.running import Wrong, numpy
 class Tally:
     """What the differences of some cells come to, in whole micrometres."""
 
-    def __init__(self, heights, filled, cell):
+    def __init__(self, heights: Ints, filled: Flags, cell: int) -> None:
         found = heights[filled]
         self.cells, self.empty, self.area = found.size, int(heights.size - found.size), cell * cell
         # Differences are at most 4e9, so sums of 16 million of them fit 63 bits. Their squares don't.
@@ -25,18 +29,20 @@ class Tally:
         parts = ((high * high, 32), (2 * high * low, 16), (low * low, 0))
         self.squares = sum(int(part.sum()) << shift for part, shift in parts)
 
-    def mean(self):
+    def mean(self) -> int:
         return (2 * self.sum + self.cells) // (2 * self.cells)
 
-    def spread(self):
+    def spread(self) -> int:
         return math.isqrt((self.squares * self.cells - self.sum**2) // self.cells**2)
 
-    def root(self):
+    def root(self) -> int:
         """The root of the mean square of the differences themselves, so that a shift counts too."""
         return math.isqrt(self.squares // self.cells)
 
 
-def regions_of(calibration, grid):
+def regions_of(
+    calibration: Json, grid: Grid
+) -> Iterator[tuple[str, tuple[slice, slice], Flags]]:
     """The regions' names, their rectangles as slices, and which of the cells there count."""
     check_grid(calibration, grid)
     sides = regions.grid_in(calibration)
@@ -46,7 +52,7 @@ def regions_of(calibration, grid):
         )
 
 
-def tallies(out, calibration):
+def tallies(out: str, calibration: Json) -> list[tuple[str, Tally]]:
     """The tallies of the regions and of the whole grid, by their names, after a look at OUT.csv."""
     grid = read_grid(out + ".asc")
     if grid.nothing != NO_DIFFERENCE:
@@ -61,7 +67,9 @@ def tallies(out, calibration):
     return [*made, ("all", every)]
 
 
-def table(named, still, digits):
+def table(
+    named: list[tuple[str, Tally]], still: Tally | None, digits: int | None
+) -> Iterator[list[object]]:
     """The lines below the head."""
     for name, it in named:
         volumes = [moved(volume, 18, digits) for volume in (it.fill, it.cut, it.fill - it.cut)]
@@ -72,7 +80,7 @@ def table(named, still, digits):
         yield line
 
 
-def still_one(named, name):
+def still_one(named: list[tuple[str, Tally]], name: str) -> Tally:
     """The tally of the region in which nothing has changed."""
     found = [it for other, it in named[:-1] if other == name]
     if len(found) != 1:

@@ -1,29 +1,37 @@
 """The points of a match as a point cloud (PLY)."""
 
+from __future__ import annotations
+
+import argparse
+from collections.abc import Callable, Iterator, Sequence
+
 from sgm_tools.exact import decimal
 from sgm_tools.files import read_pgm
+from sgm_tools.kinds import Flags, Greys, Ints, Json
+from sgm_tools.points import Points
 from sgm_tools.running import Wrong, numpy, progress
+from sgm_tools.site import Site
 from sgm_tools.warps import Warp, warp_of
 
 # Rows of the picture that are worked on at once.
 BAND = 64
 
 
-def bands(values, filled, points):
+def bands(values: Ints, filled: Flags, points: Points) -> Iterator[tuple[Ints, ...]]:
     """Columns, rows, east, north and height of the points, some rows of the picture at a time."""
     for top in range(0, len(values), BAND):
         xs, ys, _, *place = in_band(values, filled, points, top)
         yield (xs, ys, *place)
 
 
-def in_band(values, filled, points, top):
+def in_band(values: Ints, filled: Flags, points: Points, top: int) -> tuple[Ints, ...]:
     ys, xs = numpy.nonzero(filled[top : top + BAND])
     ys, found = ys + top, values[top : top + BAND][ys, xs]
     east, north, up, there = points.of_all(xs, ys, found)
     return tuple(it[there] for it in (xs, ys, found, east, north, up))
 
 
-def greys_of(left, calibration, shape):
+def greys_of(left: str, calibration: Json, shape: tuple[int, ...]) -> Callable[[Ints, Ints], Greys]:
     """A reader of grey values of 8 bits at rectified pixels; black where a pixel is void."""
     samples, most = read_pgm(left)
     if samples.shape != shape:
@@ -31,14 +39,14 @@ def greys_of(left, calibration, shape):
     height, width = shape
     warp = Warp(warp_of(calibration, "left"), width, height)
 
-    def read(xs, ys):
+    def read(xs: Ints, ys: Ints) -> Greys:
         found = warp.rectified(samples, xs, ys)
         return (255 * found.clip(min=0) // most).astype(numpy.uint8)
 
     return read
 
 
-def head_of(count, kind, has_greys, site):
+def head_of(count: int, kind: str, has_greys: bool, site: Site) -> bytes:
     """The head of the file, with what is known of its place."""
     lines = ["ply", "format binary_little_endian 1.0", "comment metres: x east, y north, z up"]
     offset = " ".join(decimal(it, 6) for it in (site.east, site.north))
@@ -54,7 +62,7 @@ def head_of(count, kind, has_greys, site):
     return "\n".join([*lines, "end_header", ""]).encode()
 
 
-def vertices(place, greys, kind, site):
+def vertices(place: Sequence[Ints], greys: Greys | None, kind: str, site: Site) -> bytes:
     """The bytes of some vertices."""
     number = "<f8" if kind == "double" else "<f4"
     fields = [(axis, number) for axis in "xyz"]
@@ -70,7 +78,13 @@ def vertices(place, greys, kind, site):
     return made.tobytes()
 
 
-def write_points(words, disparities, points, greys, site):
+def write_points(
+    words: argparse.Namespace,
+    disparities: tuple[Ints, Flags],
+    points: Points,
+    greys: Callable[[Ints, Ints], Greys] | None,
+    site: Site,
+) -> int:
     """Writes the file; how many points it has."""
     kind = "float" if words.float else "double"
     progress("counting")

@@ -1,14 +1,19 @@
 """Why a pixel has the disparity that it has: certificates for it and for those beside it, and what its finer
 disparity is made of, in lines of text."""
 
+from __future__ import annotations
+
+import argparse
 import json
 import os
 import tempfile
+from collections.abc import Iterator, Sequence
 
-from sgm_tools.certificates import DIRECTIONS, Ray, fault
+from sgm_tools.certificates import DIRECTIONS, Pair, Ray, fault
 from sgm_tools.exact import decimal, sixteenths
 from sgm_tools.files import read_disparities
-from sgm_tools.fine_steps import Finer, Mean
+from sgm_tools.fine_steps import Finer, Mean, Rise
+from sgm_tools.kinds import Json
 from sgm_tools.points import Points
 from sgm_tools.programs import run_program
 from sgm_tools.running import Wrong, progress
@@ -17,24 +22,24 @@ from sgm_tools.running import Wrong, progress
 class Map:
     """The disparities of a match: sixteenths above the first one."""
 
-    def __init__(self, words, calib, folder):
+    def __init__(self, words: argparse.Namespace, calib: str, folder: str) -> None:
         progress("matching")
         out = os.path.join(folder, "o")
         run_program(words.sgm, "match", words.left, words.right, calib, out)
         self.values, self.filled = read_disparities(out + ".pgm")
 
-    def at(self, x, y):
+    def at(self, x: int, y: int) -> int | None:
         """The disparity at a pixel; None where there is none, or no such pixel."""
         height, width = self.values.shape
         has_value = 0 <= x < width and 0 <= y < height and self.filled[y, x]
         return int(self.values[y, x]) if has_value else None
 
 
-def is_fine(calibration):
+def is_fine(calibration: Json) -> bool:
     return calibration["disparities"].get("fine") is True
 
 
-def maps_of(words, calibration):
+def maps_of(words: argparse.Namespace, calibration: Json) -> tuple[Map, Map]:
     """What matches come to: without finer disparities, and as the calibration has it."""
     with tempfile.TemporaryDirectory(prefix="sgm-explain_pixel.") as folder:
         made = Map(words, words.calib, folder)
@@ -53,18 +58,18 @@ def maps_of(words, calibration):
 class Direction:
     """A direction's line to the pixel: its path values for every index, and the certificates that were checked."""
 
-    def __init__(self, pair, name, x, y):
+    def __init__(self, pair: Pair, name: str, x: int, y: int) -> None:
         self.name, self.ray = name, Ray(pair, name, x, y)
         self.before = min(self.ray.least[-2]) if len(self.ray.pixels) > 1 else 0
         self.paths = [energy - self.before for energy in self.ray.least[-1]]
         self.costs, self.small, self.large = 0, 0, 0
 
-    def check(self, d, text):
+    def check(self, d: int, text: str) -> None:
         found = fault(self.ray, d, text)
         if found:
             raise Wrong(f"the certificate of {self.name} and index {d} doesn't hold: {found}")
 
-    def count(self, text):
+    def count(self, text: str) -> None:
         """What the certificate is made of: its costs, and how many changes by one and larger ones it has."""
         steps = [list(map(int, line.split())) for line in text.splitlines()[1:]]
         changes = [abs(here[2] - before[2]) for before, here in zip(steps, steps[1:])]
@@ -72,7 +77,7 @@ class Direction:
         self.small, self.large = changes.count(1), sum(change > 1 for change in changes)
 
 
-def directions_of(pair, words):
+def directions_of(pair: Pair, words: argparse.Namespace) -> list[Direction]:
     made = []
     for number, name in enumerate(DIRECTIONS):
         progress(f"adding up direction {number + 1} of {len(DIRECTIONS)}")
@@ -80,7 +85,13 @@ def directions_of(pair, words):
     return made
 
 
-def check_certificates(program, words, directions, indices, chosen):
+def check_certificates(
+    program: str,
+    words: argparse.Namespace,
+    directions: list[Direction],
+    indices: list[int],
+    chosen: int,
+) -> None:
     """Asks the program for each certificate and checks it."""
     for number, direction in enumerate(directions):
         progress(f"checking direction {number + 1} of {len(directions)}")
@@ -92,13 +103,13 @@ def check_certificates(program, words, directions, indices, chosen):
                 direction.count(text)
 
 
-def offset(before, at, after):
+def offset(before: int, at: int, after: int) -> int:
     """How far the parabola through three sums has its lowest point from the middle one, in sixteenths."""
     a, c = before - at, after - at
     return (16 * (a - c) + (a + c)) // (2 * (a + c))
 
 
-def columns(lines):
+def columns(lines: Sequence[Sequence[object]]) -> Iterator[str]:
     """Lines of words in columns, the first to the left and the others to the right."""
     widths = [max(len(str(line[at])) for line in lines) for at in range(len(lines[0]))]
     for line in lines:
@@ -106,8 +117,8 @@ def columns(lines):
         yield "  ".join(words).rstrip()
 
 
-def table(directions, indices, chosen):
-    head = ["direction", "pixels", *(f"index {d}" for d in indices), "costs", "by one", "larger"]
+def table(directions: list[Direction], indices: list[int], chosen: int) -> Iterator[str]:
+    head: list[object] = ["direction", "pixels", *(f"index {d}" for d in indices), "costs", "by one", "larger"]
     lines = [head]
     for it in directions:
         lines.append([it.name, len(it.ray.pixels), *(it.paths[d] for d in indices), it.costs, it.small, it.large])
@@ -115,7 +126,7 @@ def table(directions, indices, chosen):
     return columns(lines)
 
 
-def comparison(sums, chosen, first):
+def comparison(sums: list[int], chosen: int, first: int) -> Iterator[str]:
     """By how much the chosen index wins."""
     at = sums[chosen]
     for d, where in ((chosen - 1, "before"), (chosen + 1, "after")):
@@ -127,7 +138,7 @@ def comparison(sums, chosen, first):
         yield f"Of all others disparity {first + best} comes nearest, with {sums[best]}: {sums[best] - at} more."
 
 
-def smoothing(pair, x, y, d):
+def smoothing(pair: Pair, x: int, y: int, d: int) -> Iterator[str]:
     """What the cost of an index at the pixel is made of, where it is a mean along the row."""
     if pair.version < 3:
         return
@@ -140,7 +151,7 @@ def smoothing(pair, x, y, d):
     yield ""
 
 
-def partner(pair, x, y, chosen):
+def partner(pair: Pair, x: int, y: int, chosen: int) -> str:
     """Why the pixel can't have a disparity, whatever the sums are, or what the check must have found."""
     q = x - pair.first - chosen
     if not 0 <= q < pair.left.width:
@@ -150,7 +161,14 @@ def partner(pair, x, y, chosen):
     return f"seen from column {q} of the right picture another disparity is better, so the check took it out."
 
 
-def explain(pair, words, value, directions, indices, chosen):
+def explain(
+    pair: Pair,
+    words: argparse.Namespace,
+    value: int | None,
+    directions: list[Direction],
+    indices: list[int],
+    chosen: int,
+) -> Iterator[str]:
     sums = [sum(it.paths[d] for it in directions) for d in range(pair.count)]
     tried = f"{pair.first} to {pair.first + pair.count - 1}"
     yield f"Pixel {words.x} {words.y}: disparities {tried} were tried, index 0 being the first."
@@ -183,11 +201,11 @@ def explain(pair, words, value, directions, indices, chosen):
 # Finer disparities
 
 
-def changed_by(c):
+def changed_by(c: int) -> str:
     return "No change" if c == 0 else f"{abs(c)}/16 {'less' if c < 0 else 'more'}"
 
 
-def window_lines(rise):
+def window_lines(rise: Rise) -> Iterator[str]:
     """How the window is laid along the surface."""
     sums = rise.across, rise.down
     across, down = (f"{above}/{below}" if below else "0" for above, below in sums)
@@ -197,7 +215,7 @@ def window_lines(rise):
     yield f"{down} from row to row: {columns} in the window's columns and {rows} in its rows."
 
 
-def score_lines(step):
+def score_lines(step: Finer) -> Iterator[str]:
     """The scores of all changes, and what the greatest one says."""
     changes = [[c, *step.scores[c]] for c in sorted(step.scores)]
     yield from columns([["change", "A", "B", "score"], *changes])
@@ -212,7 +230,7 @@ def score_lines(step):
         yield f"B is to the right one, is {step.v}: A A is {share} hundredths of V B."
 
 
-def finer_lines(step, first):
+def finer_lines(step: Finer, first: int) -> Iterator[str]:
     """How the grey values make the disparity finer, or why they don't."""
     yield from window_lines(step.rise)
     yield ""
@@ -224,7 +242,7 @@ def finer_lines(step, first):
         yield f"So it becomes {sixteenths(step.value, first)}."
 
 
-def mean_lines(mean, first):
+def mean_lines(mean: Mean, first: int) -> Iterator[str]:
     near = ", ".join(sixteenths(value, first) for value in mean.near)
     yield "Of the finer disparities of this pixel and the eight around it these are within a pixel"
     yield f"of its own: {near}."
@@ -232,7 +250,7 @@ def mean_lines(mean, first):
     yield f"Their mean is {made}, in pixels, and that is what the program's picture has here."
 
 
-def explain_finer(pair, words, before, after):
+def explain_finer(pair: Pair, words: argparse.Namespace, before: Map, after: Map) -> Iterator[str]:
     """How the disparity of the first map becomes that of the second one."""
     x, y, first = words.x, words.y, pair.first
     own, found = before.at(x, y), after.at(x, y)
@@ -243,17 +261,17 @@ def explain_finer(pair, words, before, after):
     yield ""
     yield from finer_lines(Finer(pair, before.at, x, y), first)
 
-    def finer_at(x, y):
+    def finer_at(x: int, y: int) -> int | None:
         return None if before.at(x, y) is None else Finer(pair, before.at, x, y).value
 
     mean = Mean(finer_at, x, y)
     if found != mean.value:
-        found, wanted = (sixteenths(value, first) for value in (found, mean.value))
-        raise Wrong(f"the program's picture has disparity {found} here, the mean is {wanted}")
+        has, wanted = (sixteenths(value, first) for value in (found, mean.value))
+        raise Wrong(f"the program's picture has disparity {has} here, the mean is {wanted}")
     yield from mean_lines(mean, first)
 
 
-def point_line(calibration, words, value):
+def point_line(calibration: Json, words: argparse.Namespace, value: int | None) -> Iterator[str]:
     if value is None or "camera" not in calibration:
         return
     points = Points(calibration)

@@ -3,14 +3,18 @@
 A file that is broken is a Wrong with the file's name in it; one that can't be opened an OSError.
 """
 
+from __future__ import annotations
+
 import io
 import json
 import re
+from collections.abc import Sequence
 
+from sgm_tools.kinds import Colour, Flags, Greys, Ints, Json, Samples
 from sgm_tools.running import Image, ImageOps, Wrong, need, numpy, progress
 
 
-def read_bytes(name):
+def read_bytes(name: str) -> bytes:
     progress(f"reading {name}")
     with open(name, "rb") as file:
         return file.read()
@@ -24,12 +28,24 @@ WHITE = rb"(?:[ \t\n\v\f\r]|#[^\n\r]*[\n\r])+"
 PGM_HEAD = re.compile(rb"P5" + 3 * (WHITE + rb"([0-9]+)") + rb"[ \t\n\v\f\r]")
 
 
-def read_pgm(name):
+def head_in(data: bytes) -> re.Match[bytes] | None:
+    """The head of a binary PGM at the beginning, with groups for the width, the height and the greatest value."""
+    head = PGM_HEAD.match(data)
+    is_one = head and max(len(number.lstrip(b"0")) for number in head.groups()) <= 9
+    return head if is_one else None
+
+
+def pgm_head(width: int, height: int, most: int) -> bytes:
+    """The head of a binary PGM that is written."""
+    return f"P5\n{width} {height}\n{most}\n".encode()
+
+
+def read_pgm(name: str) -> tuple[Samples, int]:
     """The samples as rows of 8 or 16 bits, and the greatest value, of a binary PGM."""
     need(numpy=numpy)
     data = read_bytes(name)
-    head = PGM_HEAD.match(data)
-    if not head or max(len(number.lstrip(b"0")) for number in head.groups()) > 9:
+    head = head_in(data)
+    if not head:
         raise Wrong(f"{name}: not a binary PGM")
     width, height, most = map(int, head.groups())
     if not (1 <= width <= 4096 and 1 <= height <= 4096 and 1 <= most <= 65535):
@@ -43,7 +59,7 @@ def read_pgm(name):
     return samples.astype(kind.newbyteorder("=")), most
 
 
-def read_disparities(name):
+def read_disparities(name: str) -> tuple[Ints, Flags]:
     """OUT.pgm: rows of sixteenths of a pixel above the first disparity, and where there is one."""
     samples, most = read_pgm(name)
     if most != 65535:
@@ -51,13 +67,21 @@ def read_disparities(name):
     return samples.astype(numpy.int64) - 16, samples != 0
 
 
-def write_pgm(name, grey):
-    height, width = grey.shape
+def write_pgm(name: str, grey: Greys) -> None:
+    """Writes grey values of 8 bits as a binary PGM."""
     with open(name, "wb") as file:
-        file.write(f"P5\n{width} {height}\n255\n".encode() + grey.tobytes())
+        file.write(pgm_bytes(grey))
 
 
-def read_grey(name):
+def pgm_bytes(samples: Samples) -> bytes:
+    """The bytes of a binary PGM of samples of 8 bits, or of 16."""
+    height, width = samples.shape
+    if samples.dtype == numpy.uint8:
+        return pgm_head(width, height, 255) + samples.tobytes()
+    return pgm_head(width, height, 65535) + samples.astype(">u2").tobytes()
+
+
+def read_grey(name: str) -> Greys:
     """A photograph as rows of grey values of 8 bits, turned as its EXIF says that it is to be seen."""
     need(numpy=numpy, PIL=Image)
     progress(f"reading {name}")
@@ -75,7 +99,7 @@ def read_grey(name):
         raise
 
 
-def png_bytes(pixels, palette=None):
+def png_bytes(pixels: Greys, palette: Sequence[Colour] | None = None) -> bytes:
     """The bytes of a PNG: rows of colours, or of greys, or of numbers of a palette of colours."""
     need(numpy=numpy, PIL=Image)
     image = Image.fromarray(pixels)
@@ -86,7 +110,7 @@ def png_bytes(pixels, palette=None):
     return made.getvalue()
 
 
-def write_png(name, pixels, palette=None):
+def write_png(name: str, pixels: Greys, palette: Sequence[Colour] | None = None) -> None:
     progress(f"writing {name}")
     data = png_bytes(pixels, palette)
     with open(name, "wb") as file:
@@ -96,7 +120,7 @@ def write_png(name, pixels, palette=None):
 # JSON
 
 
-def read_json(name):
+def read_json(name: str) -> Json:
     """The object of a JSON file."""
     try:
         top = json.loads(read_bytes(name).decode("utf-8"))

@@ -7,7 +7,16 @@ where they are most alike, there the finer disparity is. Then comes the mean of 
 the pixels around it that are near.
 """
 
+from __future__ import annotations
+
+from collections.abc import Callable, Sequence
+from typing import Optional
+
+from sgm_tools.certificates import Pair
 from sgm_tools.exact import rounded
+
+# The disparities of a map: sixteenths, or None where there is none.
+Values = Callable[[int, int], Optional[int]]
 
 REACH = range(-2, 3)
 PLACES = [(i, j) for j in REACH for i in REACH]
@@ -22,16 +31,24 @@ CHANGES = sorted(range(-8, 9), key=lambda c: (abs(c), c))
 class Gap(Exception):
     """A pixel that is needed has no value."""
 
-    def __init__(self, side, x, y):
+    def __init__(self, side: str, x: int, y: int) -> None:
         super().__init__(f"the {side} picture has nothing at column {x} of row {y}")
+
+
+def known(value_at: Values, x: int, y: int) -> int:
+    """The disparity of a pixel that has one."""
+    value = value_at(x, y)
+    if value is None:
+        raise ValueError(f"column {x} of row {y} has no disparity")
+    return value
 
 
 class Rise:
     """How the map rises around a pixel: for columns and for rows the two sums whose quotient is the
     rise from one to the next, and what that comes to at the window's five columns or rows."""
 
-    def __init__(self, value_at, x, y):
-        own, near = value_at(x, y), []
+    def __init__(self, value_at: Values, x: int, y: int) -> None:
+        own, near = known(value_at, x, y), []
         for i, j in PLACES:
             value = value_at(x + i, y + j)
             if value is not None and abs(value - own) <= RISE_WITHIN:
@@ -40,14 +57,14 @@ class Rise:
         self.down = sum(j * step for _, j, step in near), sum(j * j for _, j, _ in near)
         self.columns, self.rows = (self.along(*sums) for sums in (self.across, self.down))
 
-    def along(self, above, below):
+    def along(self, above: int, below: int) -> list[int]:
         return [rounded(place * above, below) if below else 0 for place in REACH]
 
-    def at(self, i, j):
+    def at(self, i: int, j: int) -> int:
         return self.columns[REACH.index(i)] + self.rows[REACH.index(j)]
 
 
-def halved(samples, limit):
+def halved(samples: Sequence[int], limit: int) -> list[int]:
     """The samples less their least, halved as often as it takes for all to be below the limit."""
     low, times = min(samples), 0
     while (max(samples) - low) >> times >= limit:
@@ -55,7 +72,7 @@ def halved(samples, limit):
     return [(sample - low) >> times for sample in samples]
 
 
-def spread(one, other):
+def spread(one: Sequence[int], other: Sequence[int]) -> int:
     """25 times the sum of the products of two windows' samples, less the product of both sums."""
     return 25 * sum(a * b for a, b in zip(one, other)) - sum(one) * sum(other)
 
@@ -69,29 +86,31 @@ class Finer:
     why it is what it was, or is None.
     """
 
-    def __init__(self, pair, value_at, x, y):
+    def __init__(self, pair: Pair, value_at: Values, x: int, y: int) -> None:
         self.pair, self.x, self.y = pair, x, y
-        self.before = self.value = value_at(x, y)
+        self.before = self.value = known(value_at, x, y)
         self.rise = Rise(value_at, x, y)
-        self.scores, self.v, self.best, self.stays = {}, 0, 0, None
+        self.scores: dict[int, tuple[int, int, int]] = {}
+        self.v, self.best = 0, 0
+        self.stays: str | None = None
         try:
             self.judge(*self.windows())
         except Gap as gap:
             self.stays = str(gap)
 
-    def sample(self, side, x, y):
-        value = getattr(self.pair, side).value(x, y)
+    def sample(self, side: str, x: int, y: int) -> int:
+        value: int | None = getattr(self.pair, side).value(x, y)
         if value is None:
             raise Gap(side, x, y)
         return value
 
-    def between(self, u, row):
+    def between(self, u: int, row: int) -> int:
         """Sixteen times the right picture's value at u sixteenths of a pixel."""
         column, part = divmod(u, 16)
         near = (16 - part) * self.sample("right", column, row)
         return near + part * self.sample("right", column + 1, row) if part else near
 
-    def windows(self):
+    def windows(self) -> tuple[list[int], list[int], list[int], list[int]]:
         """The left window, and the right one half a pixel before, at its place, and behind."""
         own = [self.sample("left", self.x + i, self.y + j) for i, j in PLACES]
         right = []
@@ -102,7 +121,9 @@ class Finer:
         right = halved(right, RIGHT_BELOW)
         return halved(own, LEFT_BELOW), right[:25], right[25:50], right[50:]
 
-    def judge(self, own, to_the_left, middle, to_the_right):
+    def judge(
+        self, own: list[int], to_the_left: list[int], middle: list[int], to_the_right: list[int]
+    ) -> None:
         self.v = spread(own, own)
         for c in CHANGES:
             if not 0 <= self.before + c <= 16 * (self.pair.count - 1):
@@ -126,9 +147,9 @@ class Finer:
 class Mean:
     """The finer disparities at and around a pixel that are near to its own, and their mean."""
 
-    def __init__(self, finer_at, x, y):
-        own = finer_at(x, y)
+    def __init__(self, finer_at: Values, x: int, y: int) -> None:
+        own = known(finer_at, x, y)
         around = [finer_at(x + i, y + j) for j in (-1, 0, 1) for i in (-1, 0, 1)]
-        around = [value for value in around if value is not None]
-        self.near = [value for value in around if abs(value - own) <= MEAN_WITHIN]
+        found = [value for value in around if value is not None]
+        self.near = [value for value in found if abs(value - own) <= MEAN_WITHIN]
         self.value = rounded(sum(self.near), len(self.near))

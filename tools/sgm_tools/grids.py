@@ -1,10 +1,13 @@
 """Grids of heights, or of the differences of two: OUT.asc of a match or of a change. Heights are whole
 micrometres, as int64."""
 
+from __future__ import annotations
+
 import dataclasses
 import re
 
 from sgm_tools.files import read_bytes
+from sgm_tools.kinds import Flags, Ints
 from sgm_tools.running import Wrong, need, numpy
 
 GRID_NAMES = (b"ncols", b"nrows", b"xllcorner", b"yllcorner", b"cellsize", b"nodata_value")
@@ -24,12 +27,12 @@ class Grid:
     west: int
     south: int
     cell: int
-    heights: "numpy.ndarray"
-    filled: "numpy.ndarray"
+    heights: Ints
+    filled: Flags
     nothing: int = NO_HEIGHT
 
 
-def read_grid(name):
+def read_grid(name: str) -> Grid:
     """OUT.asc of a match or of a change. A grid of 4096 x 4096 takes a second or two."""
     need(numpy=numpy)
     data = read_bytes(name)
@@ -46,7 +49,7 @@ def read_grid(name):
     return Grid(west, south, cell, heights, heights != nothing, nothing)
 
 
-def whole_numbers(text, name):
+def whole_numbers(text: bytes, name: str) -> Ints:
     """The whole numbers of a text that begins with white bytes, as int64; anything else is refused."""
     signs = text.count(b"-")
     is_plain = not text.translate(None, b"0123456789- \t\n\v\f\r")
@@ -62,7 +65,7 @@ def whole_numbers(text, name):
     return numbers
 
 
-def hundredths(values):
+def hundredths(values: Ints) -> tuple[int, int] | None:
     """The values below and above which the lowest and the highest hundredth lie; None for no values."""
     if not len(values):
         return None

@@ -10,7 +10,7 @@ MATRIX = r"\[([^;\]]+);([^;\]]+);([^;\]]+)\]"
 FARTHEST = 2000000000
 
 
-def read_lines(name):
+def read_lines(name: str) -> dict[str, str]:
     """The values by their names, as texts."""
     text = read_bytes(name).decode("ascii", "replace")
     found = dict(re.findall(r"^\s*([A-Za-z0-9_]+)\s*=\s*(.*?)\s*$", text, re.M))
@@ -20,7 +20,7 @@ def read_lines(name):
     return found
 
 
-def number(found, key):
+def number(found: dict[str, str], key: str) -> float:
     try:
         value = float(found[key])
     except (KeyError, ValueError):
@@ -30,7 +30,7 @@ def number(found, key):
     return value
 
 
-def rows_of(found, key):
+def rows_of(found: dict[str, str], key: str) -> list[list[float]]:
     """A matrix's rows of numbers."""
     lines = re.fullmatch(MATRIX, found[key])
     try:
@@ -42,7 +42,7 @@ def rows_of(found, key):
     return rows
 
 
-def span_of(found, is_tight):
+def span_of(found: dict[str, str], is_tight: bool) -> dict[str, int]:
     if is_tight:
         first, last = math.floor(number(found, "vmin")), math.ceil(number(found, "vmax"))
     else:

@@ -1,8 +1,14 @@
 """OpenCV's calibrations of a pair: how they are read, and what they become in a calibration of sgm."""
 
+from __future__ import annotations
+
+import argparse
 import math
+from collections.abc import Sequence
+from typing import Any
 
 from sgm_tools.files import read_json
+from sgm_tools.kinds import Floats, Ints, Json, Size
 from sgm_tools.running import Wrong, need, numpy, package, progress
 
 cv2 = package("cv2")
@@ -35,7 +41,7 @@ MOST = 1e18
 # Reading
 
 
-def read_storage(name):
+def read_storage(name: str) -> Json:
     """The matrices and numbers of a YAML or XML file."""
     # A missing file is told first, and without OpenCV's messages.
     with open(name, "rb"):
@@ -47,7 +53,7 @@ def read_storage(name):
         raise Wrong(f"{name}: OpenCV can't read it")
 
 
-def found_in(storage, name):
+def found_in(storage: Any, name: str) -> Json:
     if not storage.isOpened():
         raise Wrong(f"{name}: OpenCV can't read it")
     found = {}
@@ -62,13 +68,13 @@ def found_in(storage, name):
     return found
 
 
-def read_matrices(name):
+def read_matrices(name: str) -> Json:
     """The same of a JSON file, in which a matrix as cv2.FileStorage writes it has its numbers under `data`."""
     top = read_json(name)
     return {key: value["data"] if isinstance(value, dict) and "data" in value else value for key, value in top.items()}
 
 
-def flat(value):
+def flat(value: object) -> list[float]:
     """The numbers of a list of rows, or of a list."""
     if isinstance(value, list):
         return [number for part in value for number in flat(part)]
@@ -77,12 +83,12 @@ def flat(value):
     return [float(value)]
 
 
-def read_calibration(files, size):
+def read_calibration(files: Sequence[str], size: Size | None) -> Json:
     """The parts by their names in NAMES, and `size`. R1, R2, P1, P2 are there together or not at all."""
-    found = {}
+    found: Json = {}
     for name in files:
         found |= read_matrices(name) if name.lower().endswith(".json") else read_storage(name)
-    parts = {}
+    parts: Json = {}
     for part, names in NAMES.items():
         given = [found[name] for name in names if name in found]
         if given:
@@ -103,7 +109,7 @@ def read_calibration(files, size):
     return parts
 
 
-def size_in(found):
+def size_in(found: Json) -> Size:
     if "imageSize" in found:
         sides = flat(found["imageSize"])
     elif "image_width" in found and "image_height" in found:
@@ -118,7 +124,7 @@ def size_in(found):
 # Meshes
 
 
-def distorted(lens, x, y):
+def distorted(lens: Sequence[float], x: Floats, y: Floats) -> tuple[Floats, Floats]:
     """Where the lens shows what would stand at (x, y), both in focal lengths from the axis."""
     k1, k2, p1, p2, k3, k4, k5, k6, s1, s2, s3, s4, tilt_x, tilt_y = [*lens] + [0.0] * (14 - len(lens))
     if tilt_x or tilt_y:
@@ -134,10 +140,10 @@ def distorted(lens, x, y):
 class View:
     """One camera of the pair, and how the rectified picture is taken from its picture."""
 
-    def __init__(self, k, d, rotation, p):
+    def __init__(self, k: Floats, d: Sequence[float], rotation: Floats, p: Floats) -> None:
         self.k, self.d, self.back, self.p = k, d, numpy.linalg.inv(rotation), p
 
-    def places(self, x, y):
+    def places(self, x: Floats, y: Floats) -> Floats:
         """The places in the camera's picture that the rectified pixels (x, y) show, in pixels, u and v last.
 
         This is the map of cv2.initUndistortRectifyMap, which goes from the rectified picture to the
@@ -152,19 +158,20 @@ class View:
         seen_x, seen_y = distorted(self.d, a / c, b / c)
         return numpy.stack([k[0, 0] * seen_x + k[0, 1] * seen_y + k[0, 2], k[1, 1] * seen_y + k[1, 2]], axis=-1)
 
-    def nodes(self, size, step):
+    def nodes(self, size: Size, step: int) -> Ints:
         """Rows of places of nodes in 1/256 of a pixel, whole and within the ranges of a node."""
         cols, rows = ((side - 1) // step + 2 for side in size)
         y, x = numpy.mgrid[0:rows, 0:cols] * float(step)
         places = numpy.nan_to_num(256 * self.places(x, y), nan=-FARTHEST)
-        return numpy.rint(places.clip(-FARTHEST, FARTHEST)).astype(numpy.int64)
+        nodes: Ints = numpy.rint(places.clip(-FARTHEST, FARTHEST)).astype(numpy.int64)
+        return nodes
 
-    def mesh(self, size, step):
+    def mesh(self, size: Size, step: int) -> Json:
         nodes = self.nodes(size, step)
         rows, cols, _ = nodes.shape
         return {"kind": "mesh", "step": step, "cols": cols, "rows": rows, "nodes": nodes.ravel().tolist()}
 
-    def deviation(self, size, step):
+    def deviation(self, size: Size, step: int) -> float:
         """How far the mesh is from the map at most, in pixels, where the map leads into the picture.
 
         Tried in the middle of each cell and of its upper and left sides.
@@ -181,7 +188,7 @@ class View:
         return worst
 
 
-def finest_needed(views, size):
+def finest_needed(views: Sequence[View], size: Size) -> tuple[int, float]:
     """The largest step at which both meshes are close enough to the map, else the least; and their deviation."""
     for step in STEPS:
         progress(f"trying meshes of step {step}")
@@ -194,7 +201,7 @@ def finest_needed(views, size):
 # The camera
 
 
-def rectification(parts, is_centred, alpha):
+def rectification(parts: Json, is_centred: bool, alpha: float | None) -> Sequence[Floats]:
     """R1, R2, P1, P2 of cv2.stereoRectify; those of the files where no option asks for others."""
     if "P1" in parts and alpha is None and not is_centred:
         return [parts[name] for name in ("R1", "R2", "P1", "P2")]
@@ -207,10 +214,13 @@ def rectification(parts, is_centred, alpha):
         made = cv2.stereoRectify(*cameras, flags=flags, alpha=-1 if alpha is None else alpha)
     except cv2.error as error:
         raise Wrong(f"no cameras have these numbers: {error.err}")
-    return made[:4]
+    first: Sequence[Floats] = made[:4]
+    return first
 
 
-def camera_of(p1, p2, micrometres, words):
+def camera_of(
+    p1: Floats, p2: Floats, micrometres: int, words: argparse.Namespace
+) -> dict[str, int]:
     """The camera's keys. Both pictures have one focal length and one row of the principal point."""
     if not all(numpy.isfinite(p).all() and p[0, 0] > 0 for p in (p1, p2)):
         raise Wrong("no cameras have these numbers")
@@ -237,7 +247,7 @@ def camera_of(p1, p2, micrometres, words):
     }
 
 
-def disparities_of(camera, first, count):
+def disparities_of(camera: dict[str, int], first: int | None, count: int | None) -> dict[str, int]:
     """The span from the farthest distance to the nearest one, where it isn't given."""
     scale, doffs = camera["focal"] * camera["baseline"], camera["doffs"]
     if first is None:
@@ -260,7 +270,7 @@ BYTES_OF_CELL, BYTES_OF_PIXEL, BYTES_OF_GRID = 3, 45, 16
 SECONDS_OF_CELL = 7e-9
 
 
-def cost(size, count, grid, version):
+def cost(size: Size, count: int, grid: Sequence[int] | None, version: int | None) -> str:
     """The cells that are compared, and about how much memory and time they take."""
     pixels = size[0] * size[1]
     cells = pixels * count
@@ -272,6 +282,6 @@ def cost(size, count, grid, version):
     return f"{cells} cells{'' if version == 3 else f' of {MOST_CELLS} at most'}: {takes}"
 
 
-def seconds(cells):
+def seconds(cells: int) -> str:
     about = SECONDS_OF_CELL * cells
     return f"{about:.0f} seconds" if about >= 3 else f"{max(about, 0.1):.1f} seconds"

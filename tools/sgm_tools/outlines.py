@@ -1,14 +1,19 @@
 """Outlines of regions, from words, from GeoJSON and from what OGR reads, and the plane of the ground of an earlier
 match."""
 
+from __future__ import annotations
+
 import decimal
 import json
 import re
+from collections.abc import Iterator, Sequence
+from typing import Any
 
 from sgm_tools.calibrations import check_grid
 from sgm_tools.exact import rounded
 from sgm_tools.files import read_bytes, read_json
 from sgm_tools.grids import read_grid
+from sgm_tools.kinds import Json
 from sgm_tools.regions import (
     LEAST_NUMBERS,
     MOST_LENGTH,
@@ -20,15 +25,21 @@ from sgm_tools.regions import (
 )
 from sgm_tools.running import Wrong, package
 
+# A ring's places as a file has them, a corner in micrometres, and a polygon's name with its geometry.
+Ring = list[tuple[Any, ...]]
+Corner = tuple[int, int]
+Feature = tuple[object, object]
+
 # No corner of an outline is farther from the origin of the grid's frame, to the east or to the
 # north.
 FARTHEST_CORNER = MOST_LENGTH
 
 
-def rings_of(geometry, name):
+def rings_of(geometry: object, name: str) -> list[Ring]:
     """The rings of a polygon's or of several polygons' coordinates."""
-    kind = geometry.get("type") if isinstance(geometry, dict) else None
-    found = geometry.get("coordinates") if kind in ("Polygon", "MultiPolygon") else None
+    given = geometry if isinstance(geometry, dict) else {}
+    kind = given.get("type")
+    found: Any = given.get("coordinates") if kind in ("Polygon", "MultiPolygon") else None
     polygons = [found] if kind == "Polygon" else found
     try:
         return [[tuple(place[:2]) for place in ring] for polygon in polygons for ring in polygon]
@@ -36,7 +47,7 @@ def rings_of(geometry, name):
         raise Wrong(f"{name}: not a polygon")
 
 
-def json_features(name):
+def json_features(name: str) -> Iterator[Feature]:
     """The names and geometries of a GeoJSON file; its numbers are decimals, so nothing is
     rounded."""
     text = read_bytes(name)
@@ -61,7 +72,7 @@ def json_features(name):
         yield said, it.get("geometry") if is_feature else it
 
 
-def ogr_features(name):
+def ogr_features(name: str) -> Iterator[Feature]:
     """The same of what OGR reads."""
     with open(name, "rb"):
         pass
@@ -92,23 +103,26 @@ def ogr_features(name):
         raise Wrong(f"{name}: OGR can't read it: {error}")
 
 
-def micrometres_of(place, origin, name):
+def micrometres_of(
+    place: Sequence[object], origin: Sequence[decimal.Decimal | int], name: str
+) -> Corner:
     """Whole micrometres of metres, less the origin."""
     made = []
     for value, zero in zip(place, origin):
         if (
             isinstance(value, bool)
             or not isinstance(value, (int, decimal.Decimal))
-            or not abs(value) < 10**9
+            or not abs(decimal.Decimal(value)) < 10**9
         ):
             raise Wrong(f"{name}: a corner isn't two numbers")
-        made.append(int(((value - zero) * 1000000).to_integral_value(decimal.ROUND_HALF_EVEN)))
+        away = decimal.Decimal(value) - zero
+        made.append(int((away * 1000000).to_integral_value(decimal.ROUND_HALF_EVEN)))
     if len(made) != 2:
         raise Wrong(f"{name}: a corner isn't two numbers")
-    return tuple(made)
+    return made[0], made[1]
 
 
-def joined(rings):
+def joined(rings: Sequence[list[Corner]]) -> list[Corner]:
     """The rings as one: from the first one's begin to each other one and back, by seams that are
     run twice."""
     first, *others = rings
@@ -118,7 +132,7 @@ def joined(rings):
     return made
 
 
-def outline_from(name, source, origin):
+def outline_from(name: str, source: str, origin: Sequence[decimal.Decimal | int]) -> list[int]:
     """The numbers of an outline, of its words or of a file."""
     if re.fullmatch("-?[0-9]+(,-?[0-9]+)*", source):
         outline = [int(word) for word in source.split(",")]
@@ -150,7 +164,7 @@ def outline_from(name, source, origin):
         outline = [number for corner in joined(rings) for number in corner]
     if not LEAST_NUMBERS <= len(outline) <= MOST_NUMBERS:
         raise Wrong(f"the outline {name} has {len(outline) // 2} corners, 3 to 1000 are needed")
-    if max(map(abs, outline)) > FARTHEST_CORNER:
+    if max(abs(it) for it in outline) > FARTHEST_CORNER:
         raise Wrong(
             f"the outline {name} is farther than 2 km from the grid's origin:"
             " --outline-origin moves it"
@@ -158,7 +172,7 @@ def outline_from(name, source, origin):
     return outline
 
 
-def is_beyond(outline, grid):
+def is_beyond(outline: Sequence[int], grid: Json) -> bool:
     """Whether a part of the outline lies beyond the grid."""
     for part, side, count in ((outline[::2], "west", "cols"), (outline[1::2], "south", "rows")):
         if min(part) < grid[side] or max(part) > grid[side] + grid[count] * grid["cell"]:
@@ -169,7 +183,7 @@ def is_beyond(outline, grid):
 # Planes
 
 
-def base_from(heights, earlier, grid):
+def base_from(heights: str, earlier: str, grid: Json) -> tuple[tuple[int, int, int], str]:
     """The plane of the ground of an earlier match, at this grid's south-west corner, and a line
     about it."""
     calibration, found = read_json(earlier), read_grid(heights)

@@ -1,13 +1,19 @@
 """Poses of a camera: from control points, from level ground, and from a known place."""
 
+from __future__ import annotations
+
+import argparse
 import csv
 import decimal
 import io
 import math
 import re
+from collections.abc import Iterator, Sequence
+from typing import Any
 
 from sgm_tools.calibrations import whole
 from sgm_tools.files import read_bytes, read_disparities, read_json
+from sgm_tools.kinds import Flags, Floats, Ints, Json, Metres, Place, Size
 from sgm_tools.points import (
     CAMERA_FRAME,
     MOST_LENGTH,
@@ -17,8 +23,12 @@ from sgm_tools.points import (
     is_nearly_rotation,
     pose_of,
 )
+from sgm_tools.points import Points
 from sgm_tools.running import Wrong, numpy, progress
 from sgm_tools.warps import Warp, warp_of
+
+# A control point: its place in the picture, and that in the site in metres.
+Control = tuple[Place, Metres]
 
 NO_PLACE, TOO_FEW, ON_A_LINE, MIRRORED, TOO_FAR, OLD_VERSION, OUT_OF_RANGE = range(3, 10)
 COLUMNS = ("name", "x", "y", "east", "north", "up")
@@ -38,16 +48,18 @@ class Plane:
     """A plane through disparities, in sixteenths of a pixel above the first: the value at (x, y) is
     a (x - x0) + b (y - y0) + c."""
 
-    def __init__(self, xs, ys, values, x0, y0):
+    def __init__(self, xs: Ints, ys: Ints, values: Ints, x0: float, y0: float) -> None:
         self.x0, self.y0 = x0, y0
         design = numpy.stack([xs - x0, ys - y0, numpy.ones(len(xs))], axis=-1)
         (self.a, self.b, self.c), *_ = numpy.linalg.lstsq(design, values, rcond=None)
 
-    def at(self, xs, ys):
+    def at(self, xs: Any, ys: Any) -> Any:
         return self.a * (xs - self.x0) + self.b * (ys - self.y0) + self.c
 
 
-def plane_through(xs, ys, values, place, needed):
+def plane_through(
+    xs: Ints, ys: Ints, values: Ints, place: Place, needed: int
+) -> tuple[Plane, Flags] | None:
     """The plane of most of the values, and which of them it is of; None where fewer than `needed`
     are of one."""
     if len(values) < needed:
@@ -61,7 +73,9 @@ def plane_through(xs, ys, values, place, needed):
     return (plane, kept) if kept.sum() >= needed else None
 
 
-def camera_point(points, x, y, value):
+def camera_point(
+    points: Points, x: float, y: float, value: float
+) -> tuple[float, float, float] | None:
     """X, Y and h in micrometres of a place with that disparity, not rounded; None where that is no point."""
     k = points.k_of(value)
     if k <= 0:
@@ -73,7 +87,9 @@ def camera_point(points, x, y, value):
     return east * points.baseline / k, north * points.baseline / k, points.mount - away
 
 
-def place_in_camera(name, place, points, disparities, window):
+def place_in_camera(
+    name: str, place: Place, points: Points, disparities: tuple[Ints, Flags], window: int
+) -> tuple[float, float, float]:
     """The point of the camera's frame that a place of the rectified picture shows."""
     x, y = place
     values, filled = disparities
@@ -101,7 +117,7 @@ def place_in_camera(name, place, points, disparities, window):
 # Control points
 
 
-def read_points(name):
+def read_points(name: str) -> dict[str, Control]:
     """For each line of the file the name, the place in the picture and the place in the site as decimals."""
     try:
         text = read_bytes(name).decode("utf-8-sig")
@@ -127,11 +143,11 @@ def read_points(name):
     return made
 
 
-def in_site(place, offset, what):
+def in_site(place: Sequence[decimal.Decimal], offset: tuple[int, int], what: str) -> list[float]:
     """Micrometres in the site's frame of a place in metres, from which an offset may have to go."""
     east, north, up = (it * 1000000 for it in place)
     found = [float(it) for it in (east - offset[0], north - offset[1], up)]
-    if max(map(abs, found)) > MOST_LENGTH:
+    if max(abs(it) for it in found) > MOST_LENGTH:
         raise Wrong(
             f"{what} is farther than 2 km from the site's origin:"
             " --offset with --map-coordinates takes an offset off",
@@ -140,13 +156,13 @@ def in_site(place, offset, what):
     return found
 
 
-def is_on_a_line(places):
+def is_on_a_line(places: Floats) -> bool:
     """Whether the points have next to no width."""
     values = numpy.linalg.svd(places - places.mean(axis=0), compute_uv=False)
-    return values[1] <= LEAST_WIDTH * values[0]
+    return bool(values[1] <= LEAST_WIDTH * values[0])
 
 
-def fitted(cameras, sites, hand=1):
+def fitted(cameras: Floats, sites: Floats, hand: int = 1) -> tuple[Floats, float]:
     """The rotation by least squares, or with a hand of -1 the rotation that mirrors, and how much longer the site's
     lengths are. """
     across, along = cameras - cameras.mean(axis=0), sites - sites.mean(axis=0)
@@ -156,13 +172,13 @@ def fitted(cameras, sites, hand=1):
     return vt.T @ numpy.diag(signs) @ u.T, (values * signs).sum() / (across**2).sum()
 
 
-def spread(cameras, sites, rotation):
+def spread(cameras: Floats, sites: Floats, rotation: Floats) -> float:
     """The root of the mean square of the residuals of a rotation and its best shift."""
     along = sites - sites.mean(axis=0) - (cameras - cameras.mean(axis=0)) @ rotation.T
     return math.sqrt((along**2).sum(axis=1).mean())
 
 
-def is_mirrored(cameras, sites, rotation, is_upwards):
+def is_mirrored(cameras: Floats, sites: Floats, rotation: Floats, is_upwards: bool) -> bool:
     """Whether the points fit far better as in a mirror. Nearly flat ones fit both ways: then it is the one
     in which the cameras look down on them."""
     mirrored, _ = fitted(cameras, sites, -1)
@@ -173,19 +189,20 @@ def is_mirrored(cameras, sites, rotation, is_upwards):
     return is_flat and not is_upwards and rotation[2, 2] < 0 < mirrored[2, 2]
 
 
-def rounded_pose(rotation, shift):
-    """The pose as a calibration has it, held against the program's rule. The shift is in micrometres, for the
-    rounded matrix."""
+def rounded_pose(rotation: Floats, middle: Floats, aim: Floats) -> Pose:
+    """The pose as a calibration has it, held against the program's rule: the rounded matrix takes the point
+    `middle` to `aim`, both in micrometres."""
     matrix = [max(-ONE, min(ONE, round(it * ONE))) for it in rotation.ravel().tolist()]
     if not is_nearly_rotation(matrix) or is_mirror(matrix):
         raise Wrong("the matrix isn't a rotation", OUT_OF_RANGE)
-    found = [round(it) for it in shift(numpy.array(matrix).reshape(3, 3) / ONE)]
-    if max(map(abs, found)) > MOST_LENGTH:
+    turned = (numpy.array(matrix).reshape(3, 3) / ONE) @ middle
+    found = [round(it) for it in (aim - turned).tolist()]
+    if max(abs(it) for it in found) > MOST_LENGTH:
         raise Wrong("the pose's shift is farther than 2 km from the site's origin", OUT_OF_RANGE)
     return Pose(matrix, *found)
 
 
-def pose_of_points(cameras, sites, is_upwards):
+def pose_of_points(cameras: Floats, sites: Floats, is_upwards: bool) -> tuple[Pose, float]:
     """The pose, and the scale that the points would want."""
     if len(cameras) < 3:
         raise Wrong(f"{len(cameras)} points, at least 3 are needed beside those of --check", TOO_FEW)
@@ -199,17 +216,18 @@ def pose_of_points(cameras, sites, is_upwards):
             MIRRORED,
         )
     middle, aim = cameras.mean(axis=0), sites.mean(axis=0)
-    return rounded_pose(rotation, lambda matrix: aim - matrix @ middle), scale
+    return rounded_pose(rotation, middle, aim), scale
 
 
-def residuals(pose, cameras, sites):
+def residuals(pose: Pose, cameras: Floats, sites: Floats) -> Floats:
     """Where the pose leads less where the points are, in millimetres."""
     matrix = numpy.array(pose.matrix).reshape(3, 3) / ONE
     shift = numpy.array([pose.east, pose.north, pose.up])
-    return (cameras @ matrix.T + shift - sites) / 1000
+    away: Floats = (cameras @ matrix.T + shift - sites) / 1000
+    return away
 
 
-def table(names, checks, away):
+def table(names: list[str], checks: list[str], away: Floats) -> Iterator[str]:
     """The lines about the residuals."""
     lines = [["point", "east", "north", "up", "length, mm", ""]]
     for name, row in zip(names, away):
@@ -226,14 +244,16 @@ def table(names, checks, away):
         yield "  ".join([*words, line[5]]).rstrip()
 
 
-def scale_line(scale, bound):
+def scale_line(scale: float, bound: float) -> Iterator[str]:
     parts, volume = (scale - 1) * 1e6, (scale**3 - 1) * 100
     yield f"the points want lengths {parts:+.0f} in a million, volumes {volume:+.2f} %"
     if abs(scale - 1) > bound:
         yield f"WARNING: that is more than --scale {bound:g} allows: the baseline or the calibration is off"
 
 
-def rectified_places(found, calibration, size):
+def rectified_places(
+    found: dict[str, Control], calibration: Json, size: Size
+) -> dict[str, Control]:
     """The places of the photograph as those of the rectified picture."""
     warp = Warp(warp_of(calibration, "left"), *size)
     made = {}
@@ -246,7 +266,7 @@ def rectified_places(found, calibration, size):
     return made
 
 
-def from_points(words, calibration, points):
+def from_points(words: argparse.Namespace, calibration: Json, points: Points) -> Pose:
     """The pose of control points; prints what they say of it."""
     disparities = read_disparities(words.disparities)
     found = read_points(words.points)
@@ -254,12 +274,13 @@ def from_points(words, calibration, points):
     if missing:
         raise Wrong(f"{words.points}: no point has the name {missing[0]}")
     if words.photograph:
-        found = rectified_places(found, calibration, disparities[0].shape[::-1])
+        height, width = disparities[0].shape
+        found = rectified_places(found, calibration, (width, height))
     names = list(found)
     places = [place_in_camera(it, found[it][0], points, disparities, words.window) for it in names]
     cameras = numpy.array(places, float).reshape(-1, 3)
-    sites = [in_site(found[it][1], words.taken_off, it) for it in names]
-    sites = numpy.array(sites, float).reshape(-1, 3)
+    known = [in_site(found[it][1], words.taken_off, it) for it in names]
+    sites = numpy.array(known, float).reshape(-1, 3)
     used = numpy.array([name not in words.check for name in names], bool)
     pose, scale = pose_of_points(cameras[used], sites[used], words.upwards)
     away = residuals(pose, cameras, sites)
@@ -278,7 +299,7 @@ def from_points(words, calibration, points):
 # Level ground
 
 
-def from_level(words, _, points):
+def from_level(words: argparse.Namespace, _: Json, points: Points) -> Pose:
     """The pose that makes the ground of some rectangles of the picture level."""
     values, filled = read_disparities(words.disparities)
     height, width = values.shape
@@ -295,16 +316,17 @@ def from_level(words, _, points):
         said = f"{int(chosen.sum())} pixels, of which {len(xs)} have a disparity"
         raise Wrong(f"--level: {said}: no half of them is of one plane", NO_PLACE)
     plane, kept = found
-    normal, away = camera_plane(plane, points)
-    if normal is None:
+    ground = camera_plane(plane, points)
+    if ground is None:
         raise Wrong("--level: the camera doesn't look down on the plane", NO_PLACE)
+    normal, away = ground
     north = numpy.array([0.0, 1.0, 0.0]) - normal[1] * normal
     north /= numpy.linalg.norm(north)
     rotation = numpy.stack([numpy.cross(north, normal), north, normal])
     mount = numpy.array([0.0, 0.0, points.mount])
     # The camera stands over the origin, as high above the level plane as it is above the sloping one.
     aim = numpy.array([0.0, 0.0, float(words.height * 1000000) + away])
-    pose = rounded_pose(rotation, lambda matrix: aim - matrix @ mount)
+    pose = rounded_pose(rotation, mount, aim)
     spread = numpy.sqrt(((values[ys, xs] - plane.at(xs, ys))[kept] ** 2).mean()) / 16
     tilt = math.degrees(math.acos(min(1, normal[2])))
     progress("")
@@ -313,7 +335,7 @@ def from_level(words, _, points):
     return pose
 
 
-def plane_through_all(xs, ys, values, needed):
+def plane_through_all(xs: Ints, ys: Ints, values: Ints, needed: int) -> tuple[Plane, Flags] | None:
     """The plane of most of the values, which may rise by much over their rectangles."""
     if len(values) < needed or min(numpy.ptp(xs), numpy.ptp(ys)) < 1:
         return None
@@ -328,7 +350,7 @@ def plane_through_all(xs, ys, values, needed):
     return plane, kept
 
 
-def camera_plane(plane, points):
+def camera_plane(plane: Plane, points: Points) -> tuple[Floats, float] | None:
     """The direction that stands upright on a plane of disparities, in the camera's frame, and how far the camera is
     from it in micrometres.
 
@@ -340,7 +362,7 @@ def camera_plane(plane, points):
     sums = p * points.focal / 256, -q * points.focal / 256, (p * points.cx + q * points.cy) / 256 + r
     length = math.hypot(*sums)
     if sums[2] <= 0:
-        return None, None
+        return None
     # The camera's frame counts h towards the camera, against Z.
     upright = numpy.array([-sums[0], -sums[1], sums[2]]) / length
     return upright, points.focal * points.baseline / length
@@ -349,7 +371,7 @@ def camera_plane(plane, points):
 # A known place
 
 
-def from_camera(words, _, points):
+def from_camera(words: argparse.Namespace, _: Json, points: Points) -> Pose:
     """The pose of a camera whose place is known and which looks at a point."""
     centre = numpy.array(in_site(words.camera, words.taken_off, "--camera"))
     ahead = numpy.array(in_site(words.look, words.taken_off, "--look")) - centre
@@ -371,10 +393,10 @@ def from_camera(words, _, points):
         -ahead,
     ]
     mount = numpy.array([0.0, 0.0, points.mount])
-    return rounded_pose(numpy.stack(columns, axis=1), lambda matrix: centre - matrix @ mount)
+    return rounded_pose(numpy.stack(columns, axis=1), mount, centre)
 
 
-def with_pose(calibration, pose):
+def with_pose(calibration: Json, pose: Pose) -> Json:
     """The calibration with the pose behind the camera."""
     made = {}
     for key, value in calibration.items():
@@ -388,7 +410,7 @@ def with_pose(calibration, pose):
 # An earlier one
 
 
-def pose_from(name, camera):
+def pose_from(name: str, camera: dict[str, int]) -> Json:
     """The section `pose` of an earlier calibration, which has to be of this camera."""
     earlier = read_json(name)
     pose = pose_of(earlier)

@@ -8,12 +8,12 @@ from sgm_tools.running import Wrong
 PROGRAM = os.path.normpath(os.path.join(os.path.dirname(os.path.abspath(__file__)), "..", "..", "sgm"))
 
 
-def given_program():
+def given_program() -> str:
     """The program where no word names one: that of the variable SGM, of this repository, or of the PATH."""
     return os.environ.get("SGM") or (PROGRAM if os.access(PROGRAM, os.X_OK) else "sgm")
 
 
-def run_program(program, *words):
+def run_program(program: str, *words: object) -> str:
     """What the program prints."""
     done = subprocess.run([program, *map(str, words)], stdin=subprocess.DEVNULL, capture_output=True, text=True)
     if done.returncode:

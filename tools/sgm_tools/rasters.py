@@ -1,11 +1,21 @@
 """Grids as GeoTIFF with a style, a hillshade and contours, by GDAL."""
 
+from __future__ import annotations
+
+import argparse
 import os
+from typing import TYPE_CHECKING, Any
 
 from sgm_tools import pictures
 from sgm_tools.exact import decimal
+from sgm_tools.grids import Grid
 from sgm_tools.grids import NO_DIFFERENCE, hundredths
+from sgm_tools.kinds import Colour
 from sgm_tools.running import Wrong, numpy, package, progress
+from sgm_tools.site import Site
+
+if TYPE_CHECKING:
+    from numpy.typing import NDArray
 
 gdal, ogr, osr = (package(f"osgeo.{name}") for name in ("gdal", "ogr", "osr"))
 NOTHING = -9999.0
@@ -34,7 +44,7 @@ QML = """<!DOCTYPE qgis PUBLIC 'http://mrcc.com/qgis.dtd' 'SYSTEM'>
 # The grid
 
 
-def system_of(site):
+def system_of(site: Site) -> Any:
     """The coordinate system of the site, or None."""
     if site.epsg is None:
         return None
@@ -49,12 +59,12 @@ def system_of(site):
     return system
 
 
-def metres(grid):
+def metres(grid: Grid) -> NDArray[numpy.float32]:
     """The heights in metres, of 32 bits."""
     return numpy.where(grid.filled, grid.heights / 1e6, NOTHING).astype(numpy.float32)
 
 
-def raster_of(grid, site, system, name):
+def raster_of(grid: Grid, site: Site, system: Any, name: str) -> Any:
     """The grid as a GeoTIFF of GDAL, in memory."""
     rows, cols = grid.heights.shape
     driver = gdal.GetDriverByName("GTiff")
@@ -77,7 +87,7 @@ def raster_of(grid, site, system, name):
 # The style
 
 
-def ramp_of(grid):
+def ramp_of(grid: Grid) -> list[tuple[int, Colour]]:
     """The values in micrometres and their colours, from low to high."""
     if grid.nothing == NO_DIFFERENCE:
         most = pictures.darkest_of(grid)
@@ -88,7 +98,7 @@ def ramp_of(grid):
     return [(low + (high - low) * at // last, colour) for at, colour in enumerate(pictures.SCALE)]
 
 
-def style_of(grid):
+def style_of(grid: Grid) -> str:
     """The text of the style."""
     ramp = [(decimal(value, 6), colour) for value, colour in ramp_of(grid)]
     items = [
@@ -101,13 +111,13 @@ def style_of(grid):
 # Hillshade and contours
 
 
-def make_hillshade(raster, name):
+def make_hillshade(raster: Any, name: str) -> None:
     """Light from the north-west at 45 degrees."""
     made = gdal.DEMProcessing(name, raster, "hillshade", computeEdges=True, creationOptions=CREATED[:1])
     made.FlushCache()
 
 
-def make_contours(raster, system, interval, name):
+def make_contours(raster: Any, system: Any, interval: str, name: str) -> None:
     """Lines of equal height."""
     driver = ogr.GetDriverByName(DRIVERS[os.path.splitext(name)[1].lower()])
     source = driver.CreateDataSource(name)
@@ -123,7 +133,7 @@ def make_contours(raster, system, interval, name):
 # Files
 
 
-def bytes_of(name):
+def bytes_of(name: str) -> bytes:
     """What GDAL has written into memory under that name."""
     file = gdal.VSIFOpenL(name, "rb")
     gdal.VSIFSeekL(file, 0, 2)
@@ -134,7 +144,7 @@ def bytes_of(name):
     return bytes(data)
 
 
-def write_from(folder, main, out):
+def write_from(folder: str, main: str, out: str) -> None:
     """Writes the file `main` of a folder in memory as `out`, and what stands with it there beside that."""
     for name in sorted(gdal.ReadDir(folder) or ()):
         path = out if name == main else os.path.splitext(out)[0] + os.path.splitext(name)[1]
@@ -143,11 +153,11 @@ def write_from(folder, main, out):
             file.write(bytes_of(f"{folder}/{name}"))
 
 
-def style_name(out):
+def style_name(out: str) -> str:
     return os.path.splitext(out)[0] + ".qml"
 
 
-def write_all(words, grid, site):
+def write_all(words: argparse.Namespace, grid: Grid, site: Site) -> None:
     system = system_of(site)
     raster = raster_of(grid, site, system, f"{MEMORY}/grid/made.tif")
     outs = [("grid", "made.tif", words.out)]

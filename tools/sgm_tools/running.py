@@ -4,6 +4,10 @@ What stands in the way is a Wrong, whose words become one line on standard error
 opened is an OSError.
 """
 
+from __future__ import annotations
+
+from collections.abc import Callable
+from typing import TYPE_CHECKING, Any, NoReturn
 import glob
 import importlib
 import os
@@ -18,7 +22,7 @@ DEBIAN_PACKAGES["selenium"] = "python3-selenium chromium chromium-driver"
 class Wrong(Exception):
     """What stands in the way, in words, and the status with which the tool then ends."""
 
-    def __init__(self, text, status=1):
+    def __init__(self, text: str, status: int = 1) -> None:
         super().__init__(text)
         self.status = status
 
@@ -26,7 +30,7 @@ class Wrong(Exception):
 # Packages
 
 
-def package(name):
+def package(name: str) -> Any:
     """The module of that name, or None where no package brings it.
 
     Debian's packages belong to Debian's Python. Where the python3 of the PATH is another one and lacks the
@@ -44,15 +48,20 @@ def package(name):
     return None
 
 
-numpy = package("numpy")
-Image = package("PIL.Image")
-ImageOps = package("PIL.ImageOps")
+if TYPE_CHECKING:
+    import numpy as numpy
+    from PIL import Image as Image
+    from PIL import ImageOps as ImageOps
+else:
+    numpy = package("numpy")
+    Image = package("PIL.Image")
+    ImageOps = package("PIL.ImageOps")
 if Image is not None:
     # Above so many Pillow warns and then refuses; large photographs have more than its own number.
     Image.MAX_IMAGE_PIXELS = 1 << 30
 
 
-def need(**modules):
+def need(**modules: object) -> None:
     """Stops where one of the modules, given by its name, is None."""
     missing = [name for name, module in modules.items() if module is None]
     if missing:
@@ -60,7 +69,7 @@ def need(**modules):
         raise Wrong(f"{' and '.join(missing)} of Python needed: apt-get install {packages} on Debian")
 
 
-def need_for_tests(**modules):
+def need_for_tests(**modules: object) -> None:
     """The same for tests by unittest, to be called by their setUpModule: one line, the status 1, and no traceback."""
     try:
         need(**modules)
@@ -71,11 +80,11 @@ def need_for_tests(**modules):
 # How a tool runs and ends
 
 
-def tool_name():
+def tool_name() -> str:
     return os.path.basename(sys.argv[0]).removesuffix(".py")
 
 
-def run(main):
+def run(main: Callable[[], int | None]) -> NoReturn:
     """Ends with the status of main; what it raises for a reason that can be said is one line and 1, or
     the status that it has for it."""
     try:
@@ -100,7 +109,7 @@ def run(main):
     sys.exit(status)
 
 
-def progress(what):
+def progress(what: str) -> None:
     """Shows on a terminal what is being done, in place of what was shown before; nothing elsewhere."""
     if sys.stderr is not None and sys.stderr.isatty():
         print(f"\r\033[K{what}", end="", file=sys.stderr, flush=True)

@@ -1,14 +1,18 @@
 """Lists of a series, and which of their entries have whole outputs."""
 
+from __future__ import annotations
+
 import functools
 import os
 import re
 import stat
-from typing import NamedTuple
+from collections.abc import Sequence
+from typing import Any, BinaryIO, NamedTuple
 
 from sgm_tools.calibrations import regions_in, whole
-from sgm_tools.files import PGM_HEAD, read_json
+from sgm_tools.files import head_in, pgm_head, read_json
 from sgm_tools.grids import NO_HEIGHT
+from sgm_tools.kinds import Size
 from sgm_tools.reports import read_report
 from sgm_tools.running import Wrong
 
@@ -33,14 +37,14 @@ class Entry(NamedTuple):
     calib: bytes
     out: bytes
 
-    def inputs(self):
+    def inputs(self) -> set[bytes]:
         return {self.left, self.right} | (set() if self.calib == b"-" else {self.calib})
 
-    def outputs(self):
+    def outputs(self) -> set[bytes]:
         return {self.out + ending for ending in ENDINGS}
 
 
-def first_clash(entries, name):
+def first_clash(entries: Sequence[Entry], name: bytes) -> int | None:
     """The number of the first entry that writes what another one reads or writes, or is read itself, or the list."""
     written = set().union(*(entry.outputs() for entry in entries))
     outs = set()
@@ -51,7 +55,7 @@ def first_clash(entries, name):
     return None
 
 
-def read_list(name):
+def read_list(name: str) -> list[Entry]:
     """The entries of the list, or a Wrong with the program's words on its first fault."""
     with open(name, "rb") as file:
         data = file.read(LONGEST_LIST + 1)
@@ -78,26 +82,26 @@ def read_list(name):
 # The files
 
 
-def file_name(word):
+def file_name(word: bytes) -> str:
     """The word as Python's functions take a name; its bytes are those of the word in each locale."""
     if b"\0" in word:
         raise Wrong(f"{os.fsdecode(word)!r}: no file has such a name")
     return os.fsdecode(word)
 
 
-def open_file(name):
+def open_file(name: str) -> BinaryIO:
     """The file, open for reading. What is no file isn't waited for."""
     if not stat.S_ISREG(os.stat(name).st_mode):
         raise Wrong(f"{name}: not a file")
     return open(name, "rb")
 
 
-def sides(name):
+def sides(name: str) -> Size:
     """The width and height of an input picture."""
     with open_file(name) as file:
         data = file.read(USUAL_HEAD)
-        head = PGM_HEAD.match(data) or PGM_HEAD.match(data + file.read())
-    if not head or max(len(number.lstrip(b"0")) for number in head.groups()) > 9:
+        head = head_in(data) or head_in(data + file.read())
+    if not head:
         raise Wrong(f"{name}: not a binary PGM")
     return int(head[1]), int(head[2])
 
@@ -105,14 +109,14 @@ def sides(name):
 class Wanted(NamedTuple):
     """What a calibration asks for: the head of OUT.asc, its columns and rows, and the names of the regions."""
 
-    head: bytes = None
-    cols: int = None
-    rows: int = None
-    regions: list = None
+    head: bytes | None = None
+    cols: int = 0
+    rows: int = 0
+    regions: list[Any] | None = None
 
 
 @functools.lru_cache(maxsize=None)
-def wanted_by(calib):
+def wanted_by(calib: bytes) -> Wanted:
     if calib == b"-":
         return Wanted()
     name = file_name(calib)
@@ -121,15 +125,17 @@ def wanted_by(calib):
         if "grid" not in top and "regions" not in top:
             return Wanted()
         numbers = [whole(top, "grid", key) for _, key in GRID_KEYS]
-        regions = [it.get("name") for it in regions_in(top)] if "regions" in top else None
+        listed = regions_in(top) if "regions" in top else None
+        regions: list[Any] | None = None if listed is None else [it.get("name") for it in listed]
     except Wrong as error:
         raise Wrong(str(error) if str(error).startswith(name) else f"{name}: {error}")
     lines = [f"{word} {number}\n" for (word, _), number in zip(GRID_KEYS, numbers)]
-    return Wanted(f"{''.join(lines)}NODATA_value {NO_HEIGHT}\n".encode(), *numbers[:2], regions)
+    cols, rows = numbers[:2]
+    return Wanted(f"{''.join(lines)}NODATA_value {NO_HEIGHT}\n".encode(), cols, rows, regions)
 
 
-def check_disparities(name, width, height):
-    head = f"P5\n{width} {height}\n65535\n".encode()
+def check_disparities(name: str, width: int, height: int) -> None:
+    head = pgm_head(width, height, 65535)
     with open_file(name) as file:
         begin = file.read(len(head))
         length = os.fstat(file.fileno()).st_size
@@ -139,20 +145,20 @@ def check_disparities(name, width, height):
         raise Wrong(f"{name}: {length} of {len(head) + 2 * width * height} bytes")
 
 
-def check_grid(name, wanted):
+def check_grid(name: str, head: bytes, cols: int, wanted_rows: int) -> None:
     with open_file(name) as file:
-        if file.read(len(wanted.head)) != wanted.head:
+        if file.read(len(head)) != head:
             raise Wrong(f"{name}: not a grid of heights by this calibration")
         rows = 0
         for line in file:
-            if line.count(b" ") != wanted.cols - 1 or not ROW.fullmatch(line):
+            if line.count(b" ") != cols - 1 or not ROW.fullmatch(line):
                 raise Wrong(f"{name}: row {rows} is cut short or isn't one")
             rows += 1
-    if rows != wanted.rows:
-        raise Wrong(f"{name}: {rows} of {wanted.rows} rows")
+    if rows != wanted_rows:
+        raise Wrong(f"{name}: {rows} of {wanted_rows} rows")
 
 
-def check_report(name, regions):
+def check_report(name: str, regions: Sequence[str]) -> None:
     with open_file(name) as file:
         file.seek(max(0, os.fstat(file.fileno()).st_size - 1))
         is_ended = file.read() == b"\n"
@@ -164,7 +170,7 @@ def check_report(name, regions):
         raise Wrong(f"{name}: cut short")
 
 
-def fault(entry):
+def fault(entry: Entry) -> str | None:
     """Why an entry is left, or None where it is done."""
     try:
         width, height = sides(file_name(entry.left))
@@ -172,7 +178,7 @@ def fault(entry):
         out = file_name(entry.out)
         check_disparities(out + ".pgm", width, height)
         if wanted.head is not None:
-            check_grid(out + ".asc", wanted)
+            check_grid(out + ".asc", wanted.head, wanted.cols, wanted.rows)
         if wanted.regions is not None:
             check_report(out + ".csv", wanted.regions)
     except OSError as error:

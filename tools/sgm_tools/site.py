@@ -5,11 +5,14 @@ A calibration counts micrometres from a point of the site; its offset is what th
 coordinates in the map.
 """
 
+from __future__ import annotations
+
 import argparse
 import dataclasses
 import decimal
 import json
 import re
+from collections.abc import Callable
 
 from sgm_tools import exact
 from sgm_tools.files import read_bytes
@@ -26,9 +29,9 @@ class Site:
 
     east: int = 0
     north: int = 0
-    epsg: "int | None" = None
+    epsg: int | None = None
 
-    def text(self):
+    def text(self) -> str:
         """The text of site.json."""
         parts = []
         if self.east or self.north:
@@ -39,20 +42,23 @@ class Site:
         return "{" + ", ".join(parts) + "}\n"
 
 
-def micrometres(value):
+def micrometres(value: object) -> int | None:
     """Whole micrometres of a decimal number of metres; None where it isn't one."""
     if isinstance(value, bool) or not isinstance(value, (int, decimal.Decimal)):
         return None
-    if not abs(value) <= MOST_METRES:
+    metres = decimal.Decimal(value)
+    if not abs(metres) <= MOST_METRES:
         return None
-    return int((decimal.Decimal(value) * 1000000).to_integral_value(decimal.ROUND_HALF_EVEN))
+    return int((metres * 1000000).to_integral_value(decimal.ROUND_HALF_EVEN))
 
 
-def is_code(value):
-    return type(value) is int and LEAST_CODE <= value <= MOST_CODE
+def is_code(value: object) -> bool:
+    if isinstance(value, bool) or not isinstance(value, int):
+        return False
+    return LEAST_CODE <= value <= MOST_CODE
 
 
-def read_site(name):
+def read_site(name: str) -> Site:
     text = read_bytes(name)
     try:
         top = json.loads(text.decode("utf-8"), parse_float=decimal.Decimal)
@@ -81,14 +87,14 @@ def micrometres_word(word: str) -> int:
     return found
 
 
-def code_word(word):
+def code_word(word: str) -> int:
     found = re.fullmatch("(?i:epsg:)?([0-9]{4,7})", word)
     if not found or not is_code(int(found[1])):
         raise argparse.ArgumentTypeError(f"{word} isn't a code of EPSG")
     return int(found[1])
 
 
-def add_words(option, site):
+def add_words(option: Callable[..., object], site: str) -> None:
     """The options that say where the site lies; `site` is the help of --site."""
     option("--site", metavar="FILE.json", help=site)
     offset = "what the frame's origin has for coordinates in the map, in metres (0 0)"
@@ -97,7 +103,7 @@ def add_words(option, site):
     option("--epsg", type=code_word, metavar="CODE", help=epsg)
 
 
-def site_of(words):
+def site_of(words: argparse.Namespace) -> Site:
     """The site that the words give: that of --site, but for what --offset and --epsg say."""
     site = read_site(words.site) if words.site is not None else Site()
     if words.offset is not None:

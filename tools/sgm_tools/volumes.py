@@ -1,11 +1,17 @@
 """Reports and volumes of changes in metres and cubic metres, exactly, and the volumes above the ground."""
 
+from __future__ import annotations
+
+import argparse
 import json
+from collections.abc import Iterable, Iterator, Sequence
+from typing import Any
 
 from sgm_tools.calibrations import check_grid, regions_in, whole
 from sgm_tools.exact import moved
 from sgm_tools.files import read_bytes
 from sgm_tools.grids import read_grid
+from sgm_tools.kinds import Flags, Ints, Json
 from sgm_tools.points import Points, pose_of
 from sgm_tools.regions import (
     found_in,
@@ -19,8 +25,12 @@ from sgm_tools.regions import (
     sixteenth_aslant,
     sixteenth_at,
 )
-from sgm_tools.reports import REPORT_NAMES, VOLUME_NAMES, names_in_report, read_report, read_volumes
+from sgm_tools.reports import Line, REPORT_NAMES, VOLUME_NAMES, names_in_report, read_report, read_volumes
 from sgm_tools.running import Wrong
+
+# The lines of a table, and the numbers of a report's line: region, cells, empty, fill, cut, lowest, highest.
+Table = Sequence[Sequence[object]]
+Region = Sequence[Any]
 
 COUNTS = ("cells", "bridged", "empty")
 NEW_HEAD = ["fill_m3", "cut_m3", "net_m3", "lowest_m", "highest_m"]
@@ -33,19 +43,21 @@ COVERED = (
 NEW_CHANGE_HEAD = ["both", "come", "gone", "empty", "fill_m3", "cut_m3", "net_m3"]
 
 
-def is_change(name):
+def is_change(name: str) -> bool:
     """Whether the file has the volumes of a change, and not a report."""
     with open(name, "rb") as file:
         return file.readline().split() == [",".join(VOLUME_NAMES).encode()]
 
 
-def change_table(volumes, digits):
+def change_table(volumes: dict[str, int], digits: int | None) -> Table:
     """The table of a change's volumes."""
     *counts, fill, cut = (volumes[key] for key in VOLUME_NAMES)
     return [NEW_CHANGE_HEAD, [*counts, *(moved(volume, 18, digits) for volume in (fill, cut, fill - cut))]]
 
 
-def table(names, lines, digits):
+def table(
+    names: Sequence[str], lines: Iterable[Line], digits: int | None
+) -> Iterator[list[object]]:
     """The table in metres and cubic metres, of a report with these names."""
     counts = [name for name in COUNTS if name in names]
     yield ["region", *counts, *NEW_HEAD]
@@ -60,17 +72,17 @@ def table(names, lines, digits):
 # Above the ground
 
 
-def size_of(area, calibration):
+def size_of(area: Json, calibration: Json) -> int:
     """How many cells of the region count."""
     if outline_of(area) is None:
-        return area["cols"] * area["rows"]
+        return int(area["cols"] * area["rows"])
     return number_of_cells(area, grid_in(calibration))
 
 
 class Survey:
     """What the calibration says of the report: the side of a cell, and the regions with their bases."""
 
-    def __init__(self, name):
+    def __init__(self, name: str) -> None:
         complaint = f"{name}: not a calibration of sgm with regions"
         try:
             self.whole = top = json.loads(read_bytes(name).decode("utf-8", "replace"))
@@ -84,7 +96,7 @@ class Survey:
         if not all(type(number) is int for number in [self.cell, *self.bases, *self.sizes]) or self.cell < 1:
             raise Wrong(complaint)
 
-    def is_of(self, regions):
+    def is_of(self, regions: Sequence[Region]) -> bool:
         """Whether the report can be one of this calibration's."""
         names = [name for name, *_ in regions]
         sizes = [cells + empty for _, cells, empty, *_ in regions]
@@ -92,20 +104,20 @@ class Survey:
         return (names, sizes) == (self.names, self.sizes) and all(volume % self.cell**2 == 0 for volume in volumes)
 
 
-def mean_height(region, base, cell):
+def mean_height(region: Region, base: int, cell: int) -> int:
     """The mean height of the region's cells, to the nearest micrometre, halves up."""
     _, cells, _, fill, cut, _, _ = region
     above = (fill - cut) // cell**2
-    return base + (2 * above + cells) // (2 * cells)
+    return base + int((2 * above + cells) // (2 * cells))
 
 
-def net_above(region, base, cell, height):
+def net_above(region: Region, base: int, cell: int, height: int) -> int:
     """The region's volume above that height, less what is missing below it, in cubic micrometres."""
     _, cells, _, fill, cut, _, _ = region
-    return fill - cut + (base - height) * cells * cell * cell
+    return int(fill - cut + (base - height) * cells * cell * cell)
 
 
-def ground_in(regions, name):
+def ground_in(regions: Sequence[Region], name: str) -> int:
     """Which of the regions is the ground."""
     grounds = [number for number, region in enumerate(regions) if region[0] == name]
     if len(grounds) != 1:
@@ -115,13 +127,15 @@ def ground_in(regions, name):
     return grounds[0]
 
 
-def is_above(survey, number, ground):
+def is_above(survey: Survey, number: int, ground: int) -> bool:
     """Whether the region is one that is measured above the ground: another one whose base rises as
     the ground's."""
     return number != ground and survey.rises[number] == survey.rises[ground]
 
 
-def above_ground(regions, survey, ground, digits):
+def above_ground(
+    regions: Sequence[Region], survey: Survey, ground: int, digits: int | None
+) -> Iterator[list[str]]:
     """For each region the two words more."""
     height = mean_height(regions[ground], survey.bases[ground], survey.cell)
     for number, (region, base) in enumerate(zip(regions, survey.bases)):
@@ -129,7 +143,7 @@ def above_ground(regions, survey, ground, digits):
         yield [moved(height, 6, digits), volume if is_above(survey, number, ground) else ""]
 
 
-def is_of_heights(region, cell, found):
+def is_of_heights(region: Region, cell: int, found: tuple[Ints, Ints]) -> bool:
     """Whether a region's line can be one of these heights and bases."""
     name, cells, _, fill, cut, _, _ = region
     heights, bases = found
@@ -137,7 +151,9 @@ def is_of_heights(region, cell, found):
     return (cells, fill - cut) == (heights.size, above * cell * cell)
 
 
-def uncertain(regions, survey, ground, words):
+def uncertain(
+    regions: Sequence[Region], survey: Survey, ground: int, words: argparse.Namespace
+) -> Iterator[list[str]]:
     """For each region the third word."""
     try:
         grid = read_grid(words.heights)
@@ -161,7 +177,13 @@ def uncertain(regions, survey, ground, words):
         yield [moved(volume, 18, words.digits)]
 
 
-def sixteenth_of(number, regions, survey, ground, of_ground):
+def sixteenth_of(
+    number: int,
+    regions: Sequence[Region],
+    survey: Survey,
+    ground: int,
+    of_ground: tuple[int, Flags, argparse.Namespace],
+) -> int:
     """What a sixteenth of a pixel is in height on the ground of a region."""
     height, filled, words = of_ground
     keys = ("focal", "baseline", "mount")
@@ -178,10 +200,10 @@ def sixteenth_of(number, regions, survey, ground, of_ground):
     made = [sixteenth_aslant(it, plane, sides, points) for it in middles if it[0]]
     if None in made:
         raise Wrong(f"{words.calibration}: by its pose the camera doesn't look down on the ground")
-    return max(made)
+    return max(it for it in made if it is not None)
 
 
-def columns_above(regions, words):
+def columns_above(regions: Sequence[Region], words: argparse.Namespace) -> Iterator[Table]:
     """The columns that --ground asks for, each line with its words, the head first."""
     survey = Survey(words.calibration)
     try:
@@ -195,7 +217,7 @@ def columns_above(regions, words):
         yield [PLUS_MINUS_HEAD, *uncertain(regions, survey, ground, words)]
 
 
-def made(words):
+def made(words: argparse.Namespace) -> Table:
     """All lines of the table that the words ask for."""
     if is_change(words.file):
         if words.ground is not None:
@@ -203,7 +225,7 @@ def made(words):
         return change_table(read_volumes(words.file), words.digits)
     text = read_bytes(words.file).decode("ascii", "replace")
     lines = read_report(words.file)
-    blocks = [list(table(names_in_report(text, words.file), lines, words.digits))]
+    blocks: list[Table] = [list(table(names_in_report(text, words.file), lines, words.digits))]
     if words.ground is not None:
         regions = [[line[name] for name in REPORT_NAMES] for line in lines]
         blocks += columns_above(regions, words)

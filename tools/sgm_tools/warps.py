@@ -4,7 +4,15 @@ and which rectified place shows a place of the photograph.
 Needs numpy. Places are pixels, (0, 0) being the middle of the upper left one.
 """
 
+from __future__ import annotations
+
+from typing import TYPE_CHECKING, Any
+
+from sgm_tools.kinds import Floats, Ints, Json, Place, Samples
 from sgm_tools.running import Wrong, numpy
+
+if TYPE_CHECKING:
+    from numpy.typing import NDArray
 
 # How near the way back has to come, in pixels, after at most so many steps.
 NEAR_ENOUGH, MOST_STEPS = 1e-4, 60
@@ -14,12 +22,12 @@ MOST_ELEMENT = 1 << 40
 SPAN = 0.25
 
 
-def warp_of(calibration, side):
+def warp_of(calibration: Json, side: str) -> Json:
     """The side's warp, with all that its kind needs."""
     if "warp" not in calibration:
         return {"kind": "identity"}
     try:
-        warp = calibration["warp"][side]
+        warp: Json = calibration["warp"][side]
         if warp["kind"] == "identity":
             return warp
         if warp["kind"] == "projective":
@@ -33,7 +41,7 @@ def warp_of(calibration, side):
     raise Wrong(f"the calibration's warp of the {side} picture isn't one")
 
 
-def place(warp, x, y):
+def place(warp: Json, x: int, y: int) -> tuple[int, int]:
     """Where in the camera's picture the rectified pixel is taken from, in 1/256 of a pixel."""
     kind = warp["kind"]
     if kind == "identity":
@@ -57,9 +65,9 @@ def place(warp, x, y):
 class Warp:
     """One side's warp, as tools/check_trace.py gives it, for pictures of that size."""
 
-    def __init__(self, warp, width, height):
+    def __init__(self, warp: Json, width: int, height: int) -> None:
         self.warp, self.kind, self.size = warp, warp["kind"], (width, height)
-        if self.kind == "projective" and max(map(abs, warp["matrix"])) > MOST_ELEMENT:
+        if self.kind == "projective" and max(abs(it) for it in warp["matrix"]) > MOST_ELEMENT:
             raise Wrong("a matrix of the calibration is out of range")
         if self.kind == "mesh":
             step, cols, rows = (warp[key] for key in ("step", "cols", "rows"))
@@ -67,7 +75,7 @@ class Warp:
                 raise Wrong("a mesh of the calibration isn't made for pictures of this size")
             self.nodes = numpy.array(warp["nodes"], numpy.int64).reshape(rows, cols, 2)
 
-    def places(self, x, y):
+    def places(self, x: Ints, y: Ints) -> tuple[Ints, Ints]:
         """Where the rectified pixels are taken from, in 1/256 of a pixel: u and v, as the program rounds
         them. The pixels are arrays of whole numbers."""
         if self.kind == "identity":
@@ -78,12 +86,13 @@ class Warp:
             a = self.warp["matrix"]
             below = a[6] * x + a[7] * y + a[8]
             self.check_below(below)
-            return tuple(256 * (a[i] * x + a[i + 1] * y + a[i + 2]) // below for i in (0, 3))
+            u, v = (256 * (a[i] * x + a[i + 1] * y + a[i + 2]) // below for i in (0, 3))
+            return u, v
         step = self.warp["step"]
         blended = self.blended(x // step, y // step, x % step, y % step, step)
         return blended[..., 0] // step**2, blended[..., 1] // step**2
 
-    def place(self, x, y):
+    def place(self, x: float, y: float) -> Floats:
         """The same for any place, in pixels and not rounded."""
         if self.kind == "identity":
             return numpy.array([x, y], float)
@@ -96,13 +105,15 @@ class Warp:
         rows, cols, _ = self.nodes.shape
         # Beside the nodes the outermost cells go on.
         col, row = (min(max(int(it // step), 0), most - 2) for it, most in ((x, cols), (y, rows)))
-        return self.blended(col, row, x - col * step, y - row * step, step) / (256 * step**2)
+        blended = self.blended(col, row, x - col * step, y - row * step, step)
+        made: Floats = blended / (256 * step**2)
+        return made
 
-    def check_below(self, below):
+    def check_below(self, below: NDArray[Any]) -> None:
         if (below <= 0).any():
             raise Wrong("a matrix of the calibration has a denominator that isn't positive")
 
-    def blended(self, col, row, a, b, step):
+    def blended(self, col: Any, row: Any, a: Any, b: Any, step: int) -> NDArray[Any]:
         """Of four nodes of the mesh, step * step times what lies between them."""
         corners = (
             (self.nodes[row, col], (step - a) * (step - b)),
@@ -110,9 +121,10 @@ class Warp:
             (self.nodes[row + 1, col], (step - a) * b),
             (self.nodes[row + 1, col + 1], a * b),
         )
-        return sum(node * numpy.asarray(weight)[..., None] for node, weight in corners)
+        parts = [node * numpy.asarray(weight)[..., None] for node, weight in corners]
+        return numpy.asarray(sum(parts))
 
-    def rectified(self, samples, xs, ys):
+    def rectified(self, samples: Samples, xs: Ints, ys: Ints) -> Ints:
         """The rectified picture's values at these pixels, and -1 where it is void."""
         u, v = self.places(xs, ys)
         (left, to_right), (top, to_bottom) = divmod(u, 256), divmod(v, 256)
@@ -126,7 +138,7 @@ class Warp:
                 total += across * down * near.astype(numpy.int64)
         return numpy.where(is_void, -1, total // 65536)
 
-    def back(self, u, v):
+    def back(self, u: float, v: float) -> Place | None:
         """The rectified place that shows the place (u, v) of the photograph, or None.
 
         A warp leads from the rectified picture to the photograph. The way back begins at the one of a
@@ -144,7 +156,7 @@ class Warp:
             off = wanted - self.place(*at)
             if numpy.hypot(*off) <= NEAR_ENOUGH:
                 is_inside = -0.5 <= at[0] <= width - 0.5 and -0.5 <= at[1] <= height - 0.5
-                return tuple(map(float, at)) if is_inside else None
+                return (float(at[0]), float(at[1])) if is_inside else None
             slopes = [self.place(*(at + it)) - self.place(*(at - it)) for it in SPAN * numpy.eye(2)]
             try:
                 step = numpy.linalg.solve(numpy.array(slopes).T / (2 * SPAN), off)

@@ -5,7 +5,9 @@ A reader gives what a word means, or raises what argparse makes a message and th
 
 import argparse
 import decimal
+import importlib.metadata
 import re
+import sys
 from collections.abc import Callable, Container
 
 # Decimals that the tables in metres are written with at most.
@@ -84,6 +86,30 @@ def sides_word(
 
 
 # Words
+
+
+def parser_of(
+    text: str | None, example: str, also: tuple[str, ...] = ()
+) -> argparse.ArgumentParser:
+    """A parser whose --help begins with the first paragraph of a script's text, and with those that begin
+    as `also` says, and ends with the example, which stays as it is where it has several lines."""
+    first, *others = (text or "").split("\n\n")
+    said = "\n\n".join([first, *(it for it in others if also and it.startswith(also))])
+    layout = argparse.RawDescriptionHelpFormatter if "\n" in example else argparse.HelpFormatter
+    return argparse.ArgumentParser(
+        description=as_installed(said), epilog=as_installed(example), formatter_class=layout
+    )
+
+
+def as_installed(text: str) -> str:
+    """The text with the names under which pip installs the scripts, where they are installed so."""
+    if "sgm_tools.commands" not in sys.modules:
+        return text
+    for it in importlib.metadata.entry_points(group="console_scripts"):
+        module, _, name = it.value.partition(":")[0].rpartition(".")
+        if module == "sgm_tools.commands":
+            text = text.replace(f"tools/{name}.py", it.name)
+    return text.replace("./sgm ", "sgm ")
 
 
 def add_pair(parser: argparse.ArgumentParser) -> None:
