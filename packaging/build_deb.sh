@@ -126,7 +126,11 @@ libc=$(objdump -T "${binaries[@]}" | grep -o 'GLIBC_[0-9.]*' | sort -uV | tail -
 
 # The tools, under names of their own, and what comes with them. Installed text names them so.
 
-git ls-files tools | grep -vE '/test_' | while read -r file; do put 644 "$usr/share/sgm/tools" "$file"; done
+# Tests stay out, and what pip needs.
+left_out='/(test_[^/]*|setup\.py|pyproject\.toml|py\.typed)$'
+git ls-files tools | grep -vE "$left_out" | while read -r file; do
+    put 644 "$usr/share/sgm/$(dirname "$file")" "$file"
+done
 git ls-files examples | grep -vE '/(accuracy|settings)\.py$' | while read -r file; do
     put 644 "$usr/share/sgm/$(dirname "$file")" "$file"
 done

@@ -51,8 +51,11 @@ pose_cases          -           tests/pose_cases.py --check
 large_pair          -           tests/large_pair.py
 edits_apply         -           tests/edits.py --apply
 cubic_metres        pictures    tools/test_cubic_metres.py
-sgm_files           pictures    tools/test_sgm_files.py
-sgm_regions         pictures    tools/test_sgm_regions.py
+files               pictures    tools/test_files.py
+regions             pictures    tools/test_regions.py
+surveys             pictures    tools/test_surveys.py
+installed           pictures,pip    tools/test_installed.py
+types               pictures,mypy   tests/types.sh
 slope_heap          pictures    tests/slope_heap.py
 stretch             pictures    tools/test_stretch.py
 heights_picture     pictures    tools/test_heights_picture.py
@@ -164,6 +167,12 @@ need() {
         packages="dpkg-dev lintian binutils gcc libc6-dev xz-utils man-db mmdebstrap"
         ;;
     shellcheck) commands=shellcheck ;;
+    mypy) commands=mypy packages="mypy python3-pyflakes" ;;
+    pip)
+        /usr/bin/python3 -c "import pip, setuptools, wheel" 2>/dev/null ||
+            printf "pip, setuptools and wheel for Python\tpython3-pip python3-setuptools python3-wheel\n"
+        return
+        ;;
     esac
     for command in $commands; do
         command -v "$command" >/dev/null || { printf '%s\t%s\n' "$command" "$packages" && return; }

@@ -155,6 +155,9 @@ class Repository:
         for folder, inner, names in os.walk(self.top):
             inner[:] = [name for name in inner if name not in UNKEPT]
             bases |= set(names)
+            # A package of Python is named by its folder.
+            if "__init__.py" in names:
+                bases.add(os.path.basename(folder))
             for name in names:
                 path = os.path.join(folder, name)
                 is_source = name.endswith(SOURCES) or "." not in name

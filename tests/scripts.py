@@ -21,7 +21,7 @@ sys.path.insert(0, os.path.join(TOP, "tools"))
 
 from sgm_tools import running
 
-FOLDERS = ["tests", "tools", "bench", "packaging", "examples/pair", "examples/photographs", "examples/stockpile"]
+FOLDERS = ["tests", "tools", "tools/sgm_tools", "bench", "packaging", "examples/pair", "examples/photographs", "examples/stockpile"]
 FOLDERS += ["examples/slope"]
 # They take the words of the programs and no others; the programs have no --help either.
 REFERENCES = ["tests/reference.py", "tests/quick_reference.py", "tests/reference_series.py"]

@@ -31,7 +31,6 @@ of that picture and the others in metres. A calibration without a grid gives a p
 OUT.pgm is read then. Needs numpy and Pillow.
 """
 
-import argparse
 import base64
 import dataclasses
 import datetime
@@ -46,6 +45,7 @@ from sgm_tools import regions as sgm_regions
 from sgm_tools.calibrations import whole
 from sgm_tools.points import Points
 from sgm_tools.running import Image, Wrong, numpy
+from sgm_tools.words import parser_of
 
 TEMPLATE = os.path.join(os.path.dirname(os.path.realpath(__file__)), "survey_page.html")
 MOST_CELLS = 4_000_000
@@ -402,7 +402,7 @@ def page(title, known):
 
 def main():
     epilog = "Example: tools/survey_page.py /tmp/heap --calib calibration.json --left left.pgm"
-    parser = argparse.ArgumentParser(description=__doc__.split("\n\n")[0], epilog=epilog)
+    parser = parser_of(__doc__, epilog)
     parser.add_argument("survey", metavar="OUT", help="the last word of the match, or of the change")
     calib = "the calibration of that match, or of either match of the change"
     parser.add_argument("--calib", required=True, metavar="FILE.json", help=calib)
@@ -429,5 +429,9 @@ def main():
     print(f"{name}: {len(text) // 1000 + 1} kB")
 
 
-if __name__ == "__main__":
+def command():
     running.run(main)
+
+
+if __name__ == "__main__":
+    command()

@@ -19,7 +19,7 @@ import unittest
 import zlib
 
 import survey_page as tool
-import test_sgm_regions as rows
+import test_regions as rows
 from sgm_tools import exact, files, grids, pictures, reports, running
 from sgm_tools import points as sgm_points
 from sgm_tools import regions as sgm_regions
@@ -478,8 +478,8 @@ class Refused(Heap):
 
 class Reduced(unittest.TestCase):
     def test_blocks(self):
-        for rows, cols, block in ((2000, 2000, 1), (2000, 2001, 2), (4096, 4096, 3), (1, 4096, 1)):
-            self.assertEqual(tool.block_of(rows, cols), block)
+        for height, width, block in ((2000, 2000, 1), (2000, 2001, 2), (4096, 4096, 3), (1, 4096, 1)):
+            self.assertEqual(tool.block_of(height, width), block)
 
     def test_highest(self):
         heights = numpy.array([[1, 2, EMPTY], [3, -4, EMPTY], [-7, -9, 5]])

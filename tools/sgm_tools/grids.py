@@ -7,7 +7,7 @@ import dataclasses
 import re
 
 from sgm_tools.files import read_bytes
-from sgm_tools.kinds import Flags, Ints
+from sgm_tools.kinds import Flags, Floats, Ints
 from sgm_tools.running import Wrong, need, numpy
 
 GRID_NAMES = (b"ncols", b"nrows", b"xllcorner", b"yllcorner", b"cellsize", b"nodata_value")
@@ -30,6 +30,11 @@ class Grid:
     heights: Ints
     filled: Flags
     nothing: int = NO_HEIGHT
+
+    def metres(self) -> Floats:
+        """The heights, or the differences, in metres, with NaN where a cell has none."""
+        made: Floats = numpy.where(self.filled, self.heights / 1e6, numpy.nan)
+        return made
 
 
 def read_grid(name: str) -> Grid:

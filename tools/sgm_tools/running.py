@@ -6,17 +6,22 @@ opened is an OSError.
 
 from __future__ import annotations
 
-from collections.abc import Callable
-from typing import TYPE_CHECKING, Any, NoReturn
 import glob
 import importlib
 import os
 import sys
+from collections.abc import Callable
+from typing import TYPE_CHECKING, Any, NoReturn
 
 DEBIAN_PYTHON = "/usr/bin/python3"
 DEBIAN_PACKAGES = {"numpy": "python3-numpy", "PIL": "python3-pil", "cv2": "python3-opencv"}
 DEBIAN_PACKAGES["GDAL"] = "python3-gdal"
 DEBIAN_PACKAGES["selenium"] = "python3-selenium chromium chromium-driver"
+# The same for pip.
+PIP_PACKAGES = {"numpy": "numpy", "PIL": "pillow", "cv2": "opencv-python-headless", "GDAL": "gdal"}
+HERE = os.path.dirname(os.path.abspath(__file__))
+# Whether the package stands beside the scripts, as in a checkout and in Debian's package, and wasn't installed by pip.
+IS_BESIDE_SCRIPTS = os.path.exists(os.path.join(HERE, "..", "stretch.py"))
 
 
 class Wrong(Exception):
@@ -34,7 +39,7 @@ def package(name: str) -> Any:
     """The module of that name, or None where no package brings it.
 
     Debian's packages belong to Debian's Python. Where the python3 of the PATH is another one and lacks the
-    package, and Debian's has it, the script starts anew with Debian's.
+    package, and Debian's has it, a script that stands beside this package starts anew with Debian's.
     """
     try:
         return importlib.import_module(name)
@@ -43,7 +48,7 @@ def package(name: str) -> Any:
     is_debian = os.path.realpath(sys.executable) == os.path.realpath(DEBIAN_PYTHON)
     top = name.partition(".")[0]
     found = glob.glob(f"/usr/lib/python3/dist-packages/{top}") + glob.glob(f"/usr/lib/python3/dist-packages/{top}.*so")
-    if found and not is_debian and os.access(DEBIAN_PYTHON, os.X_OK):
+    if IS_BESIDE_SCRIPTS and found and not is_debian and os.access(DEBIAN_PYTHON, os.X_OK):
         os.execv(DEBIAN_PYTHON, [DEBIAN_PYTHON, *sys.orig_argv[1:]])
     return None
 
@@ -65,8 +70,10 @@ def need(**modules: object) -> None:
     """Stops where one of the modules, given by its name, is None."""
     missing = [name for name, module in modules.items() if module is None]
     if missing:
-        packages = " ".join(DEBIAN_PACKAGES[name] for name in missing)
-        raise Wrong(f"{' and '.join(missing)} of Python needed: apt-get install {packages} on Debian")
+        names = DEBIAN_PACKAGES if IS_BESIDE_SCRIPTS else PIP_PACKAGES
+        packages = " ".join(names[name] for name in missing)
+        how = f"apt-get install {packages} on Debian" if IS_BESIDE_SCRIPTS else f"pip install {packages}"
+        raise Wrong(f"{' and '.join(missing)} of Python needed: {how}")
 
 
 def need_for_tests(**modules: object) -> None:

@@ -88,17 +88,20 @@ def sides_word(
 # Words
 
 
-def parser_of(
-    text: str | None, example: str, also: tuple[str, ...] = ()
-) -> argparse.ArgumentParser:
+class Parser(argparse.ArgumentParser):
+    """A parser whose --help names the scripts as they are called where pip has installed them."""
+
+    def format_help(self) -> str:
+        return as_installed(super().format_help())
+
+
+def parser_of(text: str | None, example: str, also: tuple[str, ...] = ()) -> Parser:
     """A parser whose --help begins with the first paragraph of a script's text, and with those that begin
     as `also` says, and ends with the example, which stays as it is where it has several lines."""
     first, *others = (text or "").split("\n\n")
     said = "\n\n".join([first, *(it for it in others if also and it.startswith(also))])
     layout = argparse.RawDescriptionHelpFormatter if "\n" in example else argparse.HelpFormatter
-    return argparse.ArgumentParser(
-        description=as_installed(said), epilog=as_installed(example), formatter_class=layout
-    )
+    return Parser(description=said, epilog=example, formatter_class=layout)
 
 
 def as_installed(text: str) -> str:

@@ -1,5 +1,5 @@
 #!/usr/bin/env python3
-"""Tries sgm_regions.py: bases and outlines whose answers were worked out elsewhere, the same drawn
+"""Tries the regions of the package: bases and outlines whose answers were worked out elsewhere, the same drawn
 at random from the definitions' own words, planes, and what plus or minus comes to."""
 
 import random
