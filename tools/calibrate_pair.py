@@ -55,7 +55,7 @@ def words_of() -> argparse.Namespace:
 def main() -> None:
     words = words_of()
     need(numpy=numpy, PIL=Image, cv2=cv2)
-    left, right, size = pairs_with_boards(words)
+    left, right, size = pairs_with_boards(words.left, words.right, words.board)
     try:
         parts, errors = calibrate(left, right, places_of(words.board, words.square), size, words.k3)
     except cv2.error as error:

@@ -52,7 +52,7 @@ import csv
 import sys
 
 from sgm_tools.running import need, numpy, progress, run
-from sgm_tools.volumes import COVERED, made
+from sgm_tools.volumes import COVERED, Ground, made
 from sgm_tools.words import add_digits, parser_of
 
 
@@ -73,7 +73,8 @@ def main() -> None:
         if words.ground is None:
             parser.error("--heights needs --ground")
         need(numpy=numpy)
-    lines = made(words)
+    asked = None if words.ground is None else Ground(words.ground, words.calibration, words.heights)
+    lines = made(words.file, asked, words.digits)
     progress("")
     if words.heights is not None:
         print(f"cubic_metres: {COVERED}", file=sys.stderr)

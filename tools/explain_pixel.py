@@ -23,11 +23,11 @@ for small pictures, a minute for large ones.
 
 from sgm_tools.certificates import Pair, calibration_of
 from sgm_tools.explanations import (
+    Question,
     check_certificates,
     directions_of,
     explain,
     explain_finer,
-    is_fine,
     maps_of,
     point_line,
 )
@@ -49,18 +49,18 @@ def main() -> None:
     pair = Pair(words.left, words.right, calibration)
     if words.x >= pair.left.width or words.y >= pair.left.height:
         raise Wrong(f"there is no pixel {words.x} {words.y}")
-    words.is_fine = is_fine(calibration)
-    before, after = maps_of(words, calibration)
+    asked = Question(words.left, words.right, words.calib, words.x, words.y, words.sgm)
+    before, after = maps_of(asked, calibration)
     value = before.at(words.x, words.y)
-    directions = directions_of(pair, words)
+    directions = directions_of(pair, asked)
     sums = [sum(it.paths[d] for it in directions) for d in range(pair.count)]
     chosen = sums.index(min(sums))
     indices = [d for d in (chosen - 1, chosen, chosen + 1) if 0 <= d < pair.count]
-    check_certificates(words.sgm, words, directions, indices, chosen)
-    lines = list(explain(pair, words, value, directions, indices, chosen))
-    if words.is_fine:
-        lines += explain_finer(pair, words, before, after)
-    lines += point_line(calibration, words, after.at(words.x, words.y))
+    check_certificates(asked, directions, indices, chosen)
+    lines = list(explain(pair, asked, value, directions, indices, chosen))
+    if pair.is_fine:
+        lines += explain_finer(pair, asked, before, after)
+    lines += point_line(calibration, asked, after.at(words.x, words.y))
     progress("")
     print("\n".join(lines))
 

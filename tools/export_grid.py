@@ -23,7 +23,7 @@ import os
 
 from sgm_tools.exact import decimal
 from sgm_tools.grids import read_grid
-from sgm_tools.rasters import DRIVERS, gdal, ogr, osr, style_name, write_all
+from sgm_tools.rasters import DRIVERS, Outputs, gdal, ogr, osr, style_name, write_all
 from sgm_tools.running import Wrong, need, numpy, progress, run
 from sgm_tools.site import add_words, micrometres_word, site_of
 from sgm_tools.words import parser_of
@@ -73,7 +73,8 @@ def main() -> None:
     for module in (gdal, ogr, osr):
         module.UseExceptions()
     try:
-        write_all(words, grid, site)
+        outputs = Outputs(words.out, words.hillshade, words.contours, words.interval)
+        write_all(outputs, grid, site)
     except RuntimeError as error:
         raise Wrong(f"{words.file}: GDAL: {' '.join(str(error).split())}") from None
     progress("")

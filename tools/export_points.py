@@ -41,7 +41,8 @@ def main() -> None:
     greys = None
     if words.left is not None:
         greys = greys_of(words.left, calibration, disparities[0].shape)
-    count = write_points(words, disparities, points, greys, site)
+    kind = "float" if words.float else "double"
+    count = write_points(words.out, disparities, points, greys, site, kind)
     progress("")
     print(f"{count} points")
 

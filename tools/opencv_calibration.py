@@ -140,7 +140,7 @@ def regions_of(words: argparse.Namespace) -> tuple[list[Json], list[str]]:
 def calibration(parts: Json, words: argparse.Namespace) -> tuple[Json, str]:
     """The calibration, and the lines about it."""
     r1, r2, p1, p2 = rectification(parts, words.centred, words.alpha)
-    camera = camera_of(p1, p2, MICROMETRES[words.unit], words)
+    camera = camera_of(p1, p2, MICROMETRES[words.unit], words.mount, words.near, words.far)
     span = disparities_of(camera, words.first, words.count)
     views, size = [View(parts["K1"], parts["D1"], r1, p1), View(parts["K2"], parts["D2"], r2, p2)], parts["size"]
     costs = cost(size, span["count"], words.grid, words.version)

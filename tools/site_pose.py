@@ -51,18 +51,114 @@ Needs numpy.
 import argparse
 import decimal
 import json
+import math
 import os
 import re
 from collections.abc import Callable
 from typing import NoReturn
 
 from sgm_tools.calibrations import calibration_text
-from sgm_tools.files import read_json
-from sgm_tools.points import Points
-from sgm_tools.poses import OLD_VERSION, from_camera, from_level, from_points, with_pose
+from sgm_tools.files import read_disparities, read_json
+from sgm_tools.kinds import Json
+from sgm_tools.points import Points, Pose
+from sgm_tools.poses import (
+    NO_PLACE,
+    OLD_VERSION,
+    TOO_FAR,
+    Fit,
+    aimed_pose,
+    camera_plane,
+    fit_of,
+    in_site,
+    level_pose,
+    place_in_camera,
+    plane_through_all,
+    read_points,
+    rectified_places,
+    scale_line,
+    table,
+    with_pose,
+)
 from sgm_tools.running import Wrong, need, numpy, progress, run
 from sgm_tools.site import Site, add_words
 from sgm_tools.words import metres_word, number_word, parser_of
+
+
+# The ways to a pose
+
+
+def from_points(words: argparse.Namespace, calibration: Json, points: Points) -> Pose:
+    """The pose of control points; prints what they say of it."""
+    disparities = read_disparities(words.disparities)
+    found = read_points(words.points)
+    missing = [name for name in words.check if name not in found]
+    if missing:
+        raise Wrong(f"{words.points}: no point has the name {missing[0]}")
+    if words.photograph:
+        height, width = disparities[0].shape
+        found = rectified_places(found, calibration, (width, height))
+    cameras, sites = {}, {}
+    for name, (place, _) in found.items():
+        cameras[name] = place_in_camera(name, place, points, disparities, words.window)
+    for name, (_, site) in found.items():
+        sites[name] = in_site(site, words.taken_off, name)
+    fit = fit_of(cameras, sites, words.check, words.upwards)
+    progress("")
+    lines = [*table(fit.names, words.check, fit.away), *scale_line(fit.scale, words.scale)]
+    print("\n".join(lines), flush=True)
+    check_lengths(words, fit)
+    return fit.pose
+
+
+def check_lengths(words: argparse.Namespace, fit: Fit) -> None:
+    """Stops where a point with a part in the pose lies too far from its place, and warns of a check point."""
+    lengths = fit.lengths()
+    for at in lengths.argsort()[::-1]:
+        name, length = fit.names[at], lengths[at]
+        if length > words.worst and name not in words.check:
+            said = f"{name} lies {length:.1f} mm from its place, --worst is {words.worst:g}"
+            raise Wrong(said, TOO_FAR)
+        if length > words.worst:
+            print(f"WARNING: the check point {name} lies {length:.1f} mm from its place")
+
+
+def from_level(words: argparse.Namespace, _: Json, points: Points) -> Pose:
+    """The pose that makes the ground of some rectangles of the picture level."""
+    values, filled = read_disparities(words.disparities)
+    height, width = values.shape
+    chosen = numpy.zeros(values.shape, bool)
+    for col, row, cols, rows in words.level:
+        if not (cols and rows and col + cols <= width and row + rows <= height):
+            said = f"{col},{row},{cols},{rows} isn't a rectangle of the picture's pixels"
+            raise Wrong(f"--level: {said}, which is {width} x {height}", NO_PLACE)
+        chosen[row : row + rows, col : col + cols] = True
+    ys, xs = numpy.nonzero(filled & chosen)
+    needed = max(3, int(chosen.sum() + 1) // 2)
+    found = plane_through_all(xs, ys, values[ys, xs], needed)
+    if found is None:
+        said = f"{int(chosen.sum())} pixels, of which {len(xs)} have a disparity"
+        raise Wrong(f"--level: {said}: no half of them is of one plane", NO_PLACE)
+    plane, kept = found
+    ground = camera_plane(plane, points)
+    if ground is None:
+        raise Wrong("--level: the camera doesn't look down on the plane", NO_PLACE)
+    pose = level_pose(ground, float(words.height * 1000000), points.mount)
+    normal, away = ground
+    spread = numpy.sqrt(((values[ys, xs] - plane.at(xs, ys))[kept] ** 2).mean()) / 16
+    tilt = math.degrees(math.acos(min(1, normal[2])))
+    progress("")
+    print(f"{int(kept.sum())} of {int(chosen.sum())} pixels lie within {spread:.3f} pixels of a plane")
+    print(f"the camera stands {away / 1e6:.3f} m above it and is tilted by {tilt:.2f} degrees")
+    return pose
+
+
+def from_camera(words: argparse.Namespace, _: Json, points: Points) -> Pose:
+    """The pose of a camera whose place is known and which looks at a point."""
+    centre = in_site(words.camera, words.taken_off, "--camera")
+    aim = in_site(words.look, words.taken_off, "--look")
+    if math.dist(centre, aim) < 1000:
+        raise Wrong("--look: the point isn't a millimetre away from the camera")
+    return aimed_pose(centre, aim, words.roll, points.mount)
 
 
 # Words

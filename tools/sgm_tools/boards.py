@@ -2,7 +2,6 @@
 
 from __future__ import annotations
 
-import argparse
 import os
 from collections.abc import Sequence
 from typing import TYPE_CHECKING
@@ -26,7 +25,7 @@ LONGEST_SIDE = 4096
 
 
 def pictures_of(paths: Sequence[str]) -> list[str]:
-    """The pictures that the words name, those of each folder sorted by name."""
+    """The pictures that are named, those of each folder sorted by name."""
     names = []
     for path in paths:
         if os.path.isdir(path):
@@ -148,18 +147,20 @@ def refuse_bad(errors: dict[str, float], shift: Floats, worst: float) -> None:
         raise Wrong("the second camera stands to the left of the first one: exchange --left and --right")
 
 
-def pairs_with_boards(words: argparse.Namespace) -> tuple[list[Corners], list[Corners], Size]:
+def pairs_with_boards(
+    left: Sequence[str], right: Sequence[str], board: Size
+) -> tuple[list[Corners], list[Corners], Size]:
     """The corners of the pairs in which both pictures show the board, and the pictures' size."""
-    lefts, rights = pictures_of(words.left), pictures_of(words.right)
+    lefts, rights = pictures_of(left), pictures_of(right)
     if len(lefts) != len(rights):
         raise Wrong(f"{len(lefts)} left and {len(rights)} right pictures: they belong together one by one")
-    found, size = boards_of(lefts + rights, words.board)
+    found, size = boards_of(lefts + rights, board)
     progress("")
     for name, corners in zip(lefts + rights, found):
         if corners is None:
             print(f"no board: {name}")
     both = [(a, alike(a, b)) for a, b in zip(found, found[len(lefts) :]) if a is not None and b is not None]
     if len(both) < LEAST_PAIRS:
-        across, down = words.board
+        across, down = board
         raise Wrong(f"{len(both)} pairs show a board of {across} x {down} inner corners, {LEAST_PAIRS} needed")
     return [a for a, _ in both], [b for _, b in both], size

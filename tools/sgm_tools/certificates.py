@@ -112,6 +112,7 @@ class Pair:
         self.window = [whole(calibration, "census", key) for key in ("width", "height")]
         self.p1, self.p2 = (whole(calibration, "penalties", key) for key in ("p1", "p2"))
         self.follows = calibration["penalties"].get("adapt", False)
+        self.is_fine = calibration["disparities"].get("fine") is True
         if self.count < 1 or not all(side > 0 and side % 2 == 1 for side in self.window):
             raise Wrong("the calibration has no disparities, or a window without a middle")
         self.left, self.right = (

@@ -2,7 +2,6 @@
 
 from __future__ import annotations
 
-import argparse
 from collections.abc import Callable, Iterator, Sequence
 
 from sgm_tools.exact import decimal
@@ -79,22 +78,22 @@ def vertices(place: Sequence[Ints], greys: Greys | None, kind: str, site: Site) 
 
 
 def write_points(
-    words: argparse.Namespace,
+    out: str,
     disparities: tuple[Ints, Flags],
     points: Points,
     greys: Callable[[Ints, Ints], Greys] | None,
     site: Site,
+    kind: str = "double",
 ) -> int:
-    """Writes the file; how many points it has."""
-    kind = "float" if words.float else "double"
+    """Writes the file; how many points it has. Coordinates are `double`, or `float` without the site's offset."""
     progress("counting")
     count = sum(len(xs) for xs, *_ in bands(*disparities, points))
-    with open(words.out, "wb") as file:
+    with open(out, "wb") as file:
         file.write(head_of(count, kind, greys is not None, site))
         for xs, ys, *place in bands(*disparities, points):
             if len(ys):
                 part = 100 * int(ys[0]) // len(disparities[0])
-                progress(f"writing {words.out}: {part} %")
+                progress(f"writing {out}: {part} %")
             shades = greys(xs, ys) if greys is not None else None
             file.write(vertices(place, shades, kind, site))
     return count

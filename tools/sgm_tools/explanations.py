@@ -3,7 +3,7 @@ disparity is made of, in lines of text."""
 
 from __future__ import annotations
 
-import argparse
+import dataclasses
 import json
 import os
 import tempfile
@@ -19,13 +19,25 @@ from sgm_tools.programs import run_program
 from sgm_tools.running import Wrong, progress
 
 
+@dataclasses.dataclass(frozen=True)
+class Question:
+    """The pixel that is asked about, both pictures, the calibration's file or -, and the program."""
+
+    left: str
+    right: str
+    calib: str
+    x: int
+    y: int
+    program: str
+
+
 class Map:
     """The disparities of a match: sixteenths above the first one."""
 
-    def __init__(self, words: argparse.Namespace, calib: str, folder: str) -> None:
+    def __init__(self, asked: Question, calib: str, folder: str) -> None:
         progress("matching")
         out = os.path.join(folder, "o")
-        run_program(words.sgm, "match", words.left, words.right, calib, out)
+        run_program(asked.program, "match", asked.left, asked.right, calib, out)
         self.values, self.filled = read_disparities(out + ".pgm")
 
     def at(self, x: int, y: int) -> int | None:
@@ -39,17 +51,17 @@ def is_fine(calibration: Json) -> bool:
     return calibration["disparities"].get("fine") is True
 
 
-def maps_of(words: argparse.Namespace, calibration: Json) -> tuple[Map, Map]:
+def maps_of(asked: Question, calibration: Json) -> tuple[Map, Map]:
     """What matches come to: without finer disparities, and as the calibration has it."""
     with tempfile.TemporaryDirectory(prefix="sgm-explain_pixel.") as folder:
-        made = Map(words, words.calib, folder)
+        made = Map(asked, asked.calib, folder)
         if not is_fine(calibration):
             return made, made
         other = {**calibration, "disparities": {**calibration["disparities"], "fine": False}}
         calib = os.path.join(folder, "c.json")
         with open(calib, "w", encoding="utf-8") as file:
             json.dump(other, file)
-        return Map(words, calib, folder), made
+        return Map(asked, calib, folder), made
 
 
 # Sums
@@ -77,17 +89,16 @@ class Direction:
         self.small, self.large = changes.count(1), sum(change > 1 for change in changes)
 
 
-def directions_of(pair: Pair, words: argparse.Namespace) -> list[Direction]:
+def directions_of(pair: Pair, asked: Question) -> list[Direction]:
     made = []
     for number, name in enumerate(DIRECTIONS):
         progress(f"adding up direction {number + 1} of {len(DIRECTIONS)}")
-        made.append(Direction(pair, name, words.x, words.y))
+        made.append(Direction(pair, name, asked.x, asked.y))
     return made
 
 
 def check_certificates(
-    program: str,
-    words: argparse.Namespace,
+    asked: Question,
     directions: list[Direction],
     indices: list[int],
     chosen: int,
@@ -96,8 +107,8 @@ def check_certificates(
     for number, direction in enumerate(directions):
         progress(f"checking direction {number + 1} of {len(directions)}")
         for d in indices:
-            place = (direction.name, words.x, words.y, d)
-            text = run_program(program, "trace", words.left, words.right, words.calib, *place)
+            place = (direction.name, asked.x, asked.y, d)
+            text = run_program(asked.program, "trace", asked.left, asked.right, asked.calib, *place)
             direction.check(d, text)
             if d == chosen:
                 direction.count(text)
@@ -163,7 +174,7 @@ def partner(pair: Pair, x: int, y: int, chosen: int) -> str:
 
 def explain(
     pair: Pair,
-    words: argparse.Namespace,
+    asked: Question,
     value: int | None,
     directions: list[Direction],
     indices: list[int],
@@ -171,7 +182,7 @@ def explain(
 ) -> Iterator[str]:
     sums = [sum(it.paths[d] for it in directions) for d in range(pair.count)]
     tried = f"{pair.first} to {pair.first + pair.count - 1}"
-    yield f"Pixel {words.x} {words.y}: disparities {tried} were tried, index 0 being the first."
+    yield f"Pixel {asked.x} {asked.y}: disparities {tried} were tried, index 0 being the first."
     yield "The lines of pixels that lead to it from eight sides, and what each index costs at their end:"
     yield ""
     yield from table(directions, indices, chosen)
@@ -180,7 +191,7 @@ def explain(
     yield "line before the pixel costs at least, which is the same for every index. The last three columns say"
     yield f"what the certificates of index {chosen} are made of: costs of pixels, changes by one, larger ones."
     yield ""
-    yield from smoothing(pair, words.x, words.y, chosen)
+    yield from smoothing(pair, asked.x, asked.y, chosen)
     yield f"Index {chosen}, disparity {pair.first + chosen}, has the least sum, {sums[chosen]}."
     yield from comparison(sums, chosen, pair.first)
     moved = offset(*sums[chosen - 1 : chosen + 2]) if 0 < chosen < pair.count - 1 else 0
@@ -188,12 +199,12 @@ def explain(
         where = "below" if moved < 0 else "above"
         yield f"The parabola through the three sums has its lowest point {abs(moved)}/16 {where} it."
     if value is None:
-        yield f"The program's picture has no disparity here: {partner(pair, words.x, words.y, chosen)}"
+        yield f"The program's picture has no disparity here: {partner(pair, asked.x, asked.y, chosen)}"
         return
     if value != 16 * chosen + moved:
         found, wanted = (sixteenths(it, pair.first) for it in (value, 16 * chosen + moved))
         raise Wrong(f"the program's picture has disparity {found} here, the sums ask for {wanted}")
-    found, without = sixteenths(value, pair.first), " without `fine`" if words.is_fine else ""
+    found, without = sixteenths(value, pair.first), " without `fine`" if pair.is_fine else ""
     has = f"that is what the program's picture has here{without}"
     yield f"So the disparity is {found}, in pixels, and {has}."
 
@@ -250,9 +261,9 @@ def mean_lines(mean: Mean, first: int) -> Iterator[str]:
     yield f"Their mean is {made}, in pixels, and that is what the program's picture has here."
 
 
-def explain_finer(pair: Pair, words: argparse.Namespace, before: Map, after: Map) -> Iterator[str]:
+def explain_finer(pair: Pair, asked: Question, before: Map, after: Map) -> Iterator[str]:
     """How the disparity of the first map becomes that of the second one."""
-    x, y, first = words.x, words.y, pair.first
+    x, y, first = asked.x, asked.y, pair.first
     own, found = before.at(x, y), after.at(x, y)
     if own is None and found is None:
         return
@@ -271,11 +282,11 @@ def explain_finer(pair: Pair, words: argparse.Namespace, before: Map, after: Map
     yield from mean_lines(mean, first)
 
 
-def point_line(calibration: Json, words: argparse.Namespace, value: int | None) -> Iterator[str]:
+def point_line(calibration: Json, asked: Question, value: int | None) -> Iterator[str]:
     if value is None or "camera" not in calibration:
         return
     points = Points(calibration)
-    point = points.of(words.x, words.y, value)
+    point = points.of(asked.x, asked.y, value)
     if point is None:
         beyond = ", or its height is out of range" if points.pose else ""
         yield f"It has no point: its distance is below `near` or above `far`, or none{beyond}."

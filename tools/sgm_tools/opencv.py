@@ -2,7 +2,6 @@
 
 from __future__ import annotations
 
-import argparse
 import math
 from collections.abc import Sequence
 from typing import Any
@@ -219,7 +218,7 @@ def rectification(parts: Json, is_centred: bool, alpha: float | None) -> Sequenc
 
 
 def camera_of(
-    p1: Floats, p2: Floats, micrometres: int, words: argparse.Namespace
+    p1: Floats, p2: Floats, micrometres: int, mount: int, near: int, far: int
 ) -> dict[str, int]:
     """The camera's keys. Both pictures have one focal length and one row of the principal point."""
     if not all(numpy.isfinite(p).all() and p[0, 0] > 0 for p in (p1, p2)):
@@ -241,9 +240,9 @@ def camera_of(
         # the right one. So its disparity is f B / Z less (cx2 - cx1), and what has to be added to a
         # disparity to make it f B / Z is the right principal point's column less the left one's.
         "doffs": round(256 * (p2[0][2] - p1[0][2])),
-        "mount": words.mount,
-        "near": words.near,
-        "far": words.far,
+        "mount": mount,
+        "near": near,
+        "far": far,
     }
 
 

@@ -2,33 +2,35 @@
 
 from __future__ import annotations
 
-import argparse
 import csv
+import dataclasses
 import decimal
 import io
 import math
 import re
-from collections.abc import Iterator, Sequence
+from collections.abc import Iterator, Mapping, Sequence
 from typing import Any
 
 from sgm_tools.calibrations import whole
-from sgm_tools.files import read_bytes, read_disparities, read_json
+from sgm_tools.files import read_bytes, read_json
 from sgm_tools.kinds import Flags, Floats, Ints, Json, Metres, Place, Size
 from sgm_tools.points import (
     CAMERA_FRAME,
     MOST_LENGTH,
     ONE,
+    Points,
     Pose,
     is_mirror,
     is_nearly_rotation,
     pose_of,
 )
-from sgm_tools.points import Points
-from sgm_tools.running import Wrong, numpy, progress
+from sgm_tools.running import Wrong, numpy
 from sgm_tools.warps import Warp, warp_of
 
 # A control point: its place in the picture, and that in the site in metres.
 Control = tuple[Place, Metres]
+# Three lengths in micrometres, not rounded.
+Length = Sequence[float]
 
 NO_PLACE, TOO_FEW, ON_A_LINE, MIRRORED, TOO_FAR, OLD_VERSION, OUT_OF_RANGE = range(3, 10)
 COLUMNS = ("name", "x", "y", "east", "north", "up")
@@ -266,73 +268,48 @@ def rectified_places(
     return made
 
 
-def from_points(words: argparse.Namespace, calibration: Json, points: Points) -> Pose:
-    """The pose of control points; prints what they say of it."""
-    disparities = read_disparities(words.disparities)
-    found = read_points(words.points)
-    missing = [name for name in words.check if name not in found]
-    if missing:
-        raise Wrong(f"{words.points}: no point has the name {missing[0]}")
-    if words.photograph:
-        height, width = disparities[0].shape
-        found = rectified_places(found, calibration, (width, height))
-    names = list(found)
-    places = [place_in_camera(it, found[it][0], points, disparities, words.window) for it in names]
-    cameras = numpy.array(places, float).reshape(-1, 3)
-    known = [in_site(found[it][1], words.taken_off, it) for it in names]
-    sites = numpy.array(known, float).reshape(-1, 3)
-    used = numpy.array([name not in words.check for name in names], bool)
-    pose, scale = pose_of_points(cameras[used], sites[used], words.upwards)
-    away = residuals(pose, cameras, sites)
-    progress("")
-    print("\n".join([*table(names, words.check, away), *scale_line(scale, words.scale)]), flush=True)
-    lengths = numpy.hypot(numpy.hypot(away[:, 0], away[:, 1]), away[:, 2])
-    for at in lengths.argsort()[::-1]:
-        if lengths[at] > words.worst and used[at]:
-            said = f"{names[at]} lies {lengths[at]:.1f} mm from its place, --worst is {words.worst:g}"
-            raise Wrong(said, TOO_FAR)
-        if lengths[at] > words.worst:
-            print(f"WARNING: the check point {names[at]} lies {lengths[at]:.1f} mm from its place")
-    return pose
+@dataclasses.dataclass(frozen=True)
+class Fit:
+    """The pose of control points, with the scale that they would want. `away` has for each name where the pose
+    leads less where the point is: east, north and up in millimetres."""
+
+    pose: Pose
+    scale: float
+    names: list[str]
+    away: Floats
+
+    def lengths(self) -> Floats:
+        """How far away the points are from their places."""
+        across = numpy.hypot(self.away[:, 0], self.away[:, 1])
+        made: Floats = numpy.hypot(across, self.away[:, 2])
+        return made
+
+
+def fit_of(
+    cameras: Mapping[str, Length], sites: Mapping[str, Length], checks: Sequence[str], is_upwards: bool
+) -> Fit:
+    """The fit of points by their names, in the camera's frame and in the site's. Those of `checks` have no part
+    in the pose."""
+    names = list(cameras)
+    ours = numpy.array([cameras[name] for name in names], float).reshape(-1, 3)
+    theirs = numpy.array([sites[name] for name in names], float).reshape(-1, 3)
+    used = numpy.array([name not in checks for name in names], bool)
+    pose, scale = pose_of_points(ours[used], theirs[used], is_upwards)
+    return Fit(pose, scale, names, residuals(pose, ours, theirs))
 
 
 # Level ground
 
 
-def from_level(words: argparse.Namespace, _: Json, points: Points) -> Pose:
-    """The pose that makes the ground of some rectangles of the picture level."""
-    values, filled = read_disparities(words.disparities)
-    height, width = values.shape
-    chosen = numpy.zeros(values.shape, bool)
-    for col, row, cols, rows in words.level:
-        if not (cols and rows and col + cols <= width and row + rows <= height):
-            said = f"{col},{row},{cols},{rows} isn't a rectangle of the picture's pixels"
-            raise Wrong(f"--level: {said}, which is {width} x {height}", NO_PLACE)
-        chosen[row : row + rows, col : col + cols] = True
-    ys, xs = numpy.nonzero(filled & chosen)
-    needed = max(3, int(chosen.sum() + 1) // 2)
-    found = plane_through_all(xs, ys, values[ys, xs], needed)
-    if found is None:
-        said = f"{int(chosen.sum())} pixels, of which {len(xs)} have a disparity"
-        raise Wrong(f"--level: {said}: no half of them is of one plane", NO_PLACE)
-    plane, kept = found
-    ground = camera_plane(plane, points)
-    if ground is None:
-        raise Wrong("--level: the camera doesn't look down on the plane", NO_PLACE)
+def level_pose(ground: tuple[Floats, float], height: float, mount: int) -> Pose:
+    """The pose that makes a plane level at that height, in micrometres: the plane as camera_plane gives it."""
     normal, away = ground
     north = numpy.array([0.0, 1.0, 0.0]) - normal[1] * normal
     north /= numpy.linalg.norm(north)
     rotation = numpy.stack([numpy.cross(north, normal), north, normal])
-    mount = numpy.array([0.0, 0.0, points.mount])
     # The camera stands over the origin, as high above the level plane as it is above the sloping one.
-    aim = numpy.array([0.0, 0.0, float(words.height * 1000000) + away])
-    pose = rounded_pose(rotation, mount, aim)
-    spread = numpy.sqrt(((values[ys, xs] - plane.at(xs, ys))[kept] ** 2).mean()) / 16
-    tilt = math.degrees(math.acos(min(1, normal[2])))
-    progress("")
-    print(f"{int(kept.sum())} of {int(chosen.sum())} pixels lie within {spread:.3f} pixels of a plane")
-    print(f"the camera stands {away / 1e6:.3f} m above it and is tilted by {tilt:.2f} degrees")
-    return pose
+    aim = numpy.array([0.0, 0.0, height + away])
+    return rounded_pose(rotation, numpy.array([0.0, 0.0, mount]), aim)
 
 
 def plane_through_all(xs: Ints, ys: Ints, values: Ints, needed: int) -> tuple[Plane, Flags] | None:
@@ -371,14 +348,11 @@ def camera_plane(plane: Plane, points: Points) -> tuple[Floats, float] | None:
 # A known place
 
 
-def from_camera(words: argparse.Namespace, _: Json, points: Points) -> Pose:
-    """The pose of a camera whose place is known and which looks at a point."""
-    centre = numpy.array(in_site(words.camera, words.taken_off, "--camera"))
-    ahead = numpy.array(in_site(words.look, words.taken_off, "--look")) - centre
-    length = numpy.linalg.norm(ahead)
-    if length < 1000:
-        raise Wrong("--look: the point isn't a millimetre away from the camera")
-    ahead /= length
+def aimed_pose(centre: Length, aim: Length, roll: float, mount: int) -> Pose:
+    """The pose of a camera whose place is known and which looks at a point, turned by so many degrees."""
+    middle = numpy.array(centre)
+    ahead = numpy.array(aim) - middle
+    ahead /= numpy.linalg.norm(ahead)
     level = math.hypot(ahead[0], ahead[1])
     if level < 1e-9:
         # The right of a picture of the ground or of the sky is east.
@@ -386,14 +360,13 @@ def from_camera(words: argparse.Namespace, _: Json, points: Points) -> Pose:
         right = numpy.array([1.0, 0.0, 0.0])
     else:
         right = numpy.array([ahead[1], -ahead[0], 0.0]) / level
-    upwards, turn = numpy.cross(right, ahead), math.radians(words.roll)
+    upwards, turn = numpy.cross(right, ahead), math.radians(roll)
     columns = [
         math.cos(turn) * right - math.sin(turn) * upwards,
         math.sin(turn) * right + math.cos(turn) * upwards,
         -ahead,
     ]
-    mount = numpy.array([0.0, 0.0, points.mount])
-    return rounded_pose(numpy.stack(columns, axis=1), mount, centre)
+    return rounded_pose(numpy.stack(columns, axis=1), numpy.array([0.0, 0.0, mount]), middle)
 
 
 def with_pose(calibration: Json, pose: Pose) -> Json:

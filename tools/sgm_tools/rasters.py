@@ -2,7 +2,7 @@
 
 from __future__ import annotations
 
-import argparse
+import dataclasses
 import os
 from typing import TYPE_CHECKING, Any
 
@@ -157,22 +157,33 @@ def style_name(out: str) -> str:
     return os.path.splitext(out)[0] + ".qml"
 
 
-def write_all(words: argparse.Namespace, grid: Grid, site: Site) -> None:
+@dataclasses.dataclass(frozen=True)
+class Outputs:
+    """What is written: a GeoTIFF with its style, and where they are named a hillshade and contours, one each
+    `interval` metres."""
+
+    heights: str
+    hillshade: str | None = None
+    contours: str | None = None
+    interval: str | None = None
+
+
+def write_all(outputs: Outputs, grid: Grid, site: Site) -> None:
     system = system_of(site)
     raster = raster_of(grid, site, system, f"{MEMORY}/grid/made.tif")
-    outs = [("grid", "made.tif", words.out)]
-    if words.hillshade is not None:
+    outs = [("grid", "made.tif", outputs.heights)]
+    if outputs.hillshade is not None:
         progress("shading")
         make_hillshade(raster, f"{MEMORY}/hillshade/made.tif")
-        outs.append(("hillshade", "made.tif", words.hillshade))
-    if words.contours is not None:
+        outs.append(("hillshade", "made.tif", outputs.hillshade))
+    if outputs.contours is not None and outputs.interval is not None:
         progress("drawing contours")
-        main = "made" + os.path.splitext(words.contours)[1].lower()
-        make_contours(raster, system, words.interval, f"{MEMORY}/contours/{main}")
-        outs.append(("contours", main, words.contours))
+        main = "made" + os.path.splitext(outputs.contours)[1].lower()
+        make_contours(raster, system, outputs.interval, f"{MEMORY}/contours/{main}")
+        outs.append(("contours", main, outputs.contours))
     # A raster is whole where it is closed.
     del raster
     for folder, main, out in outs:
         write_from(f"{MEMORY}/{folder}", main, out)
-    with open(style_name(words.out), "w", encoding="utf-8") as file:
+    with open(style_name(outputs.heights), "w", encoding="utf-8") as file:
         file.write(style_of(grid))

@@ -19,7 +19,7 @@ DEBIAN_PACKAGES["GDAL"] = "python3-gdal"
 DEBIAN_PACKAGES["selenium"] = "python3-selenium chromium chromium-driver"
 # The same for pip.
 PIP_PACKAGES = {"numpy": "numpy", "PIL": "pillow", "cv2": "opencv-python-headless", "GDAL": "gdal"}
-HERE = os.path.dirname(os.path.abspath(__file__))
+HERE = os.path.dirname(os.path.realpath(__file__))
 # Whether the package stands beside the scripts, as in a checkout and in Debian's package, and wasn't installed by pip.
 IS_BESIDE_SCRIPTS = os.path.exists(os.path.join(HERE, "..", "stretch.py"))
 

@@ -2,7 +2,7 @@
 
 from __future__ import annotations
 
-import argparse
+import dataclasses
 import json
 from collections.abc import Iterable, Iterator, Sequence
 from typing import Any
@@ -79,11 +79,21 @@ def size_of(area: Json, calibration: Json) -> int:
     return number_of_cells(area, grid_in(calibration))
 
 
+@dataclasses.dataclass(frozen=True)
+class Ground:
+    """The name of the region of flat ground, and the files that say how high it lies: the calibration, and the
+    heights where it is asked by how much volumes may be off."""
+
+    name: str
+    calibration: str
+    heights: str | None = None
+
+
 class Survey:
     """What the calibration says of the report: the side of a cell, and the regions with their bases."""
 
     def __init__(self, name: str) -> None:
-        complaint = f"{name}: not a calibration of sgm with regions"
+        self.name, complaint = name, f"{name}: not a calibration of sgm with regions"
         try:
             self.whole = top = json.loads(read_bytes(name).decode("utf-8", "replace"))
             self.cell, areas = top["grid"]["cell"], top["regions"]
@@ -152,29 +162,28 @@ def is_of_heights(region: Region, cell: int, found: tuple[Ints, Ints]) -> bool:
 
 
 def uncertain(
-    regions: Sequence[Region], survey: Survey, ground: int, words: argparse.Namespace
-) -> Iterator[list[str]]:
-    """For each region the third word."""
+    regions: Sequence[Region], survey: Survey, ground: int, heights: str, report: str
+) -> Iterator[int | None]:
+    """By how much the volume of each region may be off; None for one that isn't measured above the ground."""
     try:
-        grid = read_grid(words.heights)
+        grid = read_grid(heights)
         check_grid(survey.whole, grid)
         areas, sides = regions_in(survey.whole), grid_in(survey.whole)
         found = [found_in(area, sides, grid.heights, grid.filled) for area in areas]
         if not all(is_of_heights(region, survey.cell, it) for region, it in zip(regions, found)):
-            raise Wrong(f"not the heights of which {words.file} tells")
+            raise Wrong(f"not the heights of which {report} tells")
     except Wrong as error:
         text = str(error)
         raise Wrong(
-            text if text.startswith(words.heights) else f"{words.heights}: {text}"
+            text if text.startswith(heights) else f"{heights}: {text}"
         ) from None
     height, spread = ground_spread(*found[ground])
     for number, region in enumerate(regions):
         if not is_above(survey, number, ground):
-            yield [""]
+            yield None
             continue
-        sixteenth = sixteenth_of(number, regions, survey, ground, (height, grid.filled, words))
-        volume = plus_minus(region[1], survey.cell, sixteenth, spread)
-        yield [moved(volume, 18, words.digits)]
+        sixteenth = sixteenth_of(number, regions, survey, ground, (height, grid.filled))
+        yield plus_minus(region[1], survey.cell, sixteenth, spread)
 
 
 def sixteenth_of(
@@ -182,14 +191,15 @@ def sixteenth_of(
     regions: Sequence[Region],
     survey: Survey,
     ground: int,
-    of_ground: tuple[int, Flags, argparse.Namespace],
+    of_ground: tuple[int, Flags],
 ) -> int:
-    """What a sixteenth of a pixel is in height on the ground of a region."""
-    height, filled, words = of_ground
+    """What a sixteenth of a pixel is in height on the ground of a region. Of the ground there is its height, and
+    which of the grid's cells are filled."""
+    height, filled = of_ground
     keys = ("focal", "baseline", "mount")
     camera = {key: whole(survey.whole, "camera", key) for key in keys}
     if camera["focal"] < 1 or camera["baseline"] < 1:
-        raise Wrong(f"{words.calibration}: not a calibration of sgm with a camera")
+        raise Wrong(f"{survey.name}: not a calibration of sgm with a camera")
     if pose_of(survey.whole) is None:
         return sixteenth_at(height, camera)
     points, sides = Points(survey.whole), grid_in(survey.whole)
@@ -199,34 +209,37 @@ def sixteenth_of(
     middles = [middle_of(areas[at], sides, filled) for at in (number, ground)]
     made = [sixteenth_aslant(it, plane, sides, points) for it in middles if it[0]]
     if None in made:
-        raise Wrong(f"{words.calibration}: by its pose the camera doesn't look down on the ground")
+        raise Wrong(f"{survey.name}: by its pose the camera doesn't look down on the ground")
     return max(it for it in made if it is not None)
 
 
-def columns_above(regions: Sequence[Region], words: argparse.Namespace) -> Iterator[Table]:
-    """The columns that --ground asks for, each line with its words, the head first."""
-    survey = Survey(words.calibration)
+def columns_above(
+    regions: Sequence[Region], report: str, asked: Ground, digits: int | None
+) -> Iterator[Table]:
+    """The columns about the ground, each line with its words, the head first."""
+    survey = Survey(asked.calibration)
     try:
         if not survey.is_of(regions):
-            raise Wrong(f"not the report of a survey by {words.calibration}")
-        ground = ground_in(regions, words.ground)
+            raise Wrong(f"not the report of a survey by {asked.calibration}")
+        ground = ground_in(regions, asked.name)
     except Wrong as error:
-        raise Wrong(f"{words.file}: {error}")
-    yield [ABOVE_HEAD, *above_ground(regions, survey, ground, words.digits)]
-    if words.heights is not None:
-        yield [PLUS_MINUS_HEAD, *uncertain(regions, survey, ground, words)]
+        raise Wrong(f"{report}: {error}")
+    yield [ABOVE_HEAD, *above_ground(regions, survey, ground, digits)]
+    if asked.heights is not None:
+        found = uncertain(regions, survey, ground, asked.heights, report)
+        yield [PLUS_MINUS_HEAD, *([moved(it, 18, digits) if it is not None else ""] for it in found)]
 
 
-def made(words: argparse.Namespace) -> Table:
-    """All lines of the table that the words ask for."""
-    if is_change(words.file):
-        if words.ground is not None:
-            raise Wrong(f"{words.file}: the volumes of a change have no ground")
-        return change_table(read_volumes(words.file), words.digits)
-    text = read_bytes(words.file).decode("ascii", "replace")
-    lines = read_report(words.file)
-    blocks: list[Table] = [list(table(names_in_report(text, words.file), lines, words.digits))]
-    if words.ground is not None:
+def made(report: str, asked: Ground | None, digits: int | None) -> Table:
+    """All lines of the table of a report, or of the volumes of a change."""
+    if is_change(report):
+        if asked is not None:
+            raise Wrong(f"{report}: the volumes of a change have no ground")
+        return change_table(read_volumes(report), digits)
+    text = read_bytes(report).decode("ascii", "replace")
+    lines = read_report(report)
+    blocks: list[Table] = [list(table(names_in_report(text, report), lines, digits))]
+    if asked is not None:
         regions = [[line[name] for name in REPORT_NAMES] for line in lines]
-        blocks += columns_above(regions, words)
+        blocks += columns_above(regions, report, asked, digits)
     return [[word for part in parts for word in part] for parts in zip(*blocks)]
