@@ -44,6 +44,7 @@ import opencv_calibration
 import reference_matching
 import survey_page
 from sgm_tools import exact, files, grids, reports, running
+from sgm_tools import page as sgm_page
 from sgm_tools import regions as sgm_regions
 from sgm_tools.running import Wrong, numpy
 
@@ -591,8 +592,8 @@ def write_survey(folder, name, heights, regions, report=None):
 def page_of(driver, out, calibration, *more, title="a <title> & more"):
     name = out + ".html"
     with open(name, "w", encoding="utf-8") as file:
-        known = survey_page.survey(out, calibration, *(more or [None]))
-        file.write(survey_page.page(title, known))
+        known = sgm_page.survey(out, calibration, *(more or [None]))
+        file.write(sgm_page.page(survey_page.TEMPLATE, title, known))
     return Page(driver, name)
 
 
@@ -1377,11 +1378,11 @@ def try_reduced(driver, check, folder):
     heights = numpy.arange(11 * 9).reshape(11, 9) * 1000
     region = {"name": "a", "col": 4, "row": 2, "cols": 5, "rows": 9, "base": 0}
     out, calibration, _ = write_survey(folder, "reduced", heights, [region])
-    most, survey_page.MOST_CELLS = survey_page.MOST_CELLS, 30
+    most, sgm_page.MOST_CELLS = sgm_page.MOST_CELLS, 30
     try:
         page = page_of(driver, out, calibration)
     finally:
-        survey_page.MOST_CELLS = most
+        sgm_page.MOST_CELLS = most
     check.has("reduced", [page.element("scale").text], "each cell here is the highest of 2 x 2")
     wanted = {key: region[key] for key in ("col", "row", "cols", "rows")}
     check.equal("its region", {key: page.region()[key] for key in wanted}, wanted)
@@ -1462,9 +1463,9 @@ def run(screenshot, folder):
     for ending in ("pgm", "asc", "csv"):
         shutil.copy(os.path.join(HEAP, "expected", f"out.{ending}"), os.path.join(folder, f"heap.{ending}"))
     out, left = os.path.join(folder, "heap"), os.path.join(HEAP, "left.pgm")
-    known = survey_page.survey(out, calibration, left)
+    known = sgm_page.survey(out, calibration, left)
     with open(out + ".html", "w", encoding="utf-8") as file:
-        file.write(survey_page.page("The stockpile", known))
+        file.write(sgm_page.page(survey_page.TEMPLATE, "The stockpile", known))
     grid, report = grids.read_grid(out + ".asc"), reports.read_report(out + ".csv")
     regions = calibration["regions"]
     driver = browser()

@@ -4,16 +4,16 @@
 #
 #     tests/types.sh
 #
-# mypy looks at the package and at the scripts, but for their tests, setup.py and survey_page.py, which has no types
-# yet. It has to be there (Debian: mypy), and numpy, which brings its own types. Where neither ruff nor pyflakes is
-# there the last line says so.
+# mypy looks at the package and at the scripts, but for their tests and setup.py, with what tools/pyproject.toml says. It
+# has to be there (Debian: mypy), and numpy, which brings its own types. Where neither ruff nor pyflakes is there
+# the last line says so.
 set -u
 # shellcheck source-path=SCRIPTDIR source=common.sh
 . "$(dirname "$0")/common.sh"
 cd "$top/tools" || exit 1
 
 failed=0
-scripts=$(for file in *.py; do case $file in test_* | setup.py | survey_page.py) ;; *) echo "$file" ;; esac; done)
+scripts=$(for file in *.py; do case $file in test_* | setup.py) ;; *) echo "$file" ;; esac; done)
 # shellcheck disable=SC2086
 if ! mypy --config-file pyproject.toml --cache-dir "$work/cache" sgm_tools $scripts >"$work/said" 2>&1; then
     cat "$work/said"

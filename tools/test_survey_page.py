@@ -18,12 +18,13 @@ import tempfile
 import unittest
 import zlib
 
-import survey_page as tool
 import test_regions as rows
 from sgm_tools import exact, files, grids, pictures, reports, running
+from sgm_tools import page as tool
 from sgm_tools import points as sgm_points
 from sgm_tools import regions as sgm_regions
 from sgm_tools.running import numpy
+from survey_page import TEMPLATE
 
 HERE = os.path.dirname(os.path.abspath(__file__))
 TOOL = os.path.join(HERE, "survey_page.py")
@@ -179,7 +180,7 @@ class Pages(Heap):
         self.assertEqual(re.findall(r"<(?:link|iframe|object|script src|img src)", page), [])
 
     def test_nothing_ends_the_data(self):
-        text = tool.page("</title><script>", {"a": "</script><b>"})
+        text = tool.page(TEMPLATE, "</title><script>", {"a": "</script><b>"})
         self.assertNotIn("</script><b>", text)
         self.assertNotIn("</title><script>", text)
         self.assertIn("&lt;/title&gt;&lt;script&gt;", text)
@@ -498,7 +499,7 @@ class Script(unittest.TestCase):
     def run_script(self, script, given):
         """What the script makes of `given`, with the page's functions before it; BigInts come back
         as texts."""
-        with open(tool.TEMPLATE, encoding="utf-8") as file:
+        with open(TEMPLATE, encoding="utf-8") as file:
             counting = re.search('<script id="counting">(.*?)</script>', file.read(), re.S)[1]
         text = f"{counting}\nconst given = JSON.parse(require('fs').readFileSync(0, 'utf8'));\n"
         text += f"const made = (() => {{ {script} }})();\n"
