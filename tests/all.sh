@@ -53,8 +53,8 @@ edits_apply         -           tests/edits.py --apply
 cubic_metres        pictures    tools/test_cubic_metres.py
 files               pictures    tools/test_files.py
 regions             pictures    tools/test_regions.py
-surveys             pictures    tools/test_surveys.py
-installed           pictures,pip    tools/test_installed.py
+surveys             pictures    env -u SGM tools/test_surveys.py
+installed           pictures,pip    env -u SGM tools/test_installed.py
 types               pictures,mypy   tests/types.sh
 slope_heap          pictures    tests/slope_heap.py
 stretch             pictures    tools/test_stretch.py
@@ -86,6 +86,7 @@ unrectified_heap    program,opencv  tests/unrectified_heap.py
 aslant_heap         program,opencv  tests/aslant_heap.py
 version3_figures    program,pictures tests/version3_figures.py
 certificates        program,pictures tests/certificates.py
+surveys_program     program,pictures tools/test_surveys.py
 later_heap          program,pictures tests/later_heap.py
 moved_heap          program,opencv  tests/moved_heap.py
 guide               program,opencv,gdal tests/guide.py
@@ -169,7 +170,8 @@ need() {
     shellcheck) commands=shellcheck ;;
     mypy) commands=mypy packages="mypy python3-pyflakes" ;;
     pip)
-        /usr/bin/python3 -c "import pip, setuptools, wheel" 2>/dev/null ||
+        /usr/bin/python3 -c "from importlib.util import find_spec as find; find('pip').name, find('setuptools').name, find('wheel').name" \
+            2>/dev/null ||
             printf "pip, setuptools and wheel for Python\tpython3-pip python3-setuptools python3-wheel\n"
         return
         ;;

@@ -209,6 +209,18 @@ valid 68976 of 76800"
         is "status of the page without packages" "$word $(cat "$work/out")" \
             "1 sgm-page: numpy and PIL of Python needed: apt-get install python3-numpy python3-pil on Debian"
     fi
+    # The match as a function of Python.
+    local script='import sys, sgm_tools
+try: print(sgm_tools.survey(*sys.argv[1:4], program=sys.argv[4]).line)
+except Exception as error: print(error)'
+    "$@" env "PYTHONPATH=$prefix/share/sgm/tools" /usr/bin/python3 -B -c "$script" "$example/left.pgm" "$example/right.pgm" \
+        "$example/calibration.json" "$prefix/bin/sgm" >"$work/out" 2>&1
+    word=$(cat "$work/out")
+    if "$@" /usr/bin/python3 -c 'import numpy' 2>/dev/null; then
+        is "what the function says" "$word" "valid 68976 of 76800"
+    else
+        is "what the function says without numpy" "$word" "numpy of Python needed: apt-get install python3-numpy on Debian"
+    fi
     rm -rf "$where/tmp/sgm-heap-$$".* "$where$series"
 }
 

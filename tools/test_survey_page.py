@@ -492,7 +492,6 @@ class Reduced(unittest.TestCase):
         self.assertEqual((made.west, made.south, made.cell), (10, -80, 200))
 
 
-
 class Script(unittest.TestCase):
     """The page's functions that count, run by node."""
 

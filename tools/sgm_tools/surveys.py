@@ -4,7 +4,8 @@
     found = survey("left.pgm", "right.pgm", "calibration.json", workers=4)
     found.disparities, found.heights, found.report, found.line
 
-It starts the program `sgm`, which has to be there. Needs numpy.
+It starts the program `sgm`, which has to be there. Needs numpy. Where the Debian package has brought the tools, this is
+found with /usr/share/sgm/tools in PYTHONPATH.
 """
 
 from __future__ import annotations
