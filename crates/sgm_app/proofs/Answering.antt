@@ -1,6 +1,6 @@
 -- From what was fetched and made to the verdict that a match calls for. Crates above cite these lemmas.
 use Rattle.std.specs.Bool.{⊤}
-use Rattle.std.proofs.Common.{◌≡◌, ◌⊎◌, inl, inr, ◌∙◌, sym, refl, ap, subst, ℕ, List, Option, Result, Ok, Err, MatchResult}
+use Rattle.std.proofs.Common.{arith, ◌≡◌, ◌⊎◌, inl, inr, ◌∙◌, sym, refl, ap, subst, ℕ, List, Option, Result, Ok, Err, MatchResult}
 use Rattle.sgm_base.specs.Picture.{Picture}
 use Rattle.sgm_io.specs.Held.{Held}
 use Rattle.sgm_pgm.specs.Read.{Reads}
@@ -30,7 +30,7 @@ use Rattle.sgm_app.proofs.VerdictLaws.{none_matched}
 
 -- the inputs were fetched: whatever comes next is the verdict
 abbrev pub GoesOn : Operands → Held → Type 0
-GoesOn asked held = (next : Verdict) → NoneBefore 3 next → pair_fetched asked held next ≡ next
+GoesOn asked held = (next : Verdict) → NoneBefore 4 next → pair_fetched asked held next ≡ next
 
 -- the texts are those that the bytes call for, or there are none, as `texts` promises
 abbrev pub IsMade : Refining → InputBytes → Result MadeTexts TextsError → Type 0
@@ -70,7 +70,7 @@ pub made_is : (asked : Operands) (refine : Refining) (held : Held) (v : Verdict)
 made_is asked refine held v inputs made calls on at is_made =
     let r = calls.readings in let are = calls.are_readings in
     let wanted = texts_for r.left r.right (calib_of asked r) refine in
-    by_texts asked v wanted made (sym (on _ (none_matched 3 asked.out refine r.left r.right (calib_of asked r))) ∙ calls.is)
+    by_texts asked v wanted made (sym (on _ (none_matched 4 (omega arith) asked.out refine r.left r.right (calib_of asked r))) ∙ calls.is)
     (is_made r.left r.right (calib_of asked r)
     (image_reads _ _ _ r.left at.left refl are.left) (image_reads _ _ _ r.right at.right refl are.right)
     (calib_reads asked held r inputs inputs.calib at are refl))
@@ -83,10 +83,10 @@ refusal_shown asked v NoMemory is = tt
 -- a stop of the fetch is shown by the verdict
 pub fetch_shown : (asked : Operands) (refine : Refining) (held : Held) (v : Verdict) (outcome : Outcome) →
     MatchCallsFor asked refine held v →
-    ((next : Verdict) → NoneBefore 3 next → ShownBy (pair_fetched asked held next) outcome) → ShownBy v outcome
+    ((next : Verdict) → NoneBefore 4 next → ShownBy (pair_fetched asked held next) outcome) → ShownBy v outcome
 fetch_shown asked refine held v outcome calls stops =
     let r = calls.readings in
-    shown_along v _ _ (sym calls.is) (stops _ (none_matched 3 asked.out refine r.left r.right (calib_of asked r)))
+    shown_along v _ _ (sym calls.is) (stops _ (none_matched 4 (omega arith) asked.out refine r.left r.right (calib_of asked r)))
 
 is_either : (asked : Operands) (v : Verdict) (wanted : Result Texts Refusal) →
     unless_refused wanted (λ t. files (files_of asked.out t) t.summary) ≡ v →
@@ -100,4 +100,4 @@ pub judged : (asked : Operands) (refine : Refining) (held : Held) (v : Verdict) 
 judged asked refine held v calls on =
     let r = calls.readings in
     is_either asked v (texts_for r.left r.right (calib_of asked r) refine)
-    (sym (on _ (none_matched 3 asked.out refine r.left r.right (calib_of asked r))) ∙ calls.is)
+    (sym (on _ (none_matched 4 (omega arith) asked.out refine r.left r.right (calib_of asked r))) ∙ calls.is)

@@ -1,5 +1,5 @@
 -- What the outcome must be, from what the verdict, the files and the counts show.
-use Rattle.std.proofs.Common.{◌≡◌, ◌≢◌, ◌⊎◌, ◌↔◌, inl, inr, ℕ, ◌<◌, List, [], ◌∷◌, refl, sym, ap, subst, ◌∙◌, arith, Option, None, Some, Result, Ok, Err, Bool, true, false, length, nat_lt, if◌then◌else◌, Contains}
+use Rattle.std.proofs.Common.{◌≡◌, ◌≢◌, ◌⊎◌, ◌↔◌, inl, inr, ℕ, List, [], ◌∷◌, refl, sym, ap, subst, ◌∙◌, arith, Option, None, Some, Result, Ok, Err, Bool, true, false, IsTrue, ◌+◌, length, nat_lt, if◌then◌else◌, Contains}
 use Rattle.std.specs.Str.{bytes_eq}
 use Rattle.std.proofs.lemmas.Slice.Eq.{bytes_eq-Decides}
 use Rattle.std.proofs.lemmas.List.Elements.{All-contains, Contains-append_right}
@@ -8,7 +8,7 @@ use Rattle.sgm_io.specs.Held.{Held}
 use Rattle.sgm_io.specs.Counts.{Rose}
 use Rattle.sgm_energy.specs.declared.dir.Dir.{Dir}
 use Rattle.sgm_refine.specs.Refining.{Refining}
-use Rattle.sgm_words.specs.Operands.{Operands, operands, ChangeOperands, change_operands, FileNames, of_none, of_match, of_trace, of_change, names_of, is_plain, IsPairInput, IsChangeInput, IsInputName, IsOutputName}
+use Rattle.sgm_words.specs.Operands.{Operands, operands, ChangeOperands, change_operands, MergeOperands, merge_operands, FileNames, of_none, of_match, of_trace, of_change, of_merge, is_plain, is_plain_word, IsOutputName}
 use Rattle.sgm_words.specs.declared.usage.UsageFault.{UsageFault}
 use Rattle.sgm_words.specs.declared.options.Options.{Options}
 use Rattle.sgm_words.specs.declared.options.Options.TheVariants as options
@@ -20,18 +20,23 @@ use Rattle.sgm_outcome.specs.declared.outcome.Refusal.{Refusal}
 use Rattle.sgm_outcome.specs.declared.outcome.Refusal.TheVariants.{TooLong}
 use Rattle.sgm_outcome.specs.declared.outcome.Outcome.{Outcome}
 use Rattle.sgm_outcome.specs.declared.outcome.Outcome.TheVariants.{Done, Usage, Refused, ReadFault, WriteFault, NoMemory}
+use Rattle.sgm_grid.specs.Cells.{Cells}
+use Rattle.sgm_grid.specs.declared.grid_spec.GridSpec.{GridSpec}
 use Rattle.sgm_app.specs.Changing.{GridTexts, change_for}
+use Rattle.sgm_app.specs.Merging.{MergePlan, entry_for, merge_texts}
+use Rattle.sgm_app.specs.Readings.{grid_reading}
 use Rattle.sgm_app.specs.Texts.{Texts}
 use Rattle.sgm_app.specs.Certificates.{certificate_for}
-use Rattle.sgm_app.specs.Outputs.{OutputFile, IsNamed, files_of, change_files_of}
-use Rattle.sgm_app.specs.Verdict.{Verdict, usage, absent, refused, files, fetched, calib_fetched, most_bytes, pair_fetched, grids_fetched, texts_for, demo_for, unless_refused, calib_of, demoed, outputs_of, IsFiles}
+use Rattle.sgm_app.specs.Outputs.{OutputFile, IsNamed, files_of, change_files_of, merge_files_of}
+use Rattle.sgm_app.specs.Verdict.{Verdict, usage, absent, refused, files, fetched, calib_fetched, most_bytes, pair_fetched, grids_fetched, merge_fetched, entries_fetched, merged_by, plan_carried_out, plan_of, texts_for, demo_for, unless_refused, calib_of, demoed, outputs_of, IsFiles}
 use Rattle.sgm_app.specs.Calls.{TraceCallsFor, ReadCallsFor}
-use Rattle.sgm_app.specs.Ends.{FilesStand, NoneBefore, order_of, ShownBy, Faults, ReadRose, FileRose, CountsShow, OutCountsShow, RunCounts}
+use Rattle.sgm_app.specs.Ends.{FilesStand, NoneBefore, order_of, ShownBy, Faults, ReadRose, FileRose, CountsShow, OutCountsShow, RunCounts, run_names, told_by}
 use Rattle.sgm_app.specs.Deliver.{FilesPut}
 use Rattle.sgm_app.specs.Complete.{NoReadRose, OnlyReadRose, NoWriteRose, IsUnlessMemory, RunComplete, IsNoFileFault, NoneRose}
 use Rattle.sgm_app.proofs.Holding.{Distinct, in_none}
-use Rattle.sgm_app.proofs.Named.{all_named, all_distinct, all_change_named, all_change_distinct}
-use Rattle.sgm_app.proofs.VerdictLaws.{none_matched, none_traced, none_changed}
+use Rattle.sgm_app.proofs.FirstAbsent.{IsFirstAbsent, first_absent, first_absent_entry, first_absent_grid, of_a_trace, same_order}
+use Rattle.sgm_app.proofs.Named.{all_named, all_distinct, all_change_named, all_change_distinct, all_merge_named, all_merge_distinct}
+use Rattle.sgm_app.proofs.VerdictLaws.{present_matched, present_traced, present_changed}
 
 -- the files of a verdict have the names of their outputs, which differ
 pub record IsProper (names : FileNames) (v : Verdict) : Type 0 where
@@ -56,6 +61,12 @@ proper_grids asked (Err refusal) = proper_none (of_change asked) (refused refusa
 proper_grids asked (Ok texts) = record {
   named = λ file c. All-contains (IsNamed (of_change asked)) (change_files_of asked.out texts) file (all_change_named asked texts) c;
   distinct = all_change_distinct asked.out texts;
+}
+
+proper_merged : (asked : MergeOperands) (listed : Option (List (List ℕ))) (plan : MergePlan) (entries : List Cells) → IsProper (of_merge asked listed) (merged_by asked.out plan entries)
+proper_merged asked listed plan entries = record {
+  named = λ file c. All-contains (IsNamed (of_merge asked listed)) (merge_files_of asked.out (merge_texts plan entries)) file (all_merge_named asked listed (merge_texts plan entries)) c;
+  distinct = all_merge_distinct asked.out (merge_texts plan entries);
 }
 
 proper_alone : (names : FileNames) (wanted : Result (List ℕ) Refusal) → IsProper names (unless_refused wanted (λ summary. files [] summary))
@@ -83,24 +94,45 @@ proper_changed asked held next later =
     proper_fetched (of_change asked) input.Earlier (held asked.earlier) _ (
     proper_fetched (of_change asked) input.Later (held asked.later) _ later)
 
+proper_unless : {T : Type 0} (names : FileNames) (wanted : Result T Refusal) (next : T → Verdict) → ((x : T) → IsProper names (next x)) → IsProper names (unless_refused wanted next)
+proper_unless names (Ok x) next later = later x
+proper_unless names (Err refusal) next later = proper_none names (refused refusal) refl
+
+proper_entries : (names : FileNames) (spec : GridSpec) (k : ℕ) (wanted : List (List ℕ)) (held : Held) (next : List Cells → Verdict) → ((entries : List Cells) → IsProper names (next entries))
+    → IsProper names (entries_fetched spec k wanted held next)
+proper_entries names spec k [] held next later = later []
+proper_entries names spec k (name ∷ wanted) held next later =
+    proper_fetched names (input.Grid k) (held name) _ (proper_unless names (entry_for spec k (grid_reading (held name))) _ (λ entry.
+    proper_entries names spec (k + 1) wanted held (λ entries. next (entry ∷ entries)) (λ entries. later (entry ∷ entries))))
+
+proper_merge : (asked : MergeOperands) (listed : Option (List (List ℕ))) (held : Held) (planned : Result MergePlan Refusal)
+    → IsProper (of_merge asked listed) (merge_fetched asked held (plan_carried_out asked.out held planned))
+unfolding merge_fetched
+proper_merge asked listed held planned =
+    proper_fetched (of_merge asked listed) input.List (held asked.list) _ (
+    proper_calib_fetched (of_merge asked listed) (is_plain_word asked.calib) (held asked.calib) _ (
+    proper_unless (of_merge asked listed) planned _ (λ plan.
+    proper_entries (of_merge asked listed) plan.spec 0 plan.names held (merged_by asked.out plan) (proper_merged asked listed plan))))
+
 proper_along : (names : FileNames) (v w : Verdict) → v ≡ w → IsProper names v → IsProper names w
 proper_along names v w same is = let P : Verdict → Type 0 = λ x. IsProper names x in subst P same is
 
-proper_by : (options : Options) (words : List (List ℕ)) (held : Held) (v : Verdict) → (let read : Result Options UsageFault = Ok options in ReadCallsFor read words held v) → IsProper (names_of options words) v
-proper_by (options.Match strips workers refine) words held v calls =
+proper_by : (options : Options) (words : List (List ℕ)) (told : Option Held) (held : Held) (v : Verdict) → (let read : Result Options UsageFault = Ok options in ReadCallsFor read words held v) → IsProper (run_names options words told) v
+proper_by (options.Match strips workers refine) words told held v calls =
     let asked = operands words in
     proper_along (of_match asked) _ v calls.is (proper_pair (of_match asked) asked held _ (proper_texts asked (texts_for calls.readings.left calls.readings.right (calib_of asked calls.readings) refine)))
-proper_by (options.Demo number strips workers refine) words held v calls = proper_along of_none _ v calls (proper_alone of_none (demo_for number refine))
-proper_by (options.Trace dir x y d) words held v calls =
+proper_by (options.Demo number strips workers refine) words told held v calls = proper_along of_none _ v calls (proper_alone of_none (demo_for number refine))
+proper_by (options.Trace dir x y d) words told held v calls =
     let asked = operands words in
     proper_along (of_trace asked) _ v calls.is (proper_pair (of_trace asked) asked held _ (proper_alone (of_trace asked) (certificate_for calls.readings.left calls.readings.right (calib_of asked calls.readings) dir x y d)))
-proper_by options.Change words held v calls =
+proper_by options.Change words told held v calls =
     let asked = change_operands words in
     proper_along (of_change asked) _ v calls (proper_changed asked held _ (proper_grids asked (change_for _ _)))
+proper_by options.Merge words told held v calls = proper_along _ _ v calls.is (proper_merge (merge_operands words) _ held (plan_of (merge_operands words) held calls.calib))
 
 pub distinct_verdict : (read : Result Options UsageFault) (words : List (List ℕ)) (held : Held) (v : Verdict) → ReadCallsFor read words held v → Distinct (outputs_of v)
 distinct_verdict (Err fault) words held v calls = (proper_along of_none _ v calls (proper_none of_none (usage fault) refl)).distinct
-distinct_verdict (Ok options) words held v calls = (proper_by options words held v calls).distinct
+distinct_verdict (Ok options) words held v calls = (proper_by options words None held v calls).distinct
 
 -- an output has one name
 one_name : (names : FileNames) (output : Output) (a b : List ℕ) → IsOutputName names output a → IsOutputName names output b → a ≡ b
@@ -118,6 +150,12 @@ one_name (of_change asked) Report a b p q = absurd p
 one_name (of_change asked) Summary a b p q = absurd p
 one_name (of_change asked) Difference a b p q = p ∙ sym q
 one_name (of_change asked) Volumes a b p q = p ∙ sym q
+one_name (of_merge asked listed) Disparity a b p q = absurd p
+one_name (of_merge asked listed) Heights a b p q = p ∙ sym q
+one_name (of_merge asked listed) Report a b p q = p ∙ sym q
+one_name (of_merge asked listed) Summary a b p q = absurd p
+one_name (of_merge asked listed) Difference a b p q = absurd p
+one_name (of_merge asked listed) Volumes a b p q = absurd p
 
 -- the summary has none
 no_summary_name : (names : FileNames) (name : List ℕ) → IsOutputName names Summary name → ⊥
@@ -125,6 +163,7 @@ no_summary_name of_none name is = is
 no_summary_name (of_match asked) name is = is
 no_summary_name (of_trace asked) name is = is
 no_summary_name (of_change asked) name is = is
+no_summary_name (of_merge asked listed) name is = is
 
 no_refusal : (v : Verdict) (r : Refusal) → IsFiles v → v ≡ refused r → ⊥
 no_refusal (files outputs summary) r is e = absurd (cc)
@@ -179,148 +218,18 @@ completes_absent names v (ReadFault i') before now shown counts i is = inl (i', 
 completes_absent names v (WriteFault output) before now shown counts i is = absurd (no_absent v i shown is)
 completes_absent names v NoMemory before now shown counts i is = inr refl
 
--- a step that fetches an input ends in an absent one: this one is, or it is held and a later one is
-pub data FetchAbsent (i : Input) (held : Option (List ℕ)) (next : Verdict) (which : Input) : Type 0 where
-  here : held ≡ None → i ≡ which → FetchAbsent i held next which
-  later : (bytes : List ℕ) → held ≡ Some bytes → next ≡ absent which → FetchAbsent i held next which
-
-fetch_absent : (i : Input) (held : Option (List ℕ)) (next : Verdict) (which : Input) → fetched i held next ≡ absent which → FetchAbsent i held next which
-fetch_absent i None next which e = let same : i ≡ which = cc in here refl same
-fetch_absent i (Some bytes) next which e = elim (nat_lt (most_bytes i) (length bytes)) as (λ t. (if t then refused (TooLong i) else next) ≡ absent which → FetchAbsent i (Some bytes) next which) [
-  | true ↦ λ bad. absurd (cc)
-  | false ↦ λ on. later bytes refl on
-] e
-
--- the name of the input that a verdict calls absent isn't held, and those of earlier inputs are
-pub record IsFirstAbsent (names : FileNames) (held : Held) (which : Input) : Type 0 where
-  pub asks : (name : List ℕ) × IsInputName names which name
-  pub none : (name : List ℕ) → IsInputName names which name → held name ≡ None
-  pub some : (at : Input) (name : List ℕ) → order_of at < order_of which → IsInputName names at name → held name ≢ None
-
-none_differs : {A : Type 0} (o : Option A) (x : A) → o ≡ Some x → o ≢ None
-none_differs o x e n = absurd (cc)
-
--- no input of what comes after the fetching is absent
-no_more : (next : Verdict) (which : Input) → NoneBefore 5 next → next ≡ absent which → ⊥
-no_more next which none e = none.present which (below which) e
-  where
-    below : (i : Input) → order_of i < 5
-    below input.Left = omega arith
-    below input.Right = omega arith
-    below input.Calibration = omega arith
-    below input.Earlier = omega arith
-    below input.Later = omega arith
-
-at_left : (asked : Operands) (held : Held) → held asked.left ≡ None → IsFirstAbsent (of_match asked) held input.Left
-at_left asked held none = record {
-  asks = (asked.left, refl);
-  none = λ name is. ap (λ (n : List ℕ). held n) is ∙ none;
-  some = λ at name lt is. absurd (omega arith);
-}
-
-at_right : (asked : Operands) (held : Held) (l : List ℕ) → held asked.left ≡ Some l → held asked.right ≡ None → IsFirstAbsent (of_match asked) held input.Right
-at_right asked held l left none = record {
-  asks = (asked.right, refl);
-  none = λ name is. ap (λ (n : List ℕ). held n) is ∙ none;
-  some = λ at name lt is. some at name lt is;
-} where
-  some : (at : Input) (name : List ℕ) → order_of at < 1 → IsPairInput asked at name → held name ≢ None
-  some input.Left name lt is = none_differs (held name) l (ap (λ (n : List ℕ). held n) is ∙ left)
-  some input.Right name lt is = absurd (omega arith)
-  some input.Calibration name lt is = absurd (omega arith)
-  some input.Earlier name lt is = absurd is
-  some input.Later name lt is = absurd is
-
-at_calib : (asked : Operands) (held : Held) (l r : List ℕ) → is_plain asked ≡ false → held asked.left ≡ Some l → held asked.right ≡ Some r → held asked.calib ≡ None → IsFirstAbsent (of_match asked) held input.Calibration
-at_calib asked held l r own left right none = record {
-  asks = (asked.calib, (own, refl));
-  none = λ name is. ap (λ (n : List ℕ). held n) is.1 ∙ none;
-  some = λ at name lt is. some at name lt is;
-} where
-  some : (at : Input) (name : List ℕ) → order_of at < 2 → IsPairInput asked at name → held name ≢ None
-  some input.Left name lt is = none_differs (held name) l (ap (λ (n : List ℕ). held n) is ∙ left)
-  some input.Right name lt is = none_differs (held name) r (ap (λ (n : List ℕ). held n) is ∙ right)
-  some input.Calibration name lt is = absurd (omega arith)
-  some input.Earlier name lt is = absurd is
-  some input.Later name lt is = absurd is
-
--- the absent input of a match is the first that isn't held
-pub first_absent : (asked : Operands) (held : Held) (next : Verdict) (which : Input) → NoneBefore 5 next → pair_fetched asked held next ≡ absent which → IsFirstAbsent (of_match asked) held which
-unfolding pair_fetched
-first_absent asked held next which none e =
-    let third = calib_fetched (is_plain asked) (held asked.calib) next in
-    let second = fetched input.Right (held asked.right) third in
-    let P : Input → Type 0 = λ i. IsFirstAbsent (of_match asked) held i in
-    elim (fetch_absent input.Left (held asked.left) second which e) [
-      | here gone is ↦ subst P is (at_left asked held gone)
-      | later l left e' ↦ elim (fetch_absent input.Right (held asked.right) third which e') [
-        | here gone is ↦ subst P is (at_right asked held l left gone)
-        | later r' right e'' ↦ third_absent asked held next which l r' none left right (is_plain asked) refl e''
-      ]
-    ]
-  where
-    third_absent : (asked : Operands) (held : Held) (next : Verdict) (which : Input) (l r' : List ℕ) → NoneBefore 5 next → held asked.left ≡ Some l → held asked.right ≡ Some r' → (plain : Bool) → is_plain asked ≡ plain
-        → calib_fetched plain (held asked.calib) next ≡ absent which → IsFirstAbsent (of_match asked) held which
-    third_absent asked held next which l r' none left right true own e = absurd (no_more next which none e)
-    third_absent asked held next which l r' none left right false own e = elim (fetch_absent input.Calibration (held asked.calib) next which e) [
-      | here gone is ↦ let P : Input → Type 0 = λ i. IsFirstAbsent (of_match asked) held i in subst P is (at_calib asked held l r' own left right gone)
-      | later bytes there e' ↦ absurd (no_more next which none e')
-    ]
-
--- a trace asks for the same inputs
-of_a_trace : (asked : Operands) (held : Held) (which : Input) → IsFirstAbsent (of_match asked) held which → IsFirstAbsent (of_trace asked) held which
-of_a_trace asked held which is = record { asks = is.asks; none = is.none; some = is.some }
-
-at_earlier : (asked : ChangeOperands) (held : Held) → held asked.earlier ≡ None → IsFirstAbsent (of_change asked) held input.Earlier
-at_earlier asked held none = record {
-  asks = (asked.earlier, refl);
-  none = λ name is. ap (λ (n : List ℕ). held n) is ∙ none;
-  some = λ at name lt is. some at name lt is;
-} where
-  some : (at : Input) (name : List ℕ) → order_of at < 3 → IsChangeInput asked at name → held name ≢ None
-  some input.Left name lt is = absurd is
-  some input.Right name lt is = absurd is
-  some input.Calibration name lt is = absurd is
-  some input.Earlier name lt is = absurd (omega arith)
-  some input.Later name lt is = absurd (omega arith)
-
-at_later : (asked : ChangeOperands) (held : Held) (e : List ℕ) → held asked.earlier ≡ Some e → held asked.later ≡ None → IsFirstAbsent (of_change asked) held input.Later
-at_later asked held e earlier none = record {
-  asks = (asked.later, refl);
-  none = λ name is. ap (λ (n : List ℕ). held n) is ∙ none;
-  some = λ at name lt is. some at name lt is;
-} where
-  some : (at : Input) (name : List ℕ) → order_of at < 4 → IsChangeInput asked at name → held name ≢ None
-  some input.Left name lt is = absurd is
-  some input.Right name lt is = absurd is
-  some input.Calibration name lt is = absurd is
-  some input.Earlier name lt is = none_differs (held name) e (ap (λ (n : List ℕ). held n) is ∙ earlier)
-  some input.Later name lt is = absurd (omega arith)
-
--- the absent grid of a change is the first that isn't held
-pub first_absent_grid : (asked : ChangeOperands) (held : Held) (next : Verdict) (which : Input) → NoneBefore 5 next → grids_fetched asked held next ≡ absent which → IsFirstAbsent (of_change asked) held which
-unfolding grids_fetched
-first_absent_grid asked held next which none e =
-    let second = fetched input.Later (held asked.later) next in
-    let P : Input → Type 0 = λ i. IsFirstAbsent (of_change asked) held i in
-    elim (fetch_absent input.Earlier (held asked.earlier) second which e) [
-      | here gone is ↦ subst P is (at_earlier asked held gone)
-      | later l earlier e' ↦ elim (fetch_absent input.Later (held asked.later) next which e') [
-        | here gone is ↦ subst P is (at_later asked held l earlier gone)
-        | later r there e'' ↦ absurd (no_more next which none e'')
-      ]
-    ]
-
 -- the absent input of a run is the first that isn't held
-first_absent_by : (options : Options) (words : List (List ℕ)) (held : Held) (v : Verdict) (which : Input) → (let read : Result Options UsageFault = Ok options in ReadCallsFor read words held v) → v ≡ absent which → IsFirstAbsent (names_of options words) held which
-first_absent_by (options.Match strips workers refine) words held v which calls is = first_absent (operands words) held _ which (none_matched 5 _ refine _ _ _) (calls.is ∙ is)
+first_absent_by : (options : Options) (words : List (List ℕ)) (held : Held) (v : Verdict) (which : Input) → (let read : Result Options UsageFault = Ok options in ReadCallsFor read words held v) → v ≡ absent which
+    → IsFirstAbsent (run_names options words (Some held)) held which
+first_absent_by (options.Match strips workers refine) words held v which calls is = first_absent (operands words) held _ which (present_matched _ refine _ _ _) (calls.is ∙ is)
 first_absent_by (options.Demo number strips workers refine) words held v which calls is = absurd (never_absent (demo_for number refine) which (calls ∙ is))
   where
     never_absent : (wanted : Result (List ℕ) Refusal) (which : Input) → unless_refused wanted (λ summary. files [] summary) ≡ absent which → ⊥
     never_absent (Ok summary) which e = absurd (cc)
     never_absent (Err refusal) which e = absurd (cc)
-first_absent_by (options.Trace dir x y d) words held v which calls is = of_a_trace (operands words) held which (first_absent (operands words) held _ which (none_traced 5 dir x y d _ _ _) (calls.is ∙ is))
-first_absent_by options.Change words held v which calls is = first_absent_grid (change_operands words) held _ which (none_changed 5 (change_operands words) held) (calls ∙ is)
+first_absent_by (options.Trace dir x y d) words held v which calls is = of_a_trace (operands words) held which (first_absent (operands words) held _ which (present_traced dir x y d _ _ _) (calls.is ∙ is))
+first_absent_by options.Change words held v which calls is = first_absent_grid (change_operands words) held _ which (present_changed (change_operands words) held) (calls ∙ is)
+first_absent_by options.Merge words held v which calls is = first_absent_entry (merge_operands words) held calls.calib which (calls.is ∙ is)
 
 -- both names differ, or they are one
 decided : (a b : List ℕ) → (a ≡ b) ⊎ (a ≢ b)
@@ -328,33 +237,6 @@ decided a b = elim (bytes_eq a b) as (λ t. bytes_eq a b ≡ t → (a ≡ b) ⊎
   | true ↦ λ e. inl ((bytes_eq-Decides a b).0 e)
   | false ↦ λ e. inr (λ same. let t : bytes_eq a b ≡ true = (bytes_eq-Decides a b).1 same in absurd (cc))
 ] refl
-
-same_order : (a b : Input) → order_of a ≡ order_of b → a ≡ b
-same_order input.Left input.Left e = refl
-same_order input.Right input.Right e = refl
-same_order input.Calibration input.Calibration e = refl
-same_order input.Earlier input.Earlier e = refl
-same_order input.Later input.Later e = refl
-same_order input.Left input.Right e = absurd (omega arith)
-same_order input.Left input.Calibration e = absurd (omega arith)
-same_order input.Left input.Earlier e = absurd (omega arith)
-same_order input.Left input.Later e = absurd (omega arith)
-same_order input.Right input.Left e = absurd (omega arith)
-same_order input.Right input.Calibration e = absurd (omega arith)
-same_order input.Right input.Earlier e = absurd (omega arith)
-same_order input.Right input.Later e = absurd (omega arith)
-same_order input.Calibration input.Left e = absurd (omega arith)
-same_order input.Calibration input.Right e = absurd (omega arith)
-same_order input.Calibration input.Earlier e = absurd (omega arith)
-same_order input.Calibration input.Later e = absurd (omega arith)
-same_order input.Earlier input.Left e = absurd (omega arith)
-same_order input.Earlier input.Right e = absurd (omega arith)
-same_order input.Earlier input.Calibration e = absurd (omega arith)
-same_order input.Earlier input.Later e = absurd (omega arith)
-same_order input.Later input.Left e = absurd (omega arith)
-same_order input.Later input.Right e = absurd (omega arith)
-same_order input.Later input.Calibration e = absurd (omega arith)
-same_order input.Later input.Earlier e = absurd (omega arith)
 
 alone_files : (wanted : Result (List ℕ) Refusal) → outputs_of (unless_refused wanted (λ summary. files [] summary)) ≡ []
 alone_files (Err refusal) = refl
@@ -453,15 +335,22 @@ completes_only names held v (WriteFault output) before now first shown counts i 
 completes_only names held v NoMemory before now first shown counts i is only = inr refl
 
 -- over the words
-pub completes_run : (read : Result Options UsageFault) (words : List (List ℕ)) (held new : Held) (v : Verdict) (outcome : Outcome) (before now : Faults) → ReadCallsFor read words held v → ShownBy v outcome → FilesStand outcome v held new
-    → RunCounts read words outcome before now → RunComplete read words v outcome before now
-completes_run (Err fault) words held new v outcome before now calls shown stands counts = tt
-completes_run (Ok options) words held new v outcome before now calls shown stands counts = record {
-  files = completes_files (names_of options words) v outcome held new before now (proper_by options words held v calls) shown stands counts;
-  refused_for = completes_refused (names_of options words) v outcome before now shown counts;
-  absent_one = completes_absent (names_of options words) v outcome before now shown counts;
-  absent_only = completes_only (names_of options words) held v outcome before now (λ i is. first_absent_by options words held v i calls is) shown counts;
+pub completes_run : (read : Result Options UsageFault) (words : List (List ℕ)) (told : Option Held) (held new : Held) (v : Verdict) (outcome : Outcome) (before now : Faults) → told ≡ Some held → ReadCallsFor read words held v → ShownBy v outcome → FilesStand outcome v held new
+    → RunCounts read words told outcome before now → RunComplete read words told v outcome before now
+completes_run (Err fault) words told held new v outcome before now is_told calls shown stands counts = tt
+completes_run (Ok options) words told held new v outcome before now is_told calls shown stands counts = record {
+  files = completes_files (run_names options words told) v outcome held new before now (proper_by options words told held v calls) shown stands counts;
+  refused_for = completes_refused (run_names options words told) v outcome before now shown counts;
+  absent_one = completes_absent (run_names options words told) v outcome before now shown counts;
+  absent_only = completes_only (run_names options words told) held v outcome before now (λ i is.
+      let P : Option Held → Type 0 = λ t. IsFirstAbsent (run_names options words t) held i in
+      subst P (sym is_told) (first_absent_by options words held v i calls is)) shown counts;
 }
+
+-- a shelf that tells what is held
+pub is_told : (tells : Bool) (held : Held) → IsTrue tells → told_by tells held ≡ Some held
+is_told true held tells = refl
+is_told false held tells = absurd (cc)
 
 -- where no count of the shelf rose there is no fault of a file
 names_no_file : (names : FileNames) (outcome : Outcome) (before now : Faults) → NoneRose before.reads now.reads → NoneRose before.writes now.writes → CountsShow names outcome before now → IsNoFileFault outcome
@@ -476,19 +365,19 @@ names_no_file names NoMemory before now reads writes counts = tt
 usage_no_file : (fault : UsageFault) (outcome : Outcome) → outcome ≡ Usage fault → IsNoFileFault outcome
 usage_no_file fault outcome e = let P : Outcome → Type 0 = λ o. IsNoFileFault o in subst P (sym e) tt
 
-pub no_file_fault : (read : Result Options UsageFault) (words : List (List ℕ)) (outcome : Outcome) (before now : Faults) → NoneRose before.reads now.reads → NoneRose before.writes now.writes → RunCounts read words outcome before now → IsNoFileFault outcome
-no_file_fault (Err fault) words outcome before now reads writes counts = usage_no_file fault outcome counts.0
-no_file_fault (Ok options) words outcome before now reads writes counts = names_no_file (names_of options words) outcome before now reads writes counts
+pub no_file_fault : (read : Result Options UsageFault) (words : List (List ℕ)) (told : Option Held) (outcome : Outcome) (before now : Faults) → NoneRose before.reads now.reads → NoneRose before.writes now.writes → RunCounts read words told outcome before now → IsNoFileFault outcome
+no_file_fault (Err fault) words told outcome before now reads writes counts = usage_no_file fault outcome counts.0
+no_file_fault (Ok options) words told outcome before now reads writes counts = names_no_file (run_names options words told) outcome before now reads writes counts
 
 -- a fault of the words is the outcome exactly where the words have it
 never_usage : (names : FileNames) (outcome : Outcome) (fault : UsageFault) (before now : Faults) → CountsShow names outcome before now → outcome ≡ Usage fault → ⊥
 never_usage names outcome fault before now counts is = let P : Outcome → Type 0 = λ o. CountsShow names o before now in subst P is counts
 
-pub usage_by : (read : Result Options UsageFault) (words : List (List ℕ)) (outcome : Outcome) (before now : Faults) → RunCounts read words outcome before now
+pub usage_by : (read : Result Options UsageFault) (words : List (List ℕ)) (told : Option Held) (outcome : Outcome) (before now : Faults) → RunCounts read words told outcome before now
     → (fault : UsageFault) → (outcome ≡ Usage fault) ↔ (read ≡ Err fault)
-usage_by (Err other) words outcome before now counts fault = (
+usage_by (Err other) words told outcome before now counts fault = (
   λ is. let same : other ≡ fault = cc (counts.0) in ap (λ (f : UsageFault). let read : Result Options UsageFault = Err f in read) same,
   λ is. let same : other ≡ fault = cc in counts.0 ∙ ap (λ (f : UsageFault). Usage f) same,
 )
-usage_by (Ok options) words outcome before now counts fault =
-    (λ is. absurd (never_usage (names_of options words) outcome fault before now counts is), λ is. absurd (cc))
+usage_by (Ok options) words told outcome before now counts fault =
+    (λ is. absurd (never_usage (run_names options words told) outcome fault before now counts is), λ is. absurd (cc))

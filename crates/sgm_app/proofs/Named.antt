@@ -1,14 +1,15 @@
--- The files of a match and those of a change have the names of their outputs, which differ.
+-- The files of a match, of a change and of a merge have the names of their outputs, which differ.
 use Rattle.std.proofs.Common.{◌≡◌, ◌++◌, ℕ, true, false, ◌||◌, List, [], ◌∷◌, Option, Some, None, IsSomeAnd, refl, ap, ◌∙◌, All, codes, rules, unwrap_or}
 use Rattle.std.specs.Str.{bytes_eq}
 use Rattle.std.proofs.lemmas.Slice.Eq.{bytes_eq-Decides}
 use Rattle.std.proofs.lemmas.List.{append_cancel_left}
 use Rattle.std.proofs.lemmas.List.Elements.{All-append}
-use Rattle.sgm_words.specs.Operands.{Operands, ChangeOperands, of_match, of_change}
+use Rattle.sgm_words.specs.Operands.{Operands, ChangeOperands, MergeOperands, of_match, of_change, of_merge}
 use Rattle.sgm_words.specs.declared.files.Output.TheVariants.{Disparity, Heights, Report, Difference, Volumes}
 use Rattle.sgm_app.specs.Changing.{GridTexts}
 use Rattle.sgm_app.specs.Texts.{Texts}
-use Rattle.sgm_app.specs.Outputs.{IsNamed, file_of, files_with, files_of, change_files_of}
+use Rattle.sgm_app.specs.Merging.{MergedTexts}
+use Rattle.sgm_app.specs.Outputs.{IsNamed, file_of, files_with, files_of, change_files_of, merge_files_of}
 use Rattle.sgm_app.proofs.Holding.{Distinct}
 
 -- ---- the names are those of the outputs
@@ -39,6 +40,17 @@ pub all_change_named : (asked : ChangeOperands) (texts : GridTexts) → All (IsN
 all_change_named asked texts =
     All-append (IsNamed (of_change asked)) (file_of asked.out Difference texts.difference ∷ []) (file_of asked.out Volumes texts.volumes ∷ []) (difference_named asked texts.difference) (volumes_named asked texts.volumes)
 
+merged_named : (asked : MergeOperands) (listed : Option (List (List ℕ))) (text : List ℕ) → All (IsNamed (of_merge asked listed)) (file_of asked.out Heights text ∷ [])
+merged_named asked listed text = search rules
+
+tallied_named : (asked : MergeOperands) (listed : Option (List (List ℕ))) (text : Option (List ℕ)) → All (IsNamed (of_merge asked listed)) (files_with asked.out Report text)
+tallied_named asked listed None = search rules
+tallied_named asked listed (Some text) = search rules
+
+pub all_merge_named : (asked : MergeOperands) (listed : Option (List (List ℕ))) (texts : MergedTexts) → All (IsNamed (of_merge asked listed)) (merge_files_of asked.out texts)
+all_merge_named asked listed texts =
+    All-append (IsNamed (of_merge asked listed)) (file_of asked.out Heights texts.heights ∷ []) (files_with asked.out Report texts.report) (merged_named asked listed texts.heights) (tallied_named asked listed texts.report)
+
 -- the name of an output's file
 pub name_is : (ending : Option (List ℕ)) (out name : List ℕ) → IsSomeAnd ending (λ e. name ≡ out ++ e) → name ≡ out ++ unwrap_or ending []
 name_is None out name is = absurd is
@@ -68,3 +80,10 @@ all_distinct out texts = files_distinct out texts.disparity texts.heights texts.
 
 pub all_change_distinct : (out : List ℕ) (texts : GridTexts) → Distinct (change_files_of out texts)
 all_change_distinct out texts = (ap (λ b. b || false) (apart out (codes ".asc") (codes ".csv") refl), (refl, tt))
+
+merge_distinct : (out heights : List ℕ) (report : Option (List ℕ)) → Distinct (file_of out Heights heights ∷ files_with out Report report)
+merge_distinct out heights None = (refl, tt)
+merge_distinct out heights (Some report) = (ap (λ b. b || false) (apart out (codes ".asc") (codes ".csv") refl), (refl, tt))
+
+pub all_merge_distinct : (out : List ℕ) (texts : MergedTexts) → Distinct (merge_files_of out texts)
+all_merge_distinct out texts = merge_distinct out texts.heights texts.report

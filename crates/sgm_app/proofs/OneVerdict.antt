@@ -1,5 +1,5 @@
 -- The inputs have readings, and only one verdict follows from them.
-use Rattle.std.proofs.Common.{◌≡◌, ℕ, ◌∙◌, sym, List, refl, ap, true, false, Bool, Option, None, Some, IfSome, Result, Ok, Err, if◌then◌else◌}
+use Rattle.std.proofs.Common.{◌≡◌, ℕ, ◌∙◌, sym, List, [], unwrap_or, refl, ap, true, false, Bool, Option, None, Some, IfSome, Result, Ok, Err, if◌then◌else◌}
 use Rattle.sgm_base.specs.Picture.{Picture}
 use Rattle.sgm_io.specs.Held.{Held, AreBytes, HoldsBytes}
 use Rattle.sgm_pgm.specs.Read.{Reads}
@@ -10,16 +10,18 @@ use Rattle.sgm_calib.specs.Calibration.{Calibration, plain}
 use Rattle.sgm_calib.specs.Read.{Reads as ReadsCalib}
 use Rattle.sgm_calib.specs.declared.keys.CalibFault.{CalibFault}
 use Rattle.sgm_calib.proofs.Answers.{some_answer, one_answer}
-use Rattle.sgm_words.specs.Operands.{Operands, operands, change_operands, is_plain}
+use Rattle.sgm_words.specs.Operands.{Operands, operands, change_operands, MergeOperands, merge_operands, is_plain, is_plain_word}
 use Rattle.sgm_words.specs.Words.{read_of}
 use Rattle.sgm_words.specs.declared.usage.UsageFault.{UsageFault}
 use Rattle.sgm_words.specs.declared.options.Options.{Options}
 use Rattle.sgm_words.specs.declared.options.Options.TheVariants as options
 use Rattle.sgm_words.specs.declared.files.Input.{Input}
 use Rattle.sgm_words.specs.declared.files.Input.TheVariants as input
+use Rattle.sgm_list.specs.Names.{names_reading}
+use Rattle.sgm_app.specs.Merging.{plan_for}
 use Rattle.sgm_app.specs.Readings.{Readings, IsReading, AreReadings}
-use Rattle.sgm_app.specs.Verdict.{Verdict, usage, pair_fetched, grids_fetched, matched, traced, changed, demoed, fetched, calib_fetched, calib_of}
-use Rattle.sgm_app.specs.Calls.{PairCallsFor, ReadCallsFor, CallsFor}
+use Rattle.sgm_app.specs.Verdict.{Verdict, usage, pair_fetched, grids_fetched, merge_fetched, matched, traced, changed, plan_carried_out, plan_of, demoed, fetched, calib_fetched, calib_of}
+use Rattle.sgm_app.specs.Calls.{PairCallsFor, MergeCallsFor, ReadCallsFor, CallsFor}
 
 -- ---- some verdict
 
@@ -48,6 +50,9 @@ some_by (Ok (options.Trace dir x y d)) words held are =
     let asked = operands words in let found = readings_some asked held are in
     (pair_fetched asked held (traced dir x y d found.0.left found.0.right (calib_of asked found.0)), record { readings = found.0; are_readings = found.1; is = refl })
 some_by (Ok options.Change) words held are = let asked = change_operands words in (grids_fetched asked held (changed asked held), refl)
+some_by (Ok options.Merge) words held are =
+    let asked = merge_operands words in let found = calib_some (held asked.calib) in
+    (merge_fetched asked held (plan_carried_out asked.out held (plan_of asked held found.0)), record { calib = found.0; is_reading = found.1; is = refl })
 
 pub verdict_some : (words : List (List ℕ)) (held : Held) → HoldsBytes held → (v : Verdict) × CallsFor words held v
 verdict_some words held are = some_by (read_of words) words held are
@@ -88,12 +93,23 @@ pair_one asked judged held one other a b =
 calls_one : (asked : Operands) (judged : Result Picture PgmFault → Result Picture PgmFault → Result Calibration CalibFault → Verdict) (held : Held) (one other : Verdict) → PairCallsFor asked judged held one → PairCallsFor asked judged held other → one ≡ other
 calls_one asked judged held one other a b = sym a.is ∙ pair_one asked judged held a.readings b.readings a.are_readings b.are_readings ∙ b.is
 
+merge_one : (asked : MergeOperands) (held : Held) (one other : Result Calibration CalibFault) → IsReading ReadsCalib (held asked.calib) one → IsReading ReadsCalib (held asked.calib) other
+    → merge_fetched asked held (plan_carried_out asked.out held (plan_of asked held one)) ≡ merge_fetched asked held (plan_carried_out asked.out held (plan_of asked held other))
+unfolding merge_fetched
+merge_one asked held one other a b =
+    ap (λ (v : Verdict). fetched input.List (held asked.list) v)
+    (calib_fetched_same (is_plain_word asked.calib) (held asked.calib) one other (λ c. plan_carried_out asked.out held (plan_for (names_reading asked.out (unwrap_or (held asked.list) [])) c)) a b)
+
+merges_one : (asked : MergeOperands) (held : Held) (one other : Verdict) → MergeCallsFor asked held one → MergeCallsFor asked held other → one ≡ other
+merges_one asked held one other a b = sym a.is ∙ merge_one asked held a.calib b.calib a.is_reading b.is_reading ∙ b.is
+
 one_by : (read : Result Options UsageFault) (words : List (List ℕ)) (held : Held) (one other : Verdict) → ReadCallsFor read words held one → ReadCallsFor read words held other → one ≡ other
 one_by (Err fault) words held one other a b = sym a ∙ b
 one_by (Ok (options.Match strips workers refine)) words held one other a b = calls_one (operands words) (matched (operands words).out refine) held one other a b
 one_by (Ok (options.Demo number strips workers refine)) words held one other a b = sym a ∙ b
 one_by (Ok (options.Trace dir x y d)) words held one other a b = calls_one (operands words) (traced dir x y d) held one other a b
 one_by (Ok options.Change) words held one other a b = sym a ∙ b
+one_by (Ok options.Merge) words held one other a b = merges_one (merge_operands words) held one other a b
 
 pub verdict_one : (words : List (List ℕ)) (held : Held) (one other : Verdict) → CallsFor words held one → CallsFor words held other → one ≡ other
 verdict_one words held one other a b = one_by (read_of words) words held one other a b

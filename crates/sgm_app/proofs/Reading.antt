@@ -24,7 +24,7 @@ image_reads held items bytes reading same are is =
     let Q : List ℕ → Type 0 = λ b. Reads b reading in
     subst Q (sym are) (subst P same is)
 
-calib_reads_by : (is : Bool) (held : Option (List ℕ)) (bytes : Option (List ℕ)) (reading : Result Calibration CalibFault) →
+pub calib_reads_by : (is : Bool) (held : Option (List ℕ)) (bytes : Option (List ℕ)) (reading : Result Calibration CalibFault) →
     HasCalib is held bytes → IsReading ReadsCalib held reading
     → CalibReads bytes (if is then Ok plain else reading)
 calib_reads_by true held None reading has reads = refl

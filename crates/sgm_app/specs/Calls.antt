@@ -7,13 +7,14 @@ use Rattle.sgm_energy.specs.declared.dir.Dir.{Dir}
 use Rattle.sgm_refine.specs.Refining.{Refining}
 use Rattle.sgm_calib.specs.Calibration.{Calibration}
 use Rattle.sgm_calib.specs.declared.keys.CalibFault.{CalibFault}
-use Rattle.sgm_words.specs.Operands.{Operands, operands, ChangeOperands, change_operands}
+use Rattle.sgm_calib.specs.Read.{Reads as ReadsCalib}
+use Rattle.sgm_words.specs.Operands.{Operands, operands, ChangeOperands, change_operands, MergeOperands, merge_operands}
 use Rattle.sgm_words.specs.Words.{read_of}
 use Rattle.sgm_words.specs.declared.options.Options.{Options}
 use Rattle.sgm_words.specs.declared.options.Options.TheVariants as options
 use Rattle.sgm_words.specs.declared.usage.UsageFault.{UsageFault}
-use Rattle.sgm_app.specs.Readings.{Readings, AreReadings}
-use Rattle.sgm_app.specs.Verdict.{Verdict, usage, pair_fetched, grids_fetched, calib_of, matched, traced, changed, demoed}
+use Rattle.sgm_app.specs.Readings.{Readings, AreReadings, IsReading}
+use Rattle.sgm_app.specs.Verdict.{Verdict, usage, pair_fetched, grids_fetched, merge_fetched, calib_of, plan_of, matched, traced, changed, plan_carried_out, demoed}
 
 -- A match or a trace of these operands calls for the verdict: it is that of some readings of the inputs, from which
 -- `judged` says what they call for.
@@ -34,6 +35,12 @@ TraceCallsFor asked dir x y d held v = PairCallsFor asked (traced dir x y d) hel
 abbrev pub ChangeCallsFor : ChangeOperands → Held → Verdict → Type 0
 ChangeCallsFor asked held v = grids_fetched asked held (changed asked held) ≡ v
 
+-- a merge of these operands calls for the verdict: it is that of some reading of the calibration
+pub record MergeCallsFor (asked : MergeOperands) (held : Held) (v : Verdict) : Type 0 where
+  pub calib : Result Calibration CalibFault
+  pub is_reading : IsReading ReadsCalib (held asked.calib) calib
+  pub is : merge_fetched asked held (plan_carried_out asked.out held (plan_of asked held calib)) ≡ v
+
 -- the words, as they are read, call for the verdict
 abbrev pub ReadCallsFor : Result Options UsageFault → List (List ℕ) → Held → Verdict → Type 0
 ReadCallsFor (Err fault) words held v = usage fault ≡ v
@@ -41,6 +48,7 @@ ReadCallsFor (Ok (options.Match strips workers refine)) words held v = MatchCall
 ReadCallsFor (Ok (options.Demo number strips workers refine)) words held v = demoed number refine ≡ v
 ReadCallsFor (Ok (options.Trace dir x y d)) words held v = TraceCallsFor (operands words) dir x y d held v
 ReadCallsFor (Ok options.Change) words held v = ChangeCallsFor (change_operands words) held v
+ReadCallsFor (Ok options.Merge) words held v = MergeCallsFor (merge_operands words) held v
 
 -- the words call for the verdict over what is held
 abbrev pub CallsFor : List (List ℕ) → Held → Verdict → Type 0

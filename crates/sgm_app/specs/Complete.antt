@@ -1,7 +1,8 @@
 -- What the outcome must be where no count of faults stands in the way.
-use Rattle.std.specs.Prelude.{◌≡◌, ◌≢◌, ◌⊎◌, ⊤, ℕ, List, Contains, Result, Ok, Err}
+use Rattle.std.specs.Prelude.{◌≡◌, ◌≢◌, ◌⊎◌, ⊤, ℕ, List, Option, Contains, Result, Ok, Err}
+use Rattle.sgm_io.specs.Held.{Held}
 use Rattle.sgm_io.specs.Counts.{Counts, Rose}
-use Rattle.sgm_words.specs.Operands.{FileNames, names_of, IsInputName}
+use Rattle.sgm_words.specs.Operands.{FileNames, IsInputName}
 use Rattle.sgm_words.specs.declared.usage.UsageFault.{UsageFault}
 use Rattle.sgm_words.specs.declared.options.Options.{Options}
 use Rattle.sgm_words.specs.declared.files.Input.{Input}
@@ -11,7 +12,7 @@ use Rattle.sgm_outcome.specs.declared.outcome.Outcome.{Outcome}
 use Rattle.sgm_outcome.specs.declared.outcome.Outcome.TheVariants.{Done, Usage, Refused, ReadFault, WriteFault, NoMemory}
 use Rattle.sgm_app.specs.Outputs.{OutputFile}
 use Rattle.sgm_app.specs.Verdict.{Verdict, absent, refused, IsFiles, outputs_of}
-use Rattle.sgm_app.specs.Ends.{Faults}
+use Rattle.sgm_app.specs.Ends.{Faults, run_names}
 
 -- no count of reading an input's name rose
 abbrev pub NoReadRose : FileNames → Faults → Faults → Type 0
@@ -42,9 +43,9 @@ pub record IsComplete (names : FileNames) (verdict : Verdict) (outcome : Outcome
   pub absent_only : (input : Input) → verdict ≡ absent input → OnlyReadRose names input before now → IsUnlessMemory outcome (ReadFault input)
 
 -- over the words, whose faults have a clause of their own
-abbrev pub RunComplete : Result Options UsageFault → List (List ℕ) → Verdict → Outcome → Faults → Faults → Type 0
-RunComplete (Err fault) words verdict outcome before now = ⊤
-RunComplete (Ok options) words verdict outcome before now = IsComplete (names_of options words) verdict outcome before now
+abbrev pub RunComplete : Result Options UsageFault → List (List ℕ) → Option Held → Verdict → Outcome → Faults → Faults → Type 0
+RunComplete (Err fault) words told verdict outcome before now = ⊤
+RunComplete (Ok options) words told verdict outcome before now = IsComplete (run_names options words told) verdict outcome before now
 
 -- no fault of reading, and none of writing a file
 abbrev pub IsNoFileFault : Outcome → Type 0

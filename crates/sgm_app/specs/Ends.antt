@@ -1,17 +1,19 @@
 -- What stands after a run, and what caused its outcome.
-use Rattle.std.specs.Prelude.{◌≡◌, ◌≢◌, ◌⊎◌, ℕ, ◌<◌, ◌≤◌, ⊤, List, [], ◌∷◌, ◌++◌, Option, None, Some, false, Contains, Result, Ok, Err}
+use Rattle.std.specs.Prelude.{◌≡◌, ◌≢◌, ◌⊎◌, ℕ, ◌+◌, ◌<◌, ◌≤◌, ⊤, List, [], ◌∷◌, ◌++◌, Bool, true, false, Option, None, Some, option_map, unwrap_or, Contains, Result, Ok, Err}
 use Rattle.sgm_io.specs.Held.{Held, IsPrefix}
 use Rattle.sgm_io.specs.Counts.{Counts, NoneFell, RoseAt, Rose}
 use Rattle.sgm_io.specs.Sink.{GrowsByPrefix}
-use Rattle.sgm_words.specs.Operands.{FileNames, names_of, IsInputName, IsOutputName}
+use Rattle.sgm_list.specs.Names.{names_in}
+use Rattle.sgm_words.specs.Operands.{FileNames, MergeOperands, merge_operands, names_of, IsInputName, IsOutputName}
 use Rattle.sgm_words.specs.declared.usage.UsageFault.{UsageFault}
 use Rattle.sgm_words.specs.declared.options.Options.{Options}
 use Rattle.sgm_words.specs.declared.options.Options.TheVariants as options
 use Rattle.sgm_words.specs.declared.files.Input.{Input}
-use Rattle.sgm_words.specs.declared.files.Input.TheVariants.{Left, Right, Calibration, Earlier, Later}
+use Rattle.sgm_words.specs.declared.files.Input.TheVariants as input
 use Rattle.sgm_words.specs.declared.files.Output.{Output}
 use Rattle.sgm_words.specs.declared.files.Output.TheVariants.{Summary}
-use Rattle.sgm_outcome.specs.declared.outcome.Refusal.TheVariants.{TooLong}
+use Rattle.sgm_outcome.specs.declared.outcome.Refusal.{Refusal}
+use Rattle.sgm_outcome.specs.declared.outcome.Refusal.TheVariants as refusal
 use Rattle.sgm_outcome.specs.declared.outcome.Outcome.{Outcome}
 use Rattle.sgm_outcome.specs.declared.outcome.Outcome.TheVariants.{Done, Usage, Refused, ReadFault, WriteFault, NoMemory}
 use Rattle.sgm_app.specs.Outputs.{OutputFile, is_named}
@@ -73,16 +75,43 @@ WritingStands NoMemory old new = ⊤
 
 -- the order in which a run fetches those inputs that it asks for
 abbrev pub order_of : Input → ℕ
-order_of Left = 0
-order_of Right = 1
-order_of Calibration = 2
-order_of Earlier = 3
-order_of Later = 4
+order_of input.List = 0
+order_of input.Left = 1
+order_of input.Right = 2
+order_of input.Calibration = 3
+order_of input.Earlier = 4
+order_of input.Later = 5
+order_of (input.Grid k) = k + 7
 
--- none of the first n inputs is absent or too long
+-- where in this order the text of an input is judged: a grid of a list before the next is fetched, the
+-- others once all that the words name were fetched
+abbrev pub text_order : Input → ℕ
+text_order (input.Grid k) = k + 7
+text_order input.List = 6
+text_order input.Left = 6
+text_order input.Right = 6
+text_order input.Calibration = 6
+text_order input.Earlier = 6
+text_order input.Later = 6
+
+-- where a refusal comes
+abbrev pub refusal_order : Refusal → ℕ
+refusal_order (refusal.TooLong i) = order_of i
+refusal_order (refusal.Asc i fault) = text_order i
+refusal_order (refusal.NotOnCells grid) = text_order (input.Grid grid)
+refusal_order (refusal.List fault) = 6
+refusal_order (refusal.Pgm side fault) = 6
+refusal_order (refusal.Calib fault) = 6
+refusal_order (refusal.SizesDiffer left right) = 6
+refusal_order (refusal.VolumeTooLarge cells) = 6
+refusal_order (refusal.Warp side fault) = 6
+refusal_order (refusal.NotInside x y d) = 6
+refusal_order (refusal.GridsDiffer at earlier later) = 6
+
+-- none of the first n inputs is absent, and nothing that comes before the n-th is refused
 pub record NoneBefore (n : ℕ) (verdict : Verdict) : Type 0 where
-  pub present : (input : Input) → order_of input < n → verdict ≢ absent input
-  pub fit : (input : Input) → order_of input < n → verdict ≢ refused (TooLong input)
+  pub present : (i : Input) → order_of i < n → verdict ≢ absent i
+  pub sound : (r : Refusal) → refusal_order r < n → verdict ≢ refused r
 
 -- the part of an outcome's cause that the verdict shows
 abbrev pub ShownBy : Verdict → Outcome → Type 0
@@ -149,10 +178,23 @@ OutCountsShow (ReadFault input) before now = ⊥
 OutCountsShow (WriteFault output) before now = (output ≡ Summary) × OutRose before now
 OutCountsShow NoMemory before now = SameFaults before now
 
+-- what is held, where the shelf tells it
+abbrev pub told_by : Bool → Held → Option Held
+told_by true held = Some held
+told_by false held = None
+
+-- the names that the list of a merge asks for
+abbrev pub names_listed : MergeOperands → Held → List (List ℕ)
+names_listed asked held = names_in (unwrap_or (held asked.list) [])
+
+-- the names of a run's files, so far as the words and what is told tell them
+abbrev pub run_names : Options → List (List ℕ) → Option Held → FileNames
+run_names options words told = names_of options words (option_map (names_listed (merge_operands words)) told)
+
 -- over the words: a fault of the words is the outcome, and no count changed
-abbrev pub RunCounts : Result Options UsageFault → List (List ℕ) → Outcome → Faults → Faults → Type 0
-RunCounts (Err fault) words outcome before now = (outcome ≡ Usage fault) × SameFaults before now
-RunCounts (Ok options) words outcome before now = CountsShow (names_of options words) outcome before now
+abbrev pub RunCounts : Result Options UsageFault → List (List ℕ) → Option Held → Outcome → Faults → Faults → Type 0
+RunCounts (Err fault) words told outcome before now = (outcome ≡ Usage fault) × SameFaults before now
+RunCounts (Ok options) words told outcome before now = CountsShow (run_names options words told) outcome before now
 
 -- which name is being written after an outcome: where no file is written, the one that was being written before
 abbrev pub RunWriting : Result Options UsageFault → Outcome → Option (List ℕ) → Option (List ℕ) → Type 0
@@ -161,6 +203,7 @@ RunWriting (Ok (options.Match strips workers refine)) outcome old new = WritingS
 RunWriting (Ok (options.Demo number strips workers refine)) outcome old new = new ≡ old
 RunWriting (Ok (options.Trace dir x y d)) outcome old new = new ≡ old
 RunWriting (Ok options.Change) outcome old new = WritingStands outcome old new
+RunWriting (Ok options.Merge) outcome old new = WritingStands outcome old new
 
 -- a stage over the shelf alone: at Ok no count changed; a stop is shown by the counts, whatever `out` has counted
 abbrev pub StageCounts : {T S : Type 0} → (S → Faults → Faults → Type 0) → Result T S → Counts → Counts → Counts → Counts → Type 0

@@ -2,14 +2,14 @@
 use Rattle.std.specs.Prelude.{◌≡◌, ⊤, ℕ, List, Bool, true, false, Option, None, Some, Result, Ok, Err, Vec, option_map}
 use Rattle.std.specs.declared.alloc.Global.{Global}
 use Rattle.sgm_io.specs.Held.{Held}
-use Rattle.sgm_words.specs.Operands.{Operands, ChangeOperands, FileNames, is_plain, IsInputName, IsPairInput, IsChangeInput}
+use Rattle.sgm_words.specs.Operands.{Operands, ChangeOperands, MergeOperands, FileNames, is_plain, is_plain_word, IsInputName, IsPairInput, IsChangeInput}
 use Rattle.sgm_words.specs.declared.files.Input.{Input}
 use Rattle.sgm_words.specs.declared.files.Input.TheVariants as input
 use Rattle.sgm_app.specs.Verdict.{Verdict, fetched, calib_fetched}
 use Rattle.sgm_app.specs.Ends.{ShownBy, NoneBefore, order_of, CountsShow, Faults}
 use Rattle.sgm_app.specs.Stops.{fetch_outcome}
 use Rattle.sgm_app.specs.declared.gathering.Grids.{Grids}
-use Rattle.sgm_app.specs.Inputs.{InputBytes}
+use Rattle.sgm_app.specs.Inputs.{InputBytes, MergeBytes}
 use Rattle.sgm_app.specs.declared.stops.FetchStop.{FetchStop}
 
 -- a stop at this step of a verdict is shown by the verdict, however it would go on
@@ -44,6 +44,11 @@ pub record AtHand (asked : Operands) (held : Held) (inputs : InputBytes) : Type 
 pub record GridsAtHand (asked : ChangeOperands) (held : Held) (grids : Grids) : Type 0 where
   pub earlier : held asked.earlier ≡ Some grids.earlier.items
   pub later : held asked.later ≡ Some grids.later.items
+
+-- the list and the calibration of a merge at hand are what is held
+pub record MergeAtHand (asked : MergeOperands) (held : Held) (inputs : MergeBytes) : Type 0 where
+  pub list : held asked.list ≡ Some inputs.list
+  pub calib : HasCalib (is_plain_word asked.calib) (held asked.calib) inputs.calib
 
 -- the inputs of a match or a trace are asked for under their names
 abbrev pub HavePair : Operands → FileNames → Type 0

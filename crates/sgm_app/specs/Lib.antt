@@ -4,10 +4,12 @@ pub mod Changing
 pub mod Complete
 pub mod Deliver
 pub mod Ends
+pub mod Entries
 pub mod Gather
 pub mod Inputs
 pub mod Judge
 pub mod Made
+pub mod Merging
 pub mod Outputs
 pub mod Readings
 pub mod Refusals

@@ -1,9 +1,13 @@
 -- What contracts see of the texts that were made.
 use Rattle.std.specs.Prelude.{option_map}
 use Rattle.sgm_app.specs.Changing.{GridTexts}
+use Rattle.sgm_app.specs.Merging.{MergePlan, MergedTexts}
+use Rattle.sgm_words.specs.Operands.{bytes_of}
 use Rattle.sgm_app.specs.Texts.{Texts}
 use Rattle.sgm_app.specs.declared.changing.ChangeTexts.{ChangeTexts}
 use Rattle.sgm_app.specs.declared.made.MadeTexts.{MadeTexts}
+use Rattle.sgm_app.specs.declared.merging.MergeTexts.{MergeTexts}
+use Rattle.sgm_app.specs.declared.merging.Plan.{Plan}
 
 abbrev pub texts_in : MadeTexts → Texts
 texts_in made = record {
@@ -19,3 +23,13 @@ change_texts_in made = record {
   volumes = made.volumes.items;
   summary = made.summary.items;
 }
+
+abbrev pub merge_texts_in : MergeTexts → MergedTexts
+merge_texts_in made = record {
+  heights = made.heights.items;
+  report = option_map (λ text. text.items) made.report;
+  summary = made.summary.items;
+}
+
+abbrev pub plan_in : Plan → MergePlan
+plan_in plan = record { names = bytes_of plan.names.items; calib = plan.calib; spec = plan.spec }

@@ -7,6 +7,7 @@ use Rattle.sgm_words.specs.Operands.{FileNames, IsOutputName}
 use Rattle.sgm_words.specs.declared.files.Output.{Output}
 use Rattle.sgm_words.specs.declared.files.Output.TheVariants.{Disparity, Heights, Report, Difference, Volumes}
 use Rattle.sgm_app.specs.Changing.{GridTexts}
+use Rattle.sgm_app.specs.Merging.{MergedTexts}
 use Rattle.sgm_app.specs.Texts.{Texts}
 
 -- a file that is to be written
@@ -31,6 +32,10 @@ files_of out texts = file_of out Disparity texts.disparity ∷ files_with out He
 -- the files of the texts of a change, in this order
 abbrev pub change_files_of : List ℕ → GridTexts → List OutputFile
 change_files_of out texts = file_of out Difference texts.difference ∷ file_of out Volumes texts.volumes ∷ []
+
+-- the files of the texts of a merge, in this order
+abbrev pub merge_files_of : List ℕ → MergedTexts → List OutputFile
+merge_files_of out texts = file_of out Heights texts.heights ∷ files_with out Report texts.report
 
 -- the file has the name that its output is to have
 abbrev pub IsNamed : FileNames → OutputFile → Type 0

@@ -1,5 +1,5 @@
 -- Which names a run leaves begun and not finished.
-use Rattle.std.specs.Prelude.{◌≡◌, ◌⊎◌, ℕ, List, true, false, Contains, Result, Ok, Err}
+use Rattle.std.specs.Prelude.{◌≡◌, ◌⊎◌, ℕ, List, true, false, Contains, None, Result, Ok, Err}
 use Rattle.sgm_io.specs.Unfinished.{NameSet}
 use Rattle.sgm_words.specs.Operands.{FileNames, names_of, IsOutputName}
 use Rattle.sgm_words.specs.declared.files.Output.{Output}
@@ -31,4 +31,4 @@ UnfinishedStands names NoMemory old new = LeavesUnfinished names (λ name. (outp
 -- the same over the words
 abbrev pub RunUnfinished : Result Options UsageFault → List (List ℕ) → Outcome → NameSet → NameSet → Type 0
 RunUnfinished (Err fault) words outcome old new = new ≡ old
-RunUnfinished (Ok options) words outcome old new = UnfinishedStands (names_of options words) outcome old new
+RunUnfinished (Ok options) words outcome old new = UnfinishedStands (names_of options words None) outcome old new

@@ -8,10 +8,11 @@ ghost use Rattle.sgm_app.specs.Judge.{StopsFor};
 ghost use Rattle.sgm_app.specs.Made.{change_texts_in};
 ghost use Rattle.sgm_app.specs.Refusals.{or_refused, unless};
 
+use crate::judge::judge_grid;
 use crate::stops::TextsError;
 use crate::{Input, Refusal};
 use sgm_change::{change, write_difference, write_volumes};
-use sgm_grid::{AscError, Grid, GridSpec, read_asc};
+use sgm_grid::{Grid, GridSpec};
 use std::alloc::{AllocError, Global};
 
 /// All texts of a change, under no names yet.
@@ -48,19 +49,6 @@ fn grid_texts(alloc: Global, earlier: &Grid, later: &Grid) -> Result<ChangeTexts
     }
     let made = ChangeTexts::of(alloc, earlier, later)?;
     Ok(made)
-}
-
-/// The grid of an input.
-fn judge_grid(alloc: Global, input: Input, bytes: &[u8]) -> Result<Grid, TextsError>
-    ensures { MatchResult result
-        (λ grid. or_refused (refusal.Asc input) (asc_reading bytes.now) ≡ Ok grid)
-        (StopsFor (or_refused (refusal.Asc input) (asc_reading bytes.now))) }
-{
-    match read_asc(alloc, bytes) {
-        Ok(grid) => Ok(grid),
-        Err(AscError::Fault(fault)) => Err(TextsError::Refused(Refusal::Asc(input, fault))),
-        Err(AscError::NoMemory) => Err(TextsError::NoMemory),
-    }
 }
 
 /// The refusal of two numbers of the word `at`, where they differ.

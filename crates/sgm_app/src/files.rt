@@ -1,14 +1,17 @@
 //! The files that are written: the texts under the names of their outputs.
 ghost use Rattle.std.specs.Prelude.{◌≡◌, ◌<◌, ◌++◌, length, All, IsSome, IfOk, OnOk, option_map};
 ghost use Rattle.sgm_words.specs.Files.{ending_of};
-ghost use Rattle.sgm_words.specs.Operands.{of_match, of_change};
-ghost use Rattle.sgm_app.specs.Made.{texts_in, change_texts_in};
-ghost use Rattle.sgm_app.specs.Outputs.{IsNamed, file_of, files_with, files_of, change_files_of};
+ghost use Rattle.std.specs.Prelude.{ℕ, List, Option};
+ghost use Rattle.sgm_words.specs.Operands.{of_match, of_change, of_merge};
+ghost use Rattle.sgm_app.specs.Made.{texts_in, change_texts_in, merge_texts_in};
+ghost use Rattle.sgm_app.specs.Outputs.{IsNamed, file_of, files_with};
+ghost use Rattle.sgm_app.specs.Outputs.{files_of, change_files_of, merge_files_of};
 
 use crate::Output;
 use crate::changing::ChangeTexts;
 use crate::made::MadeTexts;
-use sgm_words::{ChangeWords, OperandWords};
+use crate::merging::MergeTexts;
+use sgm_words::{ChangeWords, MergeWords, OperandWords};
 use std::alloc::{AllocError, Global};
 use std::marker::Model;
 
@@ -66,7 +69,7 @@ impl OutputText {
     }
 }
 
-/// All that a match or a change is to write: at least one file, and the summary.
+/// All that a match, a change or a merge is to write: at least one file, and the summary.
 #[derive(Drop)]
 pub struct Delivery {
     /// The files, in the order in which they are written.
@@ -136,5 +139,28 @@ pub fn name_change(
     let mut files = Vec::with_capacity(alloc, 2)?;
     add_file(alloc, out, Output::Difference, Some(difference), &mut files)?;
     add_file(alloc, out, Output::Volumes, Some(volumes), &mut files)?;
+    Ok(Delivery { files, summary })
+}
+
+/// The same of the texts of a merge.
+pub fn name_merge(
+    alloc: Global,
+    operands: &MergeWords<'_>,
+    texts: MergeTexts,
+) -> Result<Delivery, AllocError>
+    ensures files { IfOk result (λ delivery. delivery.files.items ≡ merge_files_of operands.now.out (merge_texts_in texts)) }
+    ensures summary { IfOk result (λ delivery. delivery.summary.items ≡ (merge_texts_in texts).summary) }
+    ensures named { (listed : Option (List (List ℕ)))
+        → IfOk result (λ delivery. All (IsNamed (of_merge operands.now listed)) delivery.files.items) }
+{
+    let MergeTexts {
+        heights,
+        report,
+        summary,
+    } = texts;
+    let out = operands.out();
+    let mut files = Vec::with_capacity(alloc, 2)?;
+    add_file(alloc, out, Output::Heights, Some(heights), &mut files)?;
+    add_file(alloc, out, Output::Report, report, &mut files)?;
     Ok(Delivery { files, summary })
 }

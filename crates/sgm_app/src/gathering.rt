@@ -1,16 +1,19 @@
 //! Fetching the inputs, in their order.
-ghost use Rattle.std.specs.Prelude.{◌≡◌, IsTrue, MatchResult, IfOk, option_map};
-ghost use Rattle.sgm_words.specs.Operands.{FileNames, is_plain, IsInputName};
+ghost use Rattle.std.specs.Prelude.{◌≡◌, ℕ, IsTrue, List, MatchResult, IfOk, Option, option_map, false};
+ghost use Rattle.sgm_words.specs.Operands.{FileNames, of_merge, is_plain_word, IsInputName};
+ghost use Rattle.sgm_words.specs.declared.files.Input.TheVariants.{Calibration};
 ghost use Rattle.sgm_app.specs.Ends.{StageCounts, ShownBy, NoneBefore};
 ghost use Rattle.sgm_app.specs.Stops.{fetch_outcome};
-ghost use Rattle.sgm_app.specs.Gather.{FetchesInput, FetchesCalib, AtHand, GridsAtHand, HavePair, HaveGrids, StopCounts};
-ghost use Rattle.sgm_app.specs.Verdict.{Verdict, most_bytes, pair_fetched, grids_fetched};
+ghost use Rattle.sgm_app.specs.Gather.{FetchesInput, FetchesCalib, AtHand, GridsAtHand, MergeAtHand};
+ghost use Rattle.sgm_app.specs.Gather.{HavePair, HaveGrids, StopCounts};
+ghost use Rattle.sgm_app.specs.Verdict.{Verdict, most_bytes, pair_fetched, grids_fetched, merge_fetched};
 
 use crate::Input;
 use crate::stops::FetchStop;
 use sgm_base::{MAX_CALIB_BYTES, MAX_IMAGE_BYTES};
 use sgm_io::{FetchError, Shelf};
-use sgm_words::{ChangeWords, MAX_GRID_BYTES, OperandWords};
+use sgm_list::MAX_LIST_BYTES;
+use sgm_words::{ChangeWords, MAX_GRID_BYTES, MergeWords, OperandWords, is_plain};
 use std::alloc::Global;
 use std::marker::Model;
 
@@ -36,6 +39,41 @@ impl Model for Inputs {
 pub struct Grids {
     pub earlier: Vec<u8>,
     pub later: Vec<u8>,
+}
+
+/// The bytes of the list of a merge, and those of the calibration where it isn't the plain one.
+#[derive(Drop)]
+pub struct MergeInputs {
+    pub list: Vec<u8>,
+    pub calib: Option<Vec<u8>>,
+}
+
+impl Model for MergeInputs {
+    ghost use Rattle.std.specs.Prelude.{option_map};
+    ghost use Rattle.sgm_app.specs.Inputs.{MergeBytes};
+
+    ghost Value = { MergeBytes };
+
+    ghost view = { λ i. record { list = i.list.items; calib = option_map (λ b. b.items) i.calib } };
+}
+
+impl MergeInputs {
+    /// The bytes of the list.
+    pub fn list(&self) -> &[u8]
+        ensures { result.now ≡ self.now.list }
+    {
+        self.list.as_slice()
+    }
+
+    /// The bytes of the calibration; None for the plain one.
+    pub fn calib(&self) -> Option<&[u8]>
+        ensures { option_map (λ bytes. bytes.now) result ≡ self.now.calib }
+    {
+        match &self.calib {
+            Some(bytes) => Some(bytes.as_slice()),
+            None => None,
+        }
+    }
 }
 
 impl Inputs {
@@ -71,11 +109,12 @@ fn most_bytes(input: Input) -> usize
     match input {
         Input::Left | Input::Right => MAX_IMAGE_BYTES,
         Input::Calibration => MAX_CALIB_BYTES,
-        Input::Earlier | Input::Later => MAX_GRID_BYTES,
+        Input::List => MAX_LIST_BYTES,
+        Input::Earlier | Input::Later | Input::Grid(_) => MAX_GRID_BYTES,
     }
 }
 
-fn fetch_input<S: Shelf>(
+pub(crate) fn fetch_input<S: Shelf>(
     alloc: Global,
     shelf: &mut S,
     input: Input,
@@ -97,22 +136,24 @@ fn fetch_input<S: Shelf>(
     }
 }
 
+// The bytes of the calibration of this name, where it isn't the plain one.
 fn fetch_calib<S: Shelf>(
     alloc: Global,
     shelf: &mut S,
-    operands: &OperandWords<'_>,
+    name: &str,
 ) -> Result<Option<Vec<u8>>, FetchStop>
     ensures held { IsTrue S.tells → S.held shelf.new ≡ S.held shelf.old }
-    ensures bytes { IsTrue S.tells → FetchesCalib (is_plain operands.now) (S.held shelf.old operands.now.calib) result }
+    ensures bytes { IsTrue S.tells → FetchesCalib (is_plain_word name.now) (S.held shelf.old name.now) result }
     ensures writing { S.writing shelf.new ≡ S.writing shelf.old }
     ensures unfinished { S.unfinished shelf.new ≡ S.unfinished shelf.old }
-    ensures counts { (names : FileNames) → HavePair operands.now names → StageCounts (StopCounts names) result
+    ensures counts { (names : FileNames) → (is_plain_word name.now ≡ false → IsInputName names Calibration name.now)
+        → StageCounts (StopCounts names) result
         (S.read_faults shelf.old) (S.write_faults shelf.old) (S.read_faults shelf.new) (S.write_faults shelf.new) }
 {
-    if operands.is_plain() {
+    if is_plain(name) {
         return Ok(None);
     }
-    match fetch_input(alloc, shelf, Input::Calibration, operands.calib()) {
+    match fetch_input(alloc, shelf, Input::Calibration, name) {
         Ok(bytes) => Ok(Some(bytes)),
         Err(stop) => Err(stop),
     }
@@ -127,7 +168,7 @@ pub fn gather<S: Shelf>(
 ) -> Result<Inputs, FetchStop>
     ensures held { IsTrue S.tells → S.held shelf.new ≡ S.held shelf.old }
     ensures at_hand { IsTrue S.tells → IfOk result (λ inputs. AtHand operands.now (S.held shelf.old) inputs) }
-    ensures verdict { IsTrue S.tells → (next : Verdict) → NoneBefore 3 next → MatchResult result
+    ensures verdict { IsTrue S.tells → (next : Verdict) → NoneBefore 4 next → MatchResult result
         (λ _. pair_fetched operands.now (S.held shelf.old) next ≡ next)
         (λ stop. ShownBy (pair_fetched operands.now (S.held shelf.old) next) (fetch_outcome stop)) }
     ensures writing { S.writing shelf.new ≡ S.writing shelf.old }
@@ -137,7 +178,7 @@ pub fn gather<S: Shelf>(
 {
     match fetch_input(alloc, shelf, Input::Left, operands.left()) {
         Ok(left) => match fetch_input(alloc, shelf, Input::Right, operands.right()) {
-            Ok(right) => match fetch_calib(alloc, shelf, operands) {
+            Ok(right) => match fetch_calib(alloc, shelf, operands.calib()) {
                 Ok(calib) => Ok(Inputs { left, right, calib }),
                 Err(stop) => Err(stop),
             },
@@ -155,7 +196,7 @@ pub fn gather_grids<S: Shelf>(
 ) -> Result<Grids, FetchStop>
     ensures held { IsTrue S.tells → S.held shelf.new ≡ S.held shelf.old }
     ensures at_hand { IsTrue S.tells → IfOk result (λ grids. GridsAtHand operands.now (S.held shelf.old) grids) }
-    ensures verdict { IsTrue S.tells → (next : Verdict) → NoneBefore 5 next → MatchResult result
+    ensures verdict { IsTrue S.tells → (next : Verdict) → NoneBefore 6 next → MatchResult result
         (λ _. grids_fetched operands.now (S.held shelf.old) next ≡ next)
         (λ stop. ShownBy (grids_fetched operands.now (S.held shelf.old) next) (fetch_outcome stop)) }
     ensures writing { S.writing shelf.new ≡ S.writing shelf.old }
@@ -166,6 +207,31 @@ pub fn gather_grids<S: Shelf>(
     match fetch_input(alloc, shelf, Input::Earlier, operands.earlier()) {
         Ok(earlier) => match fetch_input(alloc, shelf, Input::Later, operands.later()) {
             Ok(later) => Ok(Grids { earlier, later }),
+            Err(stop) => Err(stop),
+        },
+        Err(stop) => Err(stop),
+    }
+}
+
+/// Fetches the list and the calibration of a merge, in this order.
+pub fn gather_merge<S: Shelf>(
+    alloc: Global,
+    shelf: &mut S,
+    operands: &MergeWords<'_>,
+) -> Result<MergeInputs, FetchStop>
+    ensures held { IsTrue S.tells → S.held shelf.new ≡ S.held shelf.old }
+    ensures at_hand { IsTrue S.tells → IfOk result (λ inputs. MergeAtHand operands.now (S.held shelf.old) inputs) }
+    ensures verdict { IsTrue S.tells → (next : Verdict) → NoneBefore 4 next → MatchResult result
+        (λ _. merge_fetched operands.now (S.held shelf.old) next ≡ next)
+        (λ stop. ShownBy (merge_fetched operands.now (S.held shelf.old) next) (fetch_outcome stop)) }
+    ensures writing { S.writing shelf.new ≡ S.writing shelf.old }
+    ensures unfinished { S.unfinished shelf.new ≡ S.unfinished shelf.old }
+    ensures counts { (listed : Option (List (List ℕ))) → StageCounts (StopCounts (of_merge operands.now listed)) result
+        (S.read_faults shelf.old) (S.write_faults shelf.old) (S.read_faults shelf.new) (S.write_faults shelf.new) }
+{
+    match fetch_input(alloc, shelf, Input::List, operands.list()) {
+        Ok(list) => match fetch_calib(alloc, shelf, operands.calib()) {
+            Ok(calib) => Ok(MergeInputs { list, calib }),
             Err(stop) => Err(stop),
         },
         Err(stop) => Err(stop),

@@ -1,6 +1,7 @@
-//! From bytes to readings: an image, a calibration, or the refusal for its first fault.
+//! From bytes to readings: an image, a calibration, a grid, or the refusal for its first fault.
 ghost use Rattle.std.specs.Prelude.{◌≡◌, Ok, Result, MatchResult, option_map};
 ghost use Rattle.sgm_base.specs.Picture.{Picture};
+ghost use Rattle.sgm_grid.specs.Asc.{asc_reading};
 ghost use Rattle.sgm_pgm.specs.Read.{Reads};
 ghost use Rattle.sgm_pgm.specs.declared.fault.PgmFault.{PgmFault};
 ghost use Rattle.sgm_calib.specs.Calibration.{Calibration};
@@ -9,10 +10,11 @@ ghost use Rattle.sgm_outcome.specs.declared.outcome.Refusal.TheVariants as refus
 ghost use Rattle.sgm_app.specs.Judge.{CalibReads, StopsFor, judged_for};
 ghost use Rattle.sgm_app.specs.Refusals.{or_refused};
 
-use crate::Refusal;
 use crate::stops::TextsError;
+use crate::{Input, Refusal};
 use sgm_base::{Image, Side};
 use sgm_calib::{Calib, CalibError};
+use sgm_grid::{AscError, Grid, read_asc};
 use sgm_pgm::PgmError;
 use std::alloc::Global;
 
@@ -62,7 +64,7 @@ fn judge_image(alloc: Global, side: Side, bytes: &[u8]) -> Result<Image, TextsEr
 }
 
 /// The calibration: the plain one where there are no bytes.
-fn judge_calib(alloc: Global, bytes: Option<&[u8]>) -> Result<Calib, TextsError>
+pub(crate) fn judge_calib(alloc: Global, bytes: Option<&[u8]>) -> Result<Calib, TextsError>
     ensures { (reading : Result Calibration CalibFault) → CalibReads (option_map (λ b. b.now) bytes.entry) reading → MatchResult result
         (λ calib. or_refused refusal.Calib reading ≡ Ok calib) (StopsFor (or_refused refusal.Calib reading)) }
 {
@@ -73,5 +75,18 @@ fn judge_calib(alloc: Global, bytes: Option<&[u8]>) -> Result<Calib, TextsError>
             Err(CalibError::Fault(fault)) => Err(TextsError::Refused(Refusal::Calib(fault))),
             Err(CalibError::NoMemory) => Err(TextsError::NoMemory),
         },
+    }
+}
+
+/// The grid of an input.
+pub(crate) fn judge_grid(alloc: Global, input: Input, bytes: &[u8]) -> Result<Grid, TextsError>
+    ensures { MatchResult result
+        (λ grid. or_refused (refusal.Asc input) (asc_reading bytes.now) ≡ Ok grid)
+        (StopsFor (or_refused (refusal.Asc input) (asc_reading bytes.now))) }
+{
+    match read_asc(alloc, bytes) {
+        Ok(grid) => Ok(grid),
+        Err(AscError::Fault(fault)) => Err(TextsError::Refused(Refusal::Asc(input, fault))),
+        Err(AscError::NoMemory) => Err(TextsError::NoMemory),
     }
 }

@@ -97,7 +97,7 @@ fn heights(alloc: Global, grid: &Option<Grid>) -> Result<Option<Vec<u8>>, AllocE
 }
 
 // The report, where there are regions.
-fn report(
+pub(crate) fn report(
     alloc: Global,
     columns: Columns,
     regions: Option<&[Region]>,

@@ -8,7 +8,7 @@ ghost use Rattle.sgm_outcome.specs.declared.outcome.Outcome.TheVariants.{Done, U
 ghost use Rattle.sgm_app.specs.Verdict.{Verdict, outputs_of};
 ghost use Rattle.sgm_app.specs.Calls.{CallsFor, MatchCallsFor};
 ghost use Rattle.sgm_app.specs.Ends.{ShownBy, FilesStand, OutStands, OutUntouched, WritingStands, RunWriting};
-ghost use Rattle.sgm_app.specs.Ends.{CountsShow, RunCounts, faults};
+ghost use Rattle.sgm_app.specs.Ends.{CountsShow, RunCounts, faults, told_by};
 ghost use Rattle.sgm_app.specs.Unfinished.{AreFinished, UnfinishedStands, RunUnfinished};
 ghost use Rattle.sgm_app.specs.Complete.{RunComplete, IsNoFileFault, NoneRose};
 ghost use Rattle.sgm_app.specs.Deliver.{FilesPut};
@@ -18,12 +18,13 @@ use crate::delivery::deliver;
 use crate::demo::run_demo;
 use crate::files::name_texts;
 use crate::gathering::gather;
+use crate::merge::run_merge;
 use crate::pipeline::texts;
 use crate::trace::run_trace;
 use crate::{Options, Outcome, read_words, write_fault};
 use sgm_io::{Shelf, Sink};
 use sgm_refine::Refine;
-use sgm_words::{ChangeWords, OperandWords};
+use sgm_words::{ChangeWords, MergeWords, OperandWords};
 use sgm_work::Gate;
 use std::alloc::Global;
 use std::thread::Threads;
@@ -99,7 +100,8 @@ fn carry_out<R: Threads + Sync, S: Shelf, O: Sink, G: Gate + Sync>(
         (S.unfinished shelf.old) (S.unfinished shelf.new) }
     ensures finished { IsTrue S.tells → (v : Verdict) → CallsFor (bytes_of words.now) (S.held shelf.old) v
         → result ≡ Done → AreFinished (outputs_of v) (S.unfinished shelf.new) }
-    ensures counts { RunCounts (read_of (bytes_of words.now)) (bytes_of words.now) result
+    ensures counts { RunCounts (read_of (bytes_of words.now)) (bytes_of words.now)
+        (told_by S.tells (S.held shelf.old)) result
         (faults (S.read_faults shelf.old) (S.write_faults shelf.old) (O.faults out.old))
         (faults (S.read_faults shelf.new) (S.write_faults shelf.new) (O.faults out.new)) }
 {
@@ -131,6 +133,7 @@ fn carry_out<R: Threads + Sync, S: Shelf, O: Sink, G: Gate + Sync>(
                 run_trace(alloc, &OperandWords::of(words), dir, x, y, d, shelf, out)
             }
             Options::Change => run_change(alloc, &ChangeWords::of(words), shelf, out),
+            Options::Merge => run_merge(alloc, &MergeWords::of(words), shelf, out),
         },
         Err(fault) => Outcome::Usage(fault),
     }
@@ -171,7 +174,8 @@ pub fn run<R: Threads + Sync, S: Shelf, O: Sink, E: Sink, G: Gate + Sync>(
     ensures untouched { IsTrue O.tells → OutUntouched result (O.written out.old) (O.written out.new) }
 
     // A fault of reading or writing comes only where its count rose; without one no count changed.
-    ensures counts { RunCounts (read_of (bytes_of words.now)) (bytes_of words.now) result
+    ensures counts { RunCounts (read_of (bytes_of words.now)) (bytes_of words.now)
+        (told_by S.tells (S.held shelf.old)) result
         (faults (S.read_faults shelf.old) (S.write_faults shelf.old) (O.faults out.old))
         (faults (S.read_faults shelf.new) (S.write_faults shelf.new) (O.faults out.new)) }
 
@@ -180,7 +184,8 @@ pub fn run<R: Threads + Sync, S: Shelf, O: Sink, E: Sink, G: Gate + Sync>(
 
     // Where no count stands in the way, the outcome is the one that is called for, or there was no memory.
     ensures complete { IsTrue S.tells → (v : Verdict) → CallsFor (bytes_of words.now) (S.held shelf.old) v
-        → RunComplete (read_of (bytes_of words.now)) (bytes_of words.now) v result
+        → RunComplete (read_of (bytes_of words.now)) (bytes_of words.now)
+        (told_by S.tells (S.held shelf.old)) v result
         (faults (S.read_faults shelf.old) (S.write_faults shelf.old) (O.faults out.old))
         (faults (S.read_faults shelf.new) (S.write_faults shelf.new) (O.faults out.new)) }
     ensures sure { NoneRose (S.read_faults shelf.old) (S.read_faults shelf.new)

@@ -3,6 +3,7 @@ mod certificates;
 mod changes;
 mod ended;
 pub(crate) mod fixtures;
+mod merges;
 mod outputs;
 mod pairs;
 mod refusals;

@@ -19,7 +19,7 @@ made_send : IsSend made.the_row
 made_send = search (sendable, crosses) depth 20
 
 error_send : IsSend error.the_row
-error_send = search (sendable, crosses) depth 40
+error_send = search (sendable, crosses) depth 40 fits 10000
 
 piece_send : IsSend piece.the_row
 piece_send = search (made_send, error_send, sendable, crosses) depth 20

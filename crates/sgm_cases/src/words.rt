@@ -48,6 +48,7 @@ fn push_options(text: &mut String, options: Options) -> Result<(), AllocError> {
         }
         Options::Trace { dir, x, y, d } => push_trace(text, dir, (x, y), d),
         Options::Change => text.push_str("change"),
+        Options::Merge => text.push_str("merge"),
     }
 }
 

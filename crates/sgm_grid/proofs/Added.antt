@@ -1,10 +1,10 @@
 -- What points that are added make of the cells of a grid.
-use Rattle.std.proofs.Common.{◌≡◌, ◌≢◌, ℕ, suc, ◌*◌, ◌<◌, ◌≤◌, Bool, true, false, ◌==◌, ◌&&◌, nat_lt, if◌then◌else◌, List, [], ◌∷◌, length, map, Option, Some, None, ℤ, pos, negsuc, neg_ℤ, ◌-ℤ◌, ◌^◌, to_z, of_z, w64, refl, sym, ap, subst, ◌∙◌, arith, rules, inl, inr, ◌⊎◌, ◌-◌, slice_set}
+use Rattle.std.proofs.Common.{◌≡◌, ◌≢◌, ℕ, suc, ◌*◌, ◌<◌, ◌≤◌, Bool, true, false, ◌==◌, ◌&&◌, nat_lt, if◌then◌else◌, List, [], ◌∷◌, length, get_or, map, Option, Some, None, ℤ, pos, negsuc, neg_ℤ, ◌-ℤ◌, ◌^◌, to_z, of_z, w64, refl, sym, ap, subst, ◌∙◌, arith, rules, inl, inr, ◌⊎◌, ◌-◌, slice_set}
 use Rattle.std.specs.Prelude.{fold, filter, replicate, slice_get, unwrap_or}
 use Rattle.std.specs.Option.{ForSome}
 use Rattle.std.specs.Int.{int_max, int_div_euclid}
 use Rattle.std.proofs.lemmas.Int.{ints}
-use Rattle.std.proofs.lemmas.List.{get_or-set_same, get_or-set_other, length-set, length-replicate, get_or-replicate}
+use Rattle.std.proofs.lemmas.List.{get_or-set_same, get_or-set_other, get_or_default, length-set, length-replicate, get_or-replicate}
 use Rattle.std.proofs.lemmas.List.Elements.{All-set}
 use Rattle.std.proofs.lemmas.Option.{unwrap_or-slice_get}
 use Rattle.std.proofs.lemmas.Bool.{eqb-true, eq-eqb, ltb-true, cases_order}
@@ -15,7 +15,7 @@ use Rattle.sgm_grid.specs.Cells.{Cells, IsCells, IsHeight, cells_of, height_at, 
 use Rattle.sgm_base.specs.Ranges.{IsFromTo}
 use Rattle.sgm_grid.specs.Keeping.{cell_after}
 use Rattle.sgm_grid.specs.declared.keep.Keep.TheVariants.{Highest}
-use Rattle.sgm_grid.specs.Points.{added, cell_of, col_of, row_from_south, empty_grid, falls_into, from_north, greatest, higher, index_below, is_that_cell, raised}
+use Rattle.sgm_grid.specs.Points.{added, cell_of, col_of, row_from_south, empty_grid, falls_into, from_north, greatest, higher, index_below, is_that_cell, raised, raised_at}
 
 -- a cell of the grid
 abbrev pub Inside : GridSpec → ℕ × ℕ → Type 0
@@ -181,21 +181,13 @@ highest_of_points spec points col row hc hr =
     after_points points (empty_grid spec) col row (length-replicate (spec.cols * spec.rows) None) hc hr
     ∙ ap (λ (held : Option ℤ). carried held (heights_of (filter (falls_into spec col row) points))) (empty-height spec col row hc hr)
 
--- a point outside leaves a grid as it was
-pub added_outside : (grid : Cells) (spec : GridSpec) (hs : List (Option ℤ)) (p : Point) → cells_of spec hs ≡ grid → cell_of spec p ≡ None → grid ≡ added grid p
-added_outside grid spec hs p e none =
-    subst (λ (g : Cells). g ≡ added g p) e (sym (ap (λ (o : Option (ℕ × ℕ)). raised (cells_of spec hs) o p.h) none))
-
 -- the code's write is that of the definition
-pub added_inside : (grid : Cells) (spec : GridSpec) (hs : List (Option ℤ)) (p : Point) (cell : ℕ × ℕ) (at : ℕ) (v : ℤ)
-    → cells_of spec hs ≡ grid → cell_of spec p ≡ Some cell → at ≡ cell_index spec cell.0 cell.1 → v ≡ higher (height_at grid cell.0 cell.1) p.h
-    → cells_of spec (slice_set hs at (Some v)) ≡ added grid p
-added_inside grid spec hs p cell at v e some place value =
-    let there : v ≡ higher (height_at (cells_of spec hs) cell.0 cell.1) p.h = subst (λ (g : Cells). v ≡ higher (height_at g cell.0 cell.1) p.h) (sym e) value in
-    ap (λ (n : ℕ). cells_of spec (slice_set hs n (Some v))) place
-    ∙ ap (λ (z : ℤ). cells_of spec (slice_set hs (cell_index spec cell.0 cell.1) (Some z))) there
-    ∙ ap (λ (o : Option (ℕ × ℕ)). raised (cells_of spec hs) o p.h) (sym some)
-    ∙ ap (λ (g : Cells). added g p) e
+pub raised_there : (grid : Cells) (spec : GridSpec) (hs : List (Option ℤ)) (at : ℕ) (h v : ℤ) (read : Option ℤ)
+    → cells_of spec hs ≡ grid → at < length hs → read ≡ get_or hs at read → v ≡ higher read h → cells_of spec (slice_set hs at (Some v)) ≡ raised_at grid at h
+raised_there grid spec hs at h v read e within was is =
+    let here : read ≡ unwrap_or (slice_get hs at) None = was ∙ get_or_default hs at read None within ∙ sym (unwrap_or-slice_get hs at None) in
+    ap (λ (z : ℤ). cells_of spec (slice_set hs at (Some z))) (is ∙ ap (λ (o : Option ℤ). higher o h) here)
+    ∙ ap (λ (g : Cells). raised_at g at h) e
 
 some_height : (v : ℤ) → IsHeight v → ForSome (Some v) IsHeight
 some_height v height = search rules

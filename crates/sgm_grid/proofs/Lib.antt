@@ -6,6 +6,7 @@ pub mod HeightLaws
 pub mod Kept
 pub mod Means
 pub mod Neighbours
+pub mod Placing
 pub mod Room
 pub mod Rows
 pub mod Spans

@@ -1,6 +1,6 @@
 -- What points that are added make of the sums of the cells of a grid.
 use Rattle.std.proofs.Common.{◌≡◌, ℕ, suc, ◌+◌, ◌*◌, ◌<◌, Bool, true, false, ◌==◌, ◌&&◌, if◌then◌else◌, List, [], ◌∷◌, length, get_or, slice_set, Option, Some, None, ℤ, pos, ◌+ℤ◌, refl, sym, ap, subst, ◌∙◌, arith}
-use Rattle.std.specs.Prelude.{fold, filter, replicate}
+use Rattle.std.specs.Prelude.{fold, filter, replicate, slice_get, unwrap_or}
 use Rattle.std.proofs.lemmas.List.{length-set, length-replicate, get_or-replicate, get_or_default}
 use Rattle.std.proofs.lemmas.Option.{unwrap_or-slice_get}
 use Rattle.std.proofs.lemmas.Bool.{eqb-true, ne_eqb}
@@ -8,7 +8,7 @@ use Rattle.sgm_base.specs.Rounding.{rounded}
 use Rattle.sgm_base.specs.declared.point.Point.{Point}
 use Rattle.sgm_grid.specs.declared.grid_spec.GridSpec.{GridSpec}
 use Rattle.sgm_grid.specs.declared.keep.Keep.TheVariants.{Mean}
-use Rattle.sgm_grid.specs.Binning.{CellSums, Sum, mean_told, no_sum, sum_at, summed, summed_in, sums_of, with_height}
+use Rattle.sgm_grid.specs.Binning.{CellSums, Sum, mean_told, no_sum, sum_at, summed, summed_at, summed_in, sums_of, with_height}
 use Rattle.sgm_grid.specs.Cells.{cell_index}
 use Rattle.sgm_grid.specs.Keeping.{cell_after, mean, total}
 use Rattle.sgm_grid.specs.Points.{cell_of, falls_into, is_that_cell}
@@ -110,13 +110,9 @@ mean_of_points spec points col row hc hr =
     ∙ mean_of hs
 
 -- the code's write is that of the definition
-pub summed_inside : (held : CellSums) (spec : GridSpec) (sums : List Sum) (p : Point) (cell : ℕ × ℕ) (at : ℕ) (read wrote : Sum)
-    → sums_of spec sums ≡ held → cell_of spec p ≡ Some cell → at ≡ cell_index spec cell.0 cell.1 → at < length sums
-    → read ≡ get_or sums at read → wrote ≡ with_height read p.h → sums_of spec (slice_set sums at wrote) ≡ summed held p
-summed_inside held spec sums p cell at read wrote e some place within was is =
-    let here : read ≡ sum_at (sums_of spec sums) cell.0 cell.1 =
-    was ∙ get_or_default sums at read no_sum within ∙ ap (λ (n : ℕ). get_or sums n no_sum) place ∙ sym (unwrap_or-slice_get sums (cell_index spec cell.0 cell.1) no_sum) in
-    ap (λ (n : ℕ). sums_of spec (slice_set sums n wrote)) place
-    ∙ ap (λ (sum : Sum). sums_of spec (slice_set sums (cell_index spec cell.0 cell.1) sum)) (is ∙ ap (λ (sum : Sum). with_height sum p.h) here)
-    ∙ ap (λ (o : Option (ℕ × ℕ)). summed_in (sums_of spec sums) o p.h) (sym some)
-    ∙ ap (λ (g : CellSums). summed g p) e
+pub summed_there : (held : CellSums) (spec : GridSpec) (sums : List Sum) (at : ℕ) (h : ℤ) (read wrote : Sum)
+    → sums_of spec sums ≡ held → at < length sums → read ≡ get_or sums at read → wrote ≡ with_height read h → sums_of spec (slice_set sums at wrote) ≡ summed_at held at h
+summed_there held spec sums at h read wrote e within was is =
+    let here : read ≡ unwrap_or (slice_get sums at) no_sum = was ∙ get_or_default sums at read no_sum within ∙ sym (unwrap_or-slice_get sums at no_sum) in
+    ap (λ (sum : Sum). sums_of spec (slice_set sums at sum)) (is ∙ ap (λ (sum : Sum). with_height sum h) here)
+    ∙ ap (λ (g : CellSums). summed_at g at h) e

@@ -32,12 +32,16 @@ sum_at held col row = unwrap_or (slice_get held.sums (cell_index held.spec col r
 abbrev pub with_height : Sum → ℤ → Sum
 with_height sum h = record { total = sum.total +ℤ h; count = sum.count + 1 }
 
+-- the sums with a height more in the cell at that place in the list
+abbrev pub summed_at : CellSums → ℕ → ℤ → CellSums
+summed_at held at h =
+    sums_of held.spec (slice_set held.sums at
+    (with_height (unwrap_or (slice_get held.sums at) no_sum) h))
+
 -- the sums with a height more in a cell, or as they were
 abbrev pub summed_in : CellSums → Option (ℕ × ℕ) → ℤ → CellSums
 summed_in held None h = held
-summed_in held (Some cell) h =
-    sums_of held.spec (slice_set held.sums (cell_index held.spec cell.0 cell.1)
-    (with_height (sum_at held cell.0 cell.1) h))
+summed_in held (Some cell) h = summed_at held (cell_index held.spec cell.0 cell.1) h
 
 -- the sums after a point: its cell's has its height too, every other stays
 abbrev pub summed : CellSums → Point → CellSums

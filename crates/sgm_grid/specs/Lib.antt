@@ -8,6 +8,7 @@ pub mod Head
 pub mod Holding
 pub mod Keeping
 pub mod Leading
+pub mod Placing
 pub mod Points
 pub mod Summing
 pub mod Text

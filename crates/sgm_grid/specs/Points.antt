@@ -1,9 +1,9 @@
 -- Into which cell a point falls, and what a list of points makes of a grid.
-use Rattle.std.specs.Prelude.{ℕ, ◌-◌, ◌*◌, ◌==◌, ◌&&◌, Bool, false, nat_lt, ℤ, pos, negsuc, ◌-ℤ◌, List, [], ◌∷◌, fold, replicate, slice_set, Option, Some, None, if◌then◌else◌}
+use Rattle.std.specs.Prelude.{ℕ, ◌-◌, ◌*◌, ◌==◌, ◌&&◌, Bool, false, nat_lt, ℤ, pos, negsuc, ◌-ℤ◌, List, [], ◌∷◌, fold, replicate, slice_get, slice_set, Option, Some, None, unwrap_or, if◌then◌else◌}
 use Rattle.std.specs.Int.{int_div_euclid, int_max}
 use Rattle.sgm_base.specs.declared.point.Point.{Point}
 use Rattle.sgm_grid.specs.declared.grid_spec.GridSpec.{GridSpec}
-use Rattle.sgm_grid.specs.Cells.{Cells, cells_of, height_at, cell_index}
+use Rattle.sgm_grid.specs.Cells.{Cells, cells_of, cell_index}
 
 -- that number, where it is from 0 to below the count
 abbrev pub index_below : ℕ → ℤ → Option ℕ
@@ -50,12 +50,16 @@ abbrev pub higher : Option ℤ → ℤ → ℤ
 higher None h = h
 higher (Some held) h = int_max held h
 
+-- the grid whose cell at that place in the list keeps the higher
+abbrev pub raised_at : Cells → ℕ → ℤ → Cells
+raised_at grid at h =
+    cells_of grid.spec (slice_set grid.heights at
+    (Some (higher (unwrap_or (slice_get grid.heights at) None) h)))
+
 -- the grid whose cell there keeps the higher
 abbrev pub raised : Cells → Option (ℕ × ℕ) → ℤ → Cells
 raised grid None h = grid
-raised grid (Some cell) h =
-    cells_of grid.spec (slice_set grid.heights (cell_index grid.spec cell.0 cell.1)
-    (Some (higher (height_at grid cell.0 cell.1) h)))
+raised grid (Some cell) h = raised_at grid (cell_index grid.spec cell.0 cell.1) h
 
 -- the grid after a point: its cell keeps the higher, every other cell stays
 abbrev pub added : Cells → Point → Cells

@@ -3,11 +3,11 @@
 ghost use Rattle.std.specs.Prelude.{◌≡◌, ℕ, ◌+◌, ◌*◌, ◌^◌, ◌≤◌, IfOk, replicate};
 ghost use Rattle.std.specs.Option.{ForSome};
 ghost use Rattle.sgm_base.specs.Ranges.{Within};
-ghost use Rattle.sgm_grid.specs.Binning.{HasRoom, grid_in, height_sums, mean_told, most_points, no_points, no_sum, summed, sums_of, with_height, with_point};
+ghost use Rattle.sgm_grid.specs.Binning.{HasRoom, grid_in, height_sums, mean_told, most_points, no_points, no_sum, summed_at, sums_of, with_height, with_point};
 ghost use Rattle.sgm_grid.specs.Cells.{IsGridSpec, IsHeight, cells_of};
+ghost use Rattle.sgm_grid.specs.Placing.{IsPlaced, spec_in, with_placed};
 
-use crate::grid::{cell_of, place};
-use crate::{Grid, GridSpec, Keep};
+use crate::{Grid, GridSpec, Keep, Placed};
 use sgm_base::{Point, round_div};
 use std::alloc::{AllocError, Global};
 use std::marker::Model;
@@ -98,9 +98,32 @@ impl Bins {
         ensures value { self.new ≡ with_point self.old p }
         ensures room { (more : ℕ) → HasRoom self.old (more + 1) → HasRoom self.new more }
     {
+        if let Some(placed) = self.spec().placed(p) {
+            self.add_placed(placed);
+        }
+    }
+
+    /// Adds a height to the cell at its place. Takes no memory.
+    pub fn add_placed(&mut self, placed: Placed)
+        requires placed { IsPlaced (spec_in self.old) placed }
+        requires room { HasRoom self.old 1 }
+        ensures value { self.new ≡ with_placed self.old placed }
+        ensures room { (more : ℕ) → HasRoom self.old (more + 1) → HasRoom self.new more }
+    {
         match &mut self.held {
-            Held::Highest(grid) => grid.add(p),
-            Held::Mean(sums) => sums.add(p),
+            Held::Highest(grid) => grid.add_placed(placed),
+            Held::Mean(sums) => sums.add_placed(placed),
+        }
+    }
+
+    /// The grid of which these are the cells.
+    fn spec(&self) -> GridSpec
+        ensures value { result ≡ spec_in self.now }
+        ensures ranges { IsGridSpec result }
+    {
+        match &self.held {
+            Held::Highest(grid) => grid.spec(),
+            Held::Mean(sums) => sums.spec,
         }
     }
 
@@ -126,18 +149,14 @@ impl Sums {
         Ok(Sums { spec, sums })
     }
 
-    fn add(&mut self, p: Point)
-        requires height { IsHeight p.h }
-        requires east { Within (2 ^ 60) p.x }
-        requires north { Within (2 ^ 60) p.y }
+    fn add_placed(&mut self, placed: Placed)
+        requires placed { IsPlaced self.old.spec placed }
         requires room { HasRoom (height_sums self.old) 1 }
-        ensures { self.new ≡ summed self.old p }
+        ensures { self.new ≡ summed_at self.old placed.place placed.height }
     {
-        if let Some((col, row)) = cell_of(self.spec, p) {
-            let at = place(self.spec, col, row);
-            let sum = self.sums[at];
-            self.sums[at] = sum.with(p.h);
-        }
+        let at = placed.place as usize;
+        let sum = self.sums[at];
+        self.sums[at] = sum.with(i64::from(placed.height));
     }
 
     fn grid(self, alloc: Global) -> Result<Grid, AllocError>

@@ -1,13 +1,14 @@
-ghost use Rattle.std.specs.Prelude.{◌≡◌, ◌++◌, ◌*◌, ◌^◌, ◌<◌, ◌<ℤ◌, pos, IfOk, IfSome, OnOk, OnErr, All, length};
+ghost use Rattle.std.specs.Prelude.{◌≡◌, ◌++◌, ◌*◌, ◌^◌, ◌<◌, ◌<ℤ◌, pos, IfOk, IfSome, OnOk, OnErr, All, length, count_by, is_some};
 ghost use Rattle.std.specs.Option.{ForSome};
 ghost use Rattle.std.specs.Int.{int_div_euclid};
 ghost use Rattle.sgm_grid.specs.Cells.{IsGridSpec, IsCells, IsHeight, cells_of, height_at, cell_index, row_of};
 ghost use Rattle.sgm_base.specs.Ranges.{Within};
-ghost use Rattle.sgm_grid.specs.Points.{added, cell_of, empty_grid, higher, index_below};
+ghost use Rattle.sgm_grid.specs.Points.{added, cell_of, empty_grid, higher, index_below, raised_at};
+ghost use Rattle.sgm_grid.specs.Placing.{IsPlaced};
 ghost use Rattle.sgm_grid.specs.Text.{grid_text};
 
-use crate::GridSpec;
 use crate::text::append_text;
+use crate::{GridSpec, Placed};
 use sgm_base::Point;
 use std::alloc::{AllocError, Global};
 use std::marker::Model;
@@ -80,6 +81,16 @@ impl Grid {
         &self.heights[start..start + cols]
     }
 
+    /// How many cells have a height.
+    pub fn filled(&self) -> usize
+        ensures { result ≡ count_by is_some self.now.heights }
+    {
+        self.heights
+            .iter()
+            .filter(|height| height.is_some())
+            .count()
+    }
+
     /// The cell into which `p` falls keeps the highest; a point outside the grid changes nothing. A
     /// point on the west or the south side of a cell falls into it. Takes no memory.
     pub fn add(&mut self, p: Point)
@@ -88,11 +99,19 @@ impl Grid {
         requires north { Within (2 ^ 60) p.y }
         ensures { self.new ≡ added self.old p }
     {
-        if let Some((col, row)) = cell_of(self.spec, p) {
-            let highest = higher(self.get(col, row), p.h as i32);
-            let at = place(self.spec, col, row);
-            self.heights[at] = Some(highest);
+        if let Some(placed) = self.spec.placed(p) {
+            self.add_placed(placed);
         }
+    }
+
+    /// The cell at a height's place keeps the higher.
+    pub(crate) fn add_placed(&mut self, placed: Placed)
+        requires { IsPlaced self.old.spec placed }
+        ensures { self.new ≡ raised_at self.old placed.place placed.height }
+    {
+        let at = placed.place as usize;
+        let highest = higher(self.heights[at], placed.height);
+        self.heights[at] = Some(highest);
     }
 
     /// Adds the grid's text: six lines on its ranges, then a line for each row from the north, its

@@ -11,6 +11,7 @@ mod head;
 mod keep;
 pub mod laws;
 mod limits;
+mod placed;
 mod text;
 mod words;
 
@@ -22,4 +23,5 @@ pub use grid::{Grid, higher};
 pub use grid_spec::GridSpec;
 pub use keep::{Gridding, Keep};
 pub use limits::{MAX_BRIDGE, MAX_CELL, MAX_HEIGHT, MAX_PLACE, NO_HEIGHT};
+pub use placed::Placed;
 pub use text::append_head;

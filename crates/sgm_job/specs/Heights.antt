@@ -1,5 +1,5 @@
 -- The points that a map of disparities shows, and the grid that they make.
-use Rattle.std.specs.Prelude.{ℕ, ℤ, pos, ◌+ℤ◌, ◌*ℤ◌, List, filter_map, Option, Some, None, option_and_then}
+use Rattle.std.specs.Prelude.{◌≡◌, ℕ, ◌≤◌, ℤ, pos, ◌+ℤ◌, ◌*ℤ◌, All, List, length, filter_map, Option, Some, None, option_and_then}
 use Rattle.std.specs.List.{flat_map, range_with_len}
 use Rattle.sgm_base.specs.Values.{Values}
 use Rattle.sgm_base.specs.declared.point.Point.{Point}
@@ -8,8 +8,10 @@ use Rattle.sgm_height.specs.declared.station.Station.{Station}
 use Rattle.sgm_height.specs.Station.{seen_from}
 use Rattle.sgm_grid.specs.declared.grid_spec.GridSpec.{GridSpec}
 use Rattle.sgm_grid.specs.declared.keep.Keep.{Keep}
+use Rattle.sgm_grid.specs.declared.placed.Placed.{Placed}
 use Rattle.sgm_grid.specs.Cells.{Cells}
 use Rattle.sgm_grid.specs.Keeping.{gridded}
+use Rattle.sgm_grid.specs.Placing.{IsPlaced, placed}
 
 -- the point that a pixel shows at a disparity; the value is in sixteenths, and 0 is that of the
 -- first disparity
@@ -25,6 +27,18 @@ points_of_row station first map y =
 -- the points of all pixels, row by row
 unfoldable pub points_of : Station → ℤ → Values → List Point
 points_of station first map = flat_map (points_of_row station first map) (range_with_len 0 map.height)
+
+-- where those of the row y fall, and their heights: of each that falls into the grid
+abbrev pub placed_of_row : Station → GridSpec → ℤ → Values → ℕ → List Placed
+placed_of_row station spec first map y =
+    filter_map (placed spec) (points_of_row station first map y)
+
+-- these are they
+pub record IsPlacedRow (station : Station) (spec : GridSpec) (first : ℤ) (map : Values) (y : ℕ)
+    (places : List Placed) : Type 0 where
+  pub exact : places ≡ placed_of_row station spec first map y
+  pub within : All (IsPlaced spec) places
+  pub few : length places ≤ map.width
 
 -- the grid of a map, of what each cell keeps of its points, where there is a station and a grid is
 -- asked for

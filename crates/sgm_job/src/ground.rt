@@ -1,6 +1,6 @@
 //! What a survey says of the ground: the grid of heights, and the tallies of its regions.
 
-ghost use Rattle.std.specs.Prelude.{◌≡◌, ◌≤◌, All, IfOk, IfSome, Some, map, option_map};
+ghost use Rattle.std.specs.Prelude.{◌≡◌, ◌<◌, ◌≤◌, All, IfOk, IfSome, Some, map, option_map};
 ghost use Rattle.sgm_base.specs.Values.{AtMost};
 ghost use Rattle.sgm_base.specs.declared.limits.TheConstants.{MAX_DISPARITY};
 ghost use Rattle.sgm_grid.specs.Bridges.{bridged};
@@ -10,11 +10,22 @@ ghost use Rattle.sgm_report.specs.Tallies.{tally_of};
 ghost use Rattle.sgm_job.specs.Survey.{ground, region_tallies, tallies};
 
 use crate::heights::heights;
+use crate::placing::Shown;
 use sgm_base::DispMap;
 use sgm_calib::Calib;
 use sgm_grid::{Grid, bridge};
 use sgm_report::{Region, RegionTally, tally};
 use std::alloc::{AllocError, Global};
+use std::thread::Threads;
+
+/// What is told of a grid of heights.
+#[derive(Drop)]
+pub struct Tallied {
+    /// The grid with its bridges, in micrometres.
+    pub grid: Grid,
+    /// The tally of each region, in their order; None where no regions are asked for.
+    pub tallies: Option<Vec<RegionTally>>,
+}
 
 /// The grid with its bridges, where one is asked for, and the tallies of its regions, where these
 /// are.
@@ -63,16 +74,17 @@ fn tallies_over(
     Ok(Some(tallies))
 }
 
-/// The ground of a grid of heights, bridged over at most `most` cells to each side of an empty one.
-fn ground_over(
+/// A grid of heights, bridged over at most `most` cells to each side of an empty one, and not at all
+/// for 0, and the tallies of regions over it. Err is want of memory.
+pub fn tally_ground(
     alloc: Global,
     measured: Grid,
     most: u32,
     regions: Option<&[Region]>,
-) -> Result<Ground, AllocError>
+) -> Result<Tallied, AllocError>
     requires most { most ≤ MAX_BRIDGE }
     requires regions { IfSome regions (λ r. All (IsArea measured.spec) r.now) }
-    ensures grid { IfOk result (λ found. found.grid ≡ Some (bridged most measured)) }
+    ensures grid { IfOk result (λ found. found.grid ≡ bridged most measured) }
     ensures tallies { IfOk result (λ found. option_map (λ v. v.items) found.tallies
         ≡ option_map (λ r. region_tallies most measured r.now) regions.entry) }
 {
@@ -80,21 +92,26 @@ fn ground_over(
     let _spec = measured.spec();
     if most == 0 {
         let tallies = tallies_over(alloc, &measured, &measured, regions)?;
-        return Ok(Ground {
-            grid: Some(measured),
+        return Ok(Tallied {
+            grid: measured,
             tallies,
         });
     }
     let grid = bridge(alloc, &measured, most)?;
     let tallies = tallies_over(alloc, &grid, &measured, regions)?;
-    Ok(Ground {
-        grid: Some(grid),
-        tallies,
-    })
+    Ok(Tallied { grid, tallies })
 }
 
-/// The ground that a map of disparities shows, where the calibration has a camera and a grid.
-pub(crate) fn ground_of(alloc: Global, calib: &Calib, map: &DispMap) -> Result<Ground, AllocError>
+/// The ground that a map of disparities shows, where the calibration has a camera and a grid. Its
+/// points are added in at most so many threads.
+pub(crate) fn ground_of<R: Threads + Sync>(
+    rt: &R,
+    alloc: Global,
+    calib: &Calib,
+    map: &DispMap,
+    threads: usize,
+) -> Result<Ground, AllocError>
+    requires threads { 0 < threads }
     requires values { AtMost MAX_DISPARITY map.now.entries }
     ensures grid { IfOk result (λ found. found.grid ≡ ground calib.now map.now) }
     ensures tallies { IfOk result
@@ -107,6 +124,16 @@ pub(crate) fn ground_of(alloc: Global, calib: &Calib, map: &DispMap) -> Result<G
         });
     };
     let gridding = calib.gridding();
-    let measured = heights(alloc, &station, spec, gridding.keep, calib.span(), map)?;
-    ground_over(alloc, measured, gridding.bridge, calib.regions())
+    let shown = Shown {
+        station: &station,
+        span: calib.span(),
+        map,
+        spec,
+    };
+    let measured = heights(rt, alloc, &shown, gridding.keep, threads)?;
+    let tallied = tally_ground(alloc, measured, gridding.bridge, calib.regions())?;
+    Ok(Ground {
+        grid: Some(tallied.grid),
+        tallies: tallied.tallies,
+    })
 }

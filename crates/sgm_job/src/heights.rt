@@ -7,15 +7,18 @@ ghost use Rattle.sgm_base.specs.Ranges.{Within};
 ghost use Rattle.sgm_grid.specs.Cells.{IsGridSpec};
 ghost use Rattle.sgm_grid.specs.Binning.{HasRoom, with_point};
 ghost use Rattle.sgm_grid.specs.Keeping.{gridded};
+ghost use Rattle.sgm_grid.specs.Placing.{spec_in};
 ghost use Rattle.sgm_base.specs.Disparities.{IsFirst};
 ghost use Rattle.sgm_base.specs.Values.{AtMost};
 ghost use Rattle.sgm_base.specs.declared.limits.TheConstants.{MAX_DISPARITY, MAX_SIDE};
 ghost use Rattle.sgm_job.specs.Heights.{point_at, points_of};
 
+use crate::placing::{Shown, add_shared};
 use sgm_base::{DispMap, Point, Span};
-use sgm_grid::{Bins, Grid, GridSpec, Keep};
+use sgm_grid::{Bins, Grid, Keep};
 use sgm_height::Station;
 use std::alloc::{AllocError, Global};
+use std::thread::Threads;
 
 /// The disparity in sixteenths of a pixel that a value of the map stands for.
 fn sixteenths(first: i32, value: u16) -> i32
@@ -28,7 +31,13 @@ fn sixteenths(first: i32, value: u16) -> i32
 }
 
 /// The point that a pixel shows, where it has a disparity and a point.
-fn pixel_point(station: &Station, first: i32, x: u32, y: u32, value: Option<u16>) -> Option<Point>
+pub(crate) fn pixel_point(
+    station: &Station,
+    first: i32,
+    x: u32,
+    y: u32,
+    value: Option<u16>,
+) -> Option<Point>
     requires station { IsStation station.now }
     requires first { IsFirst first }
     requires x { x < MAX_SIDE }
@@ -79,24 +88,49 @@ fn add_points(station: &Station, span: Span, map: &DispMap, bins: &mut Bins)
     }
 }
 
-/// The grid of a map of disparities: of each cell what it keeps of the points that fall into it.
-pub(crate) fn heights(
+/// Adds the points of a map, in at most so many threads. One takes no memory.
+fn add_all<R: Threads + Sync>(
+    rt: &R,
     alloc: Global,
-    station: &Station,
-    spec: GridSpec,
+    shown: &Shown,
+    threads: usize,
+    bins: &mut Bins,
+) -> Result<(), AllocError>
+    requires threads { 0 < threads }
+    requires station { IsStation shown.now.station.now }
+    requires spec { IsGridSpec shown.now.spec }
+    requires values { AtMost MAX_DISPARITY shown.now.map.now.entries }
+    requires same { spec_in bins.old ≡ shown.now.spec }
+    requires room { HasRoom bins.old (shown.now.map.now.height * shown.now.map.now.width) }
+    ensures { IfOk result (λ _. bins.new ≡ fold with_point bins.old
+        (points_of shown.now.station.now shown.now.span.first shown.now.map.now)) }
+{
+    if threads > 1 {
+        return add_shared(rt, alloc, shown, threads, bins);
+    }
+    add_points(shown.station, shown.span, shown.map, bins);
+    Ok(())
+}
+
+/// The grid of a map of disparities: of each cell what it keeps of the points that fall into it.
+/// They are added in at most so many threads.
+pub(crate) fn heights<R: Threads + Sync>(
+    rt: &R,
+    alloc: Global,
+    shown: &Shown,
     keep: Keep,
-    span: Span,
-    map: &DispMap,
+    threads: usize,
 ) -> Result<Grid, AllocError>
-    requires station { IsStation station.now }
-    requires spec { IsGridSpec spec }
-    requires values { AtMost MAX_DISPARITY map.now.entries }
-    ensures { IfOk result (λ grid. grid
-        ≡ gridded keep spec (points_of station.now span.first map.now)) }
+    requires threads { 0 < threads }
+    requires station { IsStation shown.now.station.now }
+    requires spec { IsGridSpec shown.now.spec }
+    requires values { AtMost MAX_DISPARITY shown.now.map.now.entries }
+    ensures { IfOk result (λ grid. grid ≡ gridded keep shown.now.spec
+        (points_of shown.now.station.now shown.now.span.first shown.now.map.now)) }
 {
     // Known from here on: that it has at most 4096 x 4096 pixels.
-    let _size = map.size();
-    let mut bins = Bins::make(alloc, spec, keep)?;
-    add_points(station, span, map, &mut bins);
+    let _size = shown.map.size();
+    let mut bins = Bins::make(alloc, shown.spec, keep)?;
+    add_all(rt, alloc, shown, threads, &mut bins)?;
     bins.grid(alloc)
 }

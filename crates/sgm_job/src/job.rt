@@ -263,7 +263,7 @@ pub fn survey_refined<R: Threads + Sync, G: Gate + Sync>(
     let disp = disparity_map(
         rt, alloc, left, right, calib, maxval, strips, workers, refine, gate,
     )?;
-    let ground = ground_of(alloc, calib, &disp)?;
+    let ground = ground_of(rt, alloc, calib, &disp, workers as usize)?;
     Ok(Surveyed {
         disp,
         grid: ground.grid,

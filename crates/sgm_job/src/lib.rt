@@ -8,9 +8,11 @@ mod heights;
 mod job;
 pub mod laws;
 mod matching;
+mod placing;
 mod planes;
 mod refining;
 mod selecting;
 mod sharing;
 
+pub use ground::{Tallied, tally_ground};
 pub use job::{SurveyError, SurveyFault, Surveyed, prepare, survey, survey_refined};

@@ -33,11 +33,11 @@ module _ (list bytes : List ℕ) (short : length bytes ≤ MAX_LIST_BYTES) where
     lines_first o so =
         behind o (ap (λ (b : Bool). option_or (cond b None (Some NotText)) (option_or (line_fault bytes) (option_or (count_fault bytes) (clash_fault list bytes)))) (is_utf8-from_IsUtf8 bytes text) ∙ so)
 
-    pub bad_line : (number : ℕ) → position_from is_faulty 1 (lines_of bytes) ≡ Some number → list_fault list bytes ≡ Some (Line number)
+    pub bad_line : (number : ℕ) → position_from (is_faulty 4) 1 (lines_of bytes) ≡ Some number → list_fault list bytes ≡ Some (Line number)
     bad_line number first =
         lines_first (Some (Line number)) (ap (λ (o : Option ℕ). option_or (option_map Line o) (option_or (count_fault bytes) (clash_fault list bytes))) first)
 
-    module _ (lines : position_from is_faulty 1 (lines_of bytes) ≡ None) where
+    module _ (lines : position_from (is_faulty 4) 1 (lines_of bytes) ≡ None) where
       count_first : (o : Option ListFault) → option_or (count_fault bytes) (clash_fault list bytes) ≡ o → list_fault list bytes ≡ o
       count_first o so =
           lines_first o (ap (λ (o : Option ℕ). option_or (option_map Line o) (option_or (count_fault bytes) (clash_fault list bytes))) lines ∙ so)

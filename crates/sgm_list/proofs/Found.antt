@@ -1,5 +1,5 @@
 -- The first place that passes a test.
-use Rattle.std.proofs.Common.{◌≡◌, ℕ, zero, suc, ◌+◌, ◌-◌, ◌<◌, ◌≤◌, List, [], ◌∷◌, ◌++◌, take, length, Bool, true, false, cond, ◌||◌, Option, Some, None, is_some, refl, sym, ap, ◌∙◌, arith}
+use Rattle.std.proofs.Common.{◌≡◌, ℕ, zero, suc, ◌+◌, ◌-◌, ◌<◌, ◌≤◌, List, [], ◌∷◌, ◌++◌, map, take, length, Bool, true, false, cond, ◌||◌, Option, Some, None, is_some, refl, sym, ap, ◌∙◌, arith}
 use Rattle.std.specs.Prelude.{nat_lt, find}
 use Rattle.std.specs.List.{list_any, position_from, range_with_len}
 use Rattle.std.specs.Option.{option_map_or, option_or}
@@ -67,3 +67,8 @@ find_next p i end first inside fails so =
     let one : end - i ≡ suc (end - (i + 1)) = omega arith in
     sym (ap (λ (b : Bool). cond b (Some i) (find p (range_with_len (i + 1) (end - (i + 1))))) fails)
     ∙ sym (ap (λ (n : ℕ). find p (range_with_len i n)) one) ∙ so
+
+-- over what a function makes of each
+pub found_of : {X Y : Type 0} (p : Y → Bool) (view : X → Y) (xs : List X) (i : ℕ) → position_from (λ x. p (view x)) i xs ≡ position_from p i (map view xs)
+found_of p view [] i = refl
+found_of p view (x ∷ xs) i = ap (λ (o : Option ℕ). cond (p (view x)) (Some i) o) (found_of p view xs (i + 1))

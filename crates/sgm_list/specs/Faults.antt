@@ -18,13 +18,13 @@ length_fault bytes = if nat_lt MAX_LIST_BYTES (length bytes) then Some TooLong e
 abbrev pub text_fault : List ℕ → Option ListFault
 text_fault bytes = if is_utf8 bytes then None else Some NotText
 
--- a line has words, but not four
-abbrev pub is_faulty : List ℕ → Bool
-is_faulty line = let count = length (words_of line) in not (count == 0 || count == 4)
+-- a line has words, but not so many
+abbrev pub is_faulty : ℕ → List ℕ → Bool
+is_faulty need line = let count = length (words_of line) in not (count == 0 || count == need)
 
--- the first such line, counted from 1
+-- the first line that has words, but not four, counted from 1
 abbrev pub line_fault : List ℕ → Option ListFault
-line_fault bytes = option_map Line (position_from is_faulty 1 (lines_of bytes))
+line_fault bytes = option_map Line (position_from (is_faulty 4) 1 (lines_of bytes))
 
 abbrev pub count_fault : List ℕ → Option ListFault
 count_fault bytes = let count = length (entries_of bytes) in if nat_lt MAX_ENTRIES count then Some (TooMany count) else None

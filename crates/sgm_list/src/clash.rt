@@ -93,7 +93,7 @@ fn is_output_of(entry: &Entry, name: &str) -> bool
 }
 
 /// Whether the whole is the front and then the back.
-fn is_joined(whole: &[u8], front: &[u8], back: &[u8]) -> bool
+pub(crate) fn is_joined(whole: &[u8], front: &[u8], back: &[u8]) -> bool
     ensures { result ≡ bytes_eq whole.now (front.now ++ back.now) }
 {
     match whole.strip_prefix(front) {

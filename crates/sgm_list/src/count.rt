@@ -1,8 +1,7 @@
 //! Counting the entries, before memory is taken for them.
-ghost use Rattle.std.specs.Prelude.{◌≡◌, ◌≤◌, ◌<◌, ◌+◌, length, None, Some, IfOk, IfErr};
+ghost use Rattle.std.specs.Prelude.{◌≡◌, ◌≤◌, ◌<◌, ◌+◌, ◌==◌, length, count_by, None, Some, IfOk, IfErr};
 ghost use Rattle.std.specs.List.{position_from};
 ghost use Rattle.sgm_list.specs.Words.{lines_of, words_of};
-ghost use Rattle.sgm_list.specs.Entries.{entries_of};
 ghost use Rattle.sgm_list.specs.Faults.{is_faulty};
 
 use crate::words::{split_line, split_word};
@@ -21,11 +20,15 @@ fn count_words(line: &str) -> usize
     count
 }
 
-/// The number of entries of a text; the number of the first line, from 1, that has words, but not four.
-pub fn count_entries(text: &str) -> Result<usize, usize>
-    ensures none { IfOk result (λ _. position_from is_faulty 1 (lines_of text.now) ≡ None) }
-    ensures count { IfOk result (λ count. count ≡ length (entries_of text.now)) }
-    ensures first { IfErr result (λ number. position_from is_faulty 1 (lines_of text.now) ≡ Some number) }
+/// The number of lines of a text that have so many words; or the number of the first line, from 1,
+/// that has words, but not so many.
+pub fn count_lines(text: &str, need: usize) -> Result<usize, usize>
+    requires { 0 < need }
+    ensures none { IfOk result (λ _. position_from (is_faulty need) 1 (lines_of text.now) ≡ None) }
+    ensures count { IfOk result (λ count. count
+        ≡ count_by (λ line. length (words_of line) == need) (lines_of text.now)) }
+    ensures first { IfErr result (λ number.
+        position_from (is_faulty need) 1 (lines_of text.now) ≡ Some number) }
 {
     let mut count = 0;
     let mut number = 0;
@@ -33,10 +36,11 @@ pub fn count_entries(text: &str) -> Result<usize, usize>
     while let Some(rest) = left {
         let (line, behind) = split_line(rest);
         number += 1;
-        match count_words(line) {
-            0 => {}
-            4 => count += 1,
-            _ => return Err(number),
+        let words = count_words(line);
+        if words == need {
+            count += 1;
+        } else if words != 0 {
+            return Err(number);
         }
         left = behind;
     }

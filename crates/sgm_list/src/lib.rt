@@ -1,4 +1,4 @@
-//! The list of a series of pairs: its entries, or its first fault.
+//! The list of a series of pairs, and that of the grids of a merge: the entries, or the first fault.
 #![tactic(auto)]
 
 mod clash;
@@ -7,6 +7,7 @@ mod entry;
 mod fault;
 mod limits;
 mod line;
+mod names;
 mod read;
 mod words;
 
@@ -14,4 +15,5 @@ pub use entry::Entry;
 pub use fault::{ListError, ListFault};
 pub use limits::{MAX_ENTRIES, MAX_LIST_BYTES};
 pub use line::{Line, MAX_DIGITS, MAX_LINE, fault_line};
+pub use names::{NamesError, NamesFault, read_names};
 pub use read::read_list;

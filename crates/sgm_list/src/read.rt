@@ -5,7 +5,7 @@ ghost use Rattle.sgm_list.specs.Entries.{entries_of, entry_in, entry_of};
 ghost use Rattle.sgm_list.specs.Faults.{list_fault, IsFault};
 
 use crate::clash::first_clash;
-use crate::count::count_entries;
+use crate::count::count_lines;
 use crate::words::{split_line, split_word};
 use crate::{Entry, ListError, ListFault, MAX_ENTRIES, MAX_LIST_BYTES};
 use std::alloc::{AllocError, Global};
@@ -25,7 +25,7 @@ pub fn read_list(alloc: Global, bytes: &[u8], list: &str) -> Result<Vec<Entry>, 
     let Ok(text) = str::from_utf8(bytes) else {
         return Err(ListError::Fault(ListFault::NotText));
     };
-    let count = match count_entries(text) {
+    let count = match count_lines(text, 4) {
         Ok(count) => count,
         Err(number) => return Err(ListError::Fault(ListFault::Line { number })),
     };

@@ -58,6 +58,14 @@ impl Merge {
         })
     }
 
+    /// Where the merged grid lies and how it is cut.
+    pub fn spec(&self) -> GridSpec
+        ensures spec { result ≡ self.now.spec }
+        ensures ranges { IsGridSpec self.now.spec }
+    {
+        self.spec
+    }
+
     /// Adds a grid whose cells are those of the merged one: each cell of that gets the height that
     /// `entry` has there, if it has one. What lies outside is left out. Takes no memory.
     pub fn add(&mut self, entry: &Grid)

@@ -15,12 +15,15 @@ use Rattle.sgm_grid.specs.declared.asc_fault.AscFault.TheVariants as asc
 use Rattle.sgm_calib.specs.declared.keys.CalibFault.{CalibFault}
 use Rattle.sgm_calib.specs.declared.keys.CalibFault.TheVariants as calib
 use Rattle.sgm_calib.specs.Paths.{path_of}
-use Rattle.sgm_words.specs.Files.{input_word, output_word}
+use Rattle.sgm_list.specs.declared.names.NamesFault.{NamesFault}
+use Rattle.sgm_list.specs.declared.names.NamesFault.TheVariants as names
+use Rattle.sgm_words.specs.Files.{input_name, output_word}
 use Rattle.sgm_words.specs.declared.files.Input.{Input}
+use Rattle.sgm_words.specs.declared.files.Input.TheVariants.{Grid}
 use Rattle.sgm_words.specs.declared.usage.UsageFault.{UsageFault}
 use Rattle.sgm_words.specs.declared.usage.UsageFault.TheVariants as usage
 use Rattle.sgm_outcome.specs.declared.outcome.Refusal.{Refusal}
-use Rattle.sgm_outcome.specs.declared.outcome.Refusal.TheVariants.{TooLong, Pgm, Calib, SizesDiffer, VolumeTooLarge, Warp, NotInside, Asc, GridsDiffer}
+use Rattle.sgm_outcome.specs.declared.outcome.Refusal.TheVariants as refusal
 use Rattle.sgm_outcome.specs.declared.outcome.Outcome.{Outcome}
 use Rattle.sgm_outcome.specs.declared.outcome.Outcome.TheVariants.{Done, Usage, Refused, ReadFault, WriteFault, NoMemory}
 
@@ -81,7 +84,7 @@ sizes_line left right =
 
 -- what is wrong with an input
 abbrev pub input_line : Input → List ℕ → List ℕ
-input_line input what = codes "sgm: " ++ input_word input ++ what
+input_line input what = codes "sgm: " ++ input_name input ++ what
 
 -- the line of a grid that is refused
 abbrev pub asc_line : Input → AscFault → List ℕ
@@ -90,24 +93,34 @@ asc_line input (asc.Range at) = input_line input (codes ": word ") ++ decimal at
 asc_line input (asc.Count have need) = input_line input (codes ": ") ++ decimal have ++ codes " heights, " ++ decimal need ++ codes " needed\n"
 asc_line input (asc.Height index) = input_line input (codes ": height ") ++ decimal index ++ codes " is not in range\n"
 
+-- the line of a list that is refused
+abbrev pub list_line : NamesFault → List ℕ
+list_line names.NotText = codes "sgm: list: not text\n"
+list_line (names.Line number) = codes "sgm: list: line " ++ decimal number ++ codes " does not have one word\n"
+list_line names.NoEntries = codes "sgm: list: no entries\n"
+list_line names.TooMany = codes "sgm: list: too many entries\n"
+list_line (names.Output entry) = codes "sgm: list: grid " ++ decimal entry ++ codes " is also an output\n"
+
 -- the line of a refusal
 abbrev pub refusal_line : Refusal → List ℕ
-refusal_line (TooLong input) = input_line input (codes " is too long\n")
-refusal_line (Pgm side fault) = pgm_line side fault
-refusal_line (Calib fault) = calib_line fault
-refusal_line (SizesDiffer left right) = sizes_line left right
-refusal_line (VolumeTooLarge cells) = codes "sgm: volume of " ++ decimal cells ++ codes " cells is above " ++ decimal MAX_VOLUME ++ codes "\n"
-refusal_line (Warp side fault) = warp_line side fault
-refusal_line (NotInside x y d) = codes "sgm: no pixel " ++ decimal x ++ codes " " ++ decimal y ++ codes " with index " ++ decimal d ++ codes "\n"
-refusal_line (Asc input fault) = asc_line input fault
-refusal_line (GridsDiffer at earlier later) = codes "sgm: grids differ at word " ++ decimal at ++ codes "\n"
+refusal_line (refusal.TooLong input) = input_line input (codes " is too long\n")
+refusal_line (refusal.Pgm side fault) = pgm_line side fault
+refusal_line (refusal.Calib fault) = calib_line fault
+refusal_line (refusal.SizesDiffer left right) = sizes_line left right
+refusal_line (refusal.VolumeTooLarge cells) = codes "sgm: volume of " ++ decimal cells ++ codes " cells is above " ++ decimal MAX_VOLUME ++ codes "\n"
+refusal_line (refusal.Warp side fault) = warp_line side fault
+refusal_line (refusal.NotInside x y d) = codes "sgm: no pixel " ++ decimal x ++ codes " " ++ decimal y ++ codes " with index " ++ decimal d ++ codes "\n"
+refusal_line (refusal.Asc input fault) = asc_line input fault
+refusal_line (refusal.GridsDiffer at earlier later) = codes "sgm: grids differ at word " ++ decimal at ++ codes "\n"
+refusal_line (refusal.List fault) = list_line fault
+refusal_line (refusal.NotOnCells grid) = input_line (Grid grid) (codes ": not on the calibration's cells\n")
 
 -- the line of an outcome; nothing for Done
 unfoldable pub line_of : Outcome → List ℕ
 line_of Done = []
 line_of (Usage fault) = usage_line fault
 line_of (Refused refusal) = refusal_line refusal
-line_of (ReadFault input) = codes "sgm: cannot read " ++ input_word input ++ codes "\n"
+line_of (ReadFault input) = codes "sgm: cannot read " ++ input_name input ++ codes "\n"
 line_of (WriteFault output) = codes "sgm: cannot write " ++ output_word output ++ codes "\n"
 line_of NoMemory = codes "sgm: no memory\n"
 

@@ -4,6 +4,7 @@ ghost use Rattle.sgm_outcome.specs.Status.{status_of};
 use sgm_base::{Side, Size};
 use sgm_calib::CalibFault;
 use sgm_grid::AscFault;
+use sgm_list::NamesFault;
 use sgm_pgm::PgmFault;
 use sgm_rectify::WarpFault;
 use sgm_words::{Input, Output, UsageFault};
@@ -26,6 +27,10 @@ pub enum Refusal {
     Asc(Input, AscFault),
     /// The word `at` of the two grids' heads, counted from 0, is the first number in which they differ.
     GridsDiffer { at: usize, earlier: i64, later: i64 },
+    /// The list of a merge has this fault.
+    List(NamesFault),
+    /// This grid of a list, counted from 0, doesn't lie on the cells of the calibration's grid.
+    NotOnCells { grid: u32 },
 }
 
 /// How a run ended.

@@ -3,13 +3,15 @@ ghost use Rattle.std.specs.Prelude.{◌≡◌, ◌≤◌, ◌+◌, ◌++◌, len
 ghost use Rattle.sgm_calib.specs.Paths.{path_of};
 ghost use Rattle.sgm_rectify.specs.declared.warp.WarpFault.TheVariants.{MeshSize};
 ghost use Rattle.sgm_outcome.specs.Lines.{side_word, image_line, pgm_line, calib_line, warp_line, sizes_line};
-ghost use Rattle.sgm_outcome.specs.Lines.{input_line, asc_line, refusal_line};
+ghost use Rattle.sgm_outcome.specs.Lines.{input_line, asc_line, list_line, refusal_line};
+ghost use Rattle.sgm_words.specs.Files.{input_name};
 
 use crate::Refusal;
 use crate::line::{Line, MAX_LINE};
 use sgm_base::{MAX_VOLUME, Side, Size};
 use sgm_calib::{CalibFault, Key};
 use sgm_grid::AscFault;
+use sgm_list::NamesFault;
 use sgm_pgm::PgmFault;
 use sgm_rectify::WarpFault;
 use sgm_words::Input;
@@ -149,13 +151,45 @@ fn volume_line(cells: u64) -> Line
         .text("\n")
 }
 
+// The line, and behind it what the input is called.
+pub fn with_input(line: Line, input: Input) -> Line
+    requires { length line ≤ 64 }
+    ensures bytes { result ≡ line ++ input_name input }
+    ensures short { length result ≤ length line + 32 }
+{
+    let line = line.text(input.word());
+    match input.number() {
+        Some(number) => line.text(" ").number(number as u64),
+        None => line,
+    }
+}
+
 // What is wrong with an input.
 fn input_line(input: Input, what: &str) -> Line
-    requires { length what.now ≤ 64 }
+    requires { length what.now ≤ 40 }
     ensures bytes { result ≡ input_line input what.now }
-    ensures short { length result ≤ 16 + length what.now }
+    ensures short { length result ≤ 40 + length what.now }
 {
-    Line::new().text("sgm: ").text(input.word()).text(what)
+    with_input(Line::new().text("sgm: "), input).text(what)
+}
+
+fn list_line(fault: NamesFault) -> Line
+    ensures { result ≡ list_line fault }
+{
+    let line = Line::new().text("sgm: list: ");
+    match fault {
+        NamesFault::NotText => line.text("not text\n"),
+        NamesFault::Line { number } => line
+            .text("line ")
+            .number(number as u64)
+            .text(" does not have one word\n"),
+        NamesFault::NoEntries => line.text("no entries\n"),
+        NamesFault::TooMany => line.text("too many entries\n"),
+        NamesFault::Output { entry } => line
+            .text("grid ")
+            .number(entry as u64)
+            .text(" is also an output\n"),
+    }
 }
 
 fn asc_line(input: Input, fault: AscFault) -> Line
@@ -209,5 +243,9 @@ pub fn refusal_line(refusal: Refusal) -> Line
             .text("sgm: grids differ at word ")
             .number(at as u64)
             .text("\n"),
+        Refusal::List(fault) => list_line(fault),
+        Refusal::NotOnCells { grid } => {
+            input_line(Input::Grid(grid), ": not on the calibration's cells\n")
+        }
     }
 }

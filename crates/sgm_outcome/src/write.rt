@@ -5,7 +5,7 @@ ghost use Rattle.sgm_outcome.specs.Lines.{word_line, usage_line, line_of, TakesL
 
 use crate::Outcome;
 use crate::line::Line;
-use crate::refusals::refusal_line;
+use crate::refusals::{refusal_line, with_input};
 use sgm_io::{Sink, SinkError, write_whole};
 use sgm_words::UsageFault;
 
@@ -49,10 +49,9 @@ fn outcome_line(outcome: Outcome) -> Line
         Outcome::Done => Line::new(),
         Outcome::Usage(fault) => usage_line(fault),
         Outcome::Refused(refusal) => refusal_line(refusal),
-        Outcome::ReadFault(input) => Line::new()
-            .text("sgm: cannot read ")
-            .text(input.word())
-            .text("\n"),
+        Outcome::ReadFault(input) => with_input(Line::new().text("sgm: cannot read "), input).text(
+            "\n",
+        ),
         Outcome::WriteFault(output) => Line::new()
             .text("sgm: cannot write ")
             .text(output.word())

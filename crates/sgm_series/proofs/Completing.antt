@@ -18,8 +18,8 @@ use Rattle.sgm_list.specs.Entries.{EntryNames}
 use Rattle.sgm_app.specs.Outputs.{OutputFile}
 use Rattle.sgm_app.specs.Verdict.{Verdict, IsFiles, usage, absent, refused, files, fetched, calib_fetched, most_bytes, pair_fetched, outputs_of}
 use Rattle.sgm_app.specs.Ends.{Faults, NoneBefore, order_of}
-use Rattle.sgm_app.proofs.Completing.{first_absent}
-use Rattle.sgm_app.proofs.VerdictLaws.{none_matched}
+use Rattle.sgm_app.proofs.FirstAbsent.{first_absent}
+use Rattle.sgm_app.proofs.VerdictLaws.{present_matched}
 use Rattle.sgm_series.specs.Words.{ListWords, series_words}
 use Rattle.sgm_series.specs.Plans.{Plan, usage as misused, no_list, faulty, series, asked_for, names_for, EntryCallsFor, AreVerdicts, EntriesCallFor, ListCallsFor, ReadCallsFor, SeriesCallsFor, entries_in, is_refused, IsJudged}
 use Rattle.sgm_series.specs.Turns.{files_for, IsReached, AtEntry, HasOutput}
@@ -77,22 +77,24 @@ absent_of_pair : (asked : Operands) (held : Held) (next v : Verdict) (i : Input)
 unfolding pair_fetched
 absent_of_pair asked held next v input.Left name is named none before = gone input.Left (held asked.left) _ v (ap held (sym named) ∙ none) is
 absent_of_pair asked held next v input.Right name is named none before =
-    let second = step_past input.Left (held asked.left) _ v is (before.present input.Left (omega arith)) (before.fit input.Left (omega arith)) in
+    let second = step_past input.Left (held asked.left) _ v is (before.present input.Left (omega arith)) (before.sound (TooLong input.Left) (omega arith)) in
     gone input.Right (held asked.right) _ v (ap held (sym named) ∙ none) second
 absent_of_pair asked held next v input.Calibration name is named none before =
-    let second = step_past input.Left (held asked.left) _ v is (before.present input.Left (omega arith)) (before.fit input.Left (omega arith)) in
-    let third = step_past input.Right (held asked.right) _ v second (before.present input.Right (omega arith)) (before.fit input.Right (omega arith)) in
+    let second = step_past input.Left (held asked.left) _ v is (before.present input.Left (omega arith)) (before.sound (TooLong input.Left) (omega arith)) in
+    let third = step_past input.Right (held asked.right) _ v second (before.present input.Right (omega arith)) (before.sound (TooLong input.Right) (omega arith)) in
     let own : calib_fetched false (held asked.calib) next ≡ v = ap (λ (b : Bool). calib_fetched b (held asked.calib) next) (sym named.0) ∙ third in
     gone input.Calibration (held asked.calib) next v (ap held (sym named.1) ∙ none) own
 absent_of_pair asked held next v input.Earlier name is named none before = absurd named
 absent_of_pair asked held next v input.Later name is named none before = absurd named
+absent_of_pair asked held next v input.List name is named none before = absurd named
+absent_of_pair asked held next v (input.Grid k) name is named none before = absurd named
 
 absent_of : (entry : EntryNames) (held : Held) (v : Verdict) (i : Input) (name : List ℕ) → EntryCallsFor entry held v → IsInputName (names_for entry) i name → held name ≡ None → NoneBefore (order_of i) v → v ≡ absent i
 absent_of entry held v i name calls named none before = absent_of_pair (asked_for entry) held _ v i name calls.is named none before
 
 -- an input that is called absent isn't held
 not_held : (entry : EntryNames) (held : Held) (i : Input) (name : List ℕ) → EntryCallsFor entry held (absent i) → IsInputName (names_for entry) i name → held name ≡ None
-not_held entry held i name calls named = (first_absent (asked_for entry) held _ i (none_matched 5 entry.out plain _ _ _) calls.is).none name named
+not_held entry held i name calls named = (first_absent (asked_for entry) held _ i (present_matched entry.out plain _ _ _) calls.is).none name named
 
 -- ---- faults of writing
 

@@ -48,7 +48,7 @@ readable entry asked held is on = λ v calls.
 
 -- a stop, as the verdict shows it, however it would go on
 abbrev pub StopsSo : Operands → Held → FetchStop → Type 0
-StopsSo asked held stop = (next : Verdict) → NoneBefore 3 next → ShownBy (pair_fetched asked held next) (fetch_outcome stop)
+StopsSo asked held stop = (next : Verdict) → NoneBefore 4 next → ShownBy (pair_fetched asked held next) (fetch_outcome stop)
 
 pub stop_shown : (entry : EntryNames) (asked : Operands) (held : Held) (stop is_stop : FetchStop) (v : Verdict) → asked ≡ asked_for entry → stop ≡ is_stop → StopsSo asked held stop → EntryCallsFor entry held v → ShownBy v (fetch_outcome is_stop)
 stop_shown entry asked held stop is_stop v is same stops calls =

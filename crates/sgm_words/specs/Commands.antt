@@ -2,7 +2,7 @@
 use Rattle.std.specs.Prelude.{ℕ, List, [], ◌∷◌, Bool, true, false, codes, Option, find}
 use Rattle.std.specs.Str.{bytes_eq}
 use Rattle.sgm_words.specs.declared.commands.Command.{Command}
-use Rattle.sgm_words.specs.declared.commands.Command.TheVariants.{Match, Demo, Trace, Change}
+use Rattle.sgm_words.specs.declared.commands.Command.TheVariants.{Match, Demo, Trace, Change, Merge}
 use Rattle.sgm_words.specs.declared.files.Output.{Output}
 use Rattle.sgm_words.specs.declared.files.Output.TheVariants.{Disparity, Heights, Report, Difference, Volumes}
 
@@ -35,9 +35,10 @@ entry_of Match = command_entry (codes "match") 4 4 false 0 true (Disparity ∷ H
 entry_of Demo = command_entry (codes "demo") 1 0 false 1 true []
 entry_of Trace = command_entry (codes "trace") 7 3 true 3 false []
 entry_of Change = command_entry (codes "change") 3 3 false 0 false (Difference ∷ Volumes ∷ [])
+entry_of Merge = command_entry (codes "merge") 3 3 false 0 false (Heights ∷ Report ∷ [])
 
 abbrev pub commands : List Command
-commands = Match ∷ Demo ∷ Trace ∷ Change ∷ []
+commands = Match ∷ Demo ∷ Trace ∷ Change ∷ Merge ∷ []
 
 -- this is the command's name
 abbrev pub is_named : List ℕ → Command → Bool

@@ -1,19 +1,40 @@
 -- What a run reads and writes: the words for it in fault lines, and the names of its files.
-use Rattle.std.specs.Prelude.{◌≡◌, ℕ, List, ◌++◌, Bool, false, codes, Option, None, Some, IsSomeAnd}
+use Rattle.std.specs.Prelude.{◌≡◌, ℕ, List, ◌++◌, Bool, false, codes, decimal, Option, None, Some, IsSomeAnd}
 use Rattle.std.specs.Option.{option_map_or}
 use Rattle.std.specs.Str.{bytes_eq}
 use Rattle.sgm_words.specs.declared.files.Input.{Input}
-use Rattle.sgm_words.specs.declared.files.Input.TheVariants.{Left, Right, Calibration, Earlier, Later}
+use Rattle.sgm_words.specs.declared.files.Input.TheVariants as input
 use Rattle.sgm_words.specs.declared.files.Output.{Output}
 use Rattle.sgm_words.specs.declared.files.Output.TheVariants.{Disparity, Heights, Report, Summary, Difference, Volumes}
 
--- an input's word in fault lines
+-- an input's word in fault lines, before its number where it has one
 abbrev pub input_word : Input → List ℕ
-input_word Left = codes "left"
-input_word Right = codes "right"
-input_word Calibration = codes "calibration"
-input_word Earlier = codes "earlier"
-input_word Later = codes "later"
+input_word input.Left = codes "left"
+input_word input.Right = codes "right"
+input_word input.Calibration = codes "calibration"
+input_word input.Earlier = codes "earlier"
+input_word input.Later = codes "later"
+input_word input.List = codes "list"
+input_word (input.Grid number) = codes "grid"
+
+-- its number, where it is one of many
+abbrev pub input_number : Input → Option ℕ
+input_number (input.Grid number) = Some number
+input_number input.Left = None
+input_number input.Right = None
+input_number input.Calibration = None
+input_number input.Earlier = None
+input_number input.Later = None
+input_number input.List = None
+
+-- a word, and the number behind it where there is one
+abbrev pub numbered : List ℕ → Option ℕ → List ℕ
+numbered word None = word
+numbered word (Some number) = word ++ codes " " ++ decimal number
+
+-- what an input is called in fault lines
+abbrev pub input_name : Input → List ℕ
+input_name i = numbered (input_word i) (input_number i)
 
 -- an output's word in fault lines
 abbrev pub output_word : Output → List ℕ

@@ -4,7 +4,7 @@ use Rattle.sgm_base.specs.declared.limits.TheConstants.{MAX_STRIPS, MAX_WORKERS}
 use Rattle.sgm_words.specs.Commands.{entry_of}
 use Rattle.sgm_words.specs.declared.commands.Command.TheVariants as command
 use Rattle.sgm_words.specs.declared.options.Options.{Options}
-use Rattle.sgm_words.specs.declared.options.Options.TheVariants.{Match, Demo, Trace, Change}
+use Rattle.sgm_words.specs.declared.options.Options.TheVariants.{Match, Demo, Trace, Change, Merge}
 
 -- a number of strips
 abbrev pub IsStrips : ℕ → Type 0
@@ -20,6 +20,7 @@ AreInRange (Match strips workers refine) = IsStrips strips × IsWorkers workers
 AreInRange (Demo number strips workers refine) = IsStrips strips × IsWorkers workers
 AreInRange (Trace dir x y d) = ⊤
 AreInRange Change = ⊤
+AreInRange Merge = ⊤
 
 -- how many operands go with the options
 abbrev pub operand_count : Options → ℕ
@@ -27,3 +28,4 @@ operand_count (Match strips workers refine) = (entry_of command.Match).operands
 operand_count (Demo number strips workers refine) = (entry_of command.Demo).operands
 operand_count (Trace dir x y d) = (entry_of command.Trace).operands
 operand_count Change = (entry_of command.Change).operands
+operand_count Merge = (entry_of command.Merge).operands

@@ -13,7 +13,7 @@ use Rattle.sgm_words.specs.declared.commands.Command.{Command}
 use Rattle.sgm_words.specs.declared.commands.Command.TheVariants as command
 use Rattle.sgm_words.specs.declared.option_table.TheConstants.{STRIPS, WORKERS, PEAK, FILL}
 use Rattle.sgm_words.specs.declared.options.Options.{Options}
-use Rattle.sgm_words.specs.declared.options.Options.TheVariants.{Match, Demo, Trace, Change}
+use Rattle.sgm_words.specs.declared.options.Options.TheVariants.{Match, Demo, Trace, Change, Merge}
 use Rattle.sgm_words.specs.declared.usage.UsageFault.{UsageFault}
 use Rattle.sgm_words.specs.declared.usage.UsageFault.TheVariants.{NoCommand, UnknownCommand}
 
@@ -39,6 +39,7 @@ asked_of command.Demo words =
     Demo (number_at words 1) (setting_of STRIPS later) (setting_of WORKERS later) (refine_of later)
 asked_of command.Trace words = Trace (direction_at words 4) (number_at words 5) (number_at words 6) (number_at words 7)
 asked_of command.Change words = Change
+asked_of command.Merge words = Merge
 
 -- these options, unless there is a fault
 abbrev pub unless_fault : Option UsageFault → Options → Result Options UsageFault

@@ -10,6 +10,7 @@ pub enum Command {
     Demo,
     Trace,
     Change,
+    Merge,
 }
 
 /// A command: its name, how many operands it has, how many of them are names, which come first, whether a
@@ -29,11 +30,12 @@ pub struct CommandRow {
     ghost numbers_fit: { numbers ≤ operands },
 }
 
-const COMMANDS: [Command; 4] = [
+const COMMANDS: [Command; 5] = [
     Command::Match,
     Command::Demo,
     Command::Trace,
     Command::Change,
+    Command::Merge,
 ];
 
 impl Command {
@@ -83,6 +85,15 @@ impl Command {
                 numbers: 0,
                 has_options: false,
                 outputs: &[Output::Difference, Output::Volumes],
+            },
+            Command::Merge => CommandRow {
+                name: "merge",
+                operands: 3,
+                names: 3,
+                has_direction: false,
+                numbers: 0,
+                has_options: false,
+                outputs: &[Output::Heights, Output::Report],
             },
         }
     }

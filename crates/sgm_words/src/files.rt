@@ -1,13 +1,14 @@
 ghost use Rattle.std.specs.Prelude.{◌≡◌, ◌≤◌, ◌++◌, length, IsSome, IfOk, option_map, string_bytes};
 ghost use Rattle.std.specs.Str.{bytes_eq};
-ghost use Rattle.sgm_words.specs.Files.{input_word, output_word, ending_of, IsFileName, is_file_name};
+ghost use Rattle.sgm_words.specs.Files.{input_word, input_number, output_word, ending_of};
+ghost use Rattle.sgm_words.specs.Files.{IsFileName, is_file_name};
 
 use std::alloc::{AllocError, Global};
 
 /// The greatest size of a grid that is read, in bytes.
 pub const MAX_GRID_BYTES: usize = 268_435_456;
 
-/// A file that is read, in the order in which they are fetched.
+/// A file that is read.
 #[derive(Clone, Copy, PartialEq, Eq)]
 pub enum Input {
     Left,
@@ -15,6 +16,10 @@ pub enum Input {
     Calibration,
     Earlier,
     Later,
+    /// The list of the grids of a merge.
+    List,
+    /// The grid that is that entry of the list, counted from 0.
+    Grid(u32),
 }
 
 /// What is written, in this order.
@@ -29,7 +34,7 @@ pub enum Output {
 }
 
 impl Input {
-    /// Its word in fault lines.
+    /// Its word in fault lines, before its number where it has one.
     pub fn word(self) -> &'static str
         ensures value { result.now ≡ input_word self }
         ensures short { length result.now ≤ 11 }
@@ -40,6 +45,18 @@ impl Input {
             Input::Calibration => "calibration",
             Input::Earlier => "earlier",
             Input::Later => "later",
+            Input::List => "list",
+            Input::Grid(_) => "grid",
+        }
+    }
+
+    /// Its number, where it is one of many.
+    pub fn number(self) -> Option<u32>
+        ensures { result ≡ input_number self }
+    {
+        match self {
+            Input::Grid(number) => Some(number),
+            _ => None,
         }
     }
 }

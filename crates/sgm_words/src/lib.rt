@@ -15,7 +15,7 @@ mod settings;
 mod usage;
 
 pub use files::{Input, MAX_GRID_BYTES, Output};
-pub use operands::{ChangeWords, OperandWords};
+pub use operands::{ChangeWords, MergeWords, OperandWords, is_plain};
 pub use options::Options;
 pub use read::read_words;
 pub use usage::UsageFault;

@@ -1,5 +1,6 @@
 ghost use Rattle.std.specs.Prelude.{◌≡◌, ◌<◌, length};
-ghost use Rattle.sgm_words.specs.Operands.{bytes_of, word, operands, is_plain, change_operands};
+ghost use Rattle.sgm_words.specs.Operands.{bytes_of, word, operands, change_operands, merge_operands};
+ghost use Rattle.sgm_words.specs.Operands.{is_plain, is_plain_word};
 
 use std::marker::Model;
 
@@ -74,7 +75,7 @@ impl<'a> OperandWords<'a> {
     pub fn is_plain(&self) -> bool
         ensures { result ≡ is_plain self.now }
     {
-        self.calib == "-"
+        is_plain(self.calib)
     }
 }
 
@@ -124,6 +125,61 @@ impl<'a> ChangeWords<'a> {
     {
         self.out
     }
+}
+
+/// The operands of `merge`.
+#[derive(Drop)]
+pub struct MergeWords<'a> {
+    list: &'a str,
+    calib: &'a str,
+    out: &'a str,
+}
+
+impl<'a> Model for MergeWords<'a> {
+    ghost use Rattle.sgm_words.specs.Operands.{MergeOperands};
+
+    ghost Value = { MergeOperands };
+
+    ghost view = { λ o. record { list = o.list.now; calib = o.calib.now; out = o.out.now } };
+}
+
+impl<'a> MergeWords<'a> {
+    /// The words 1 to 3.
+    pub fn of(words: &'a [String]) -> MergeWords<'a>
+        requires { 3 < length words.now }
+        ensures { result ≡ merge_operands (bytes_of words.now) }
+    {
+        MergeWords {
+            list: words[1].as_str(),
+            calib: words[2].as_str(),
+            out: words[3].as_str(),
+        }
+    }
+
+    pub fn list(&self) -> &'a str
+        ensures { result.now ≡ self.now.list }
+    {
+        self.list
+    }
+
+    pub fn calib(&self) -> &'a str
+        ensures { result.now ≡ self.now.calib }
+    {
+        self.calib
+    }
+
+    pub fn out(&self) -> &'a str
+        ensures { result.now ≡ self.now.out }
+    {
+        self.out
+    }
+}
+
+/// Whether the word for a calibration means the plain settings.
+pub fn is_plain(calib: &str) -> bool
+    ensures { result ≡ is_plain_word calib.now }
+{
+    calib == "-"
 }
 
 /// The word at a position; nothing behind the last.

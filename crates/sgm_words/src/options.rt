@@ -1,8 +1,8 @@
 use sgm_energy::Dir;
 use sgm_refine::Refine;
 
-/// What the words ask for. The operands of `match` are the words 1 to 4, those of `change` the words 1 to 3,
-/// and the images and the calibration of `trace` the words 1 to 3.
+/// What the words ask for. The operands of `match` are the words 1 to 4, those of `change` and of
+/// `merge` the words 1 to 3, and the images and the calibration of `trace` the words 1 to 3.
 #[derive(Clone, Copy, PartialEq, Eq)]
 pub enum Options {
     Match {
@@ -24,4 +24,5 @@ pub enum Options {
         d: u32,
     },
     Change,
+    Merge,
 }

@@ -65,6 +65,7 @@ fn asked(command: Command, words: &[String], settings: &Settings) -> Options
             d: number_at(words, 7),
         },
         Command::Change => Options::Change,
+        Command::Merge => Options::Merge,
     }
 }
 

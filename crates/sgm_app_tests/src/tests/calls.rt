@@ -10,11 +10,12 @@ use std::cell::RefCell;
 use std::test::Fail;
 use std::thread::Threads;
 
-/// The worked example, and two grids that are its heights.
+/// The worked example, two grids that are its heights, and a list of them.
 fn files(alloc: Global) -> Result<Vec<(String, Vec<u8>)>, AllocError> {
     let mut files = example(alloc)?;
     add(alloc, &mut files, "e.asc", HEIGHTS)?;
     add(alloc, &mut files, "f.asc", HEIGHTS)?;
+    add(alloc, &mut files, "list", b"e.asc\nf.asc\n")?;
     Ok(files)
 }
 
@@ -72,9 +73,11 @@ const TRACE: &str = "trace l.pgm r.pgm c.json right 2 1 1";
 
 const CHANGE: &str = "change e.asc f.asc o";
 
+const MERGE: &str = "merge list c.json o";
+
 /// Lines of runs that are done, and the calls of each. The nine zeros of the difference have four digits fewer each than
 /// the heights, whose text has 176 bytes.
-const DONE: [(&str, &str); 3] = [
+const DONE: [(&str, &str); 4] = [
     (
         MATCH,
         "fetch l.pgm;fetch r.pgm;fetch c.json;create o.pgm;append 43;finish;create o.asc;append 176;finish;create o.csv;append 92;finish;",
@@ -83,6 +86,10 @@ const DONE: [(&str, &str); 3] = [
     (
         CHANGE,
         "fetch e.asc;fetch f.asc;create o.asc;append 140;finish;create o.csv;append 42;finish;",
+    ),
+    (
+        MERGE,
+        "fetch list;fetch c.json;fetch e.asc;fetch f.asc;create o.asc;append 176;finish;create o.csv;append 92;finish;",
     ),
 ];
 
@@ -95,7 +102,7 @@ fn a_run_that_is_done_makes_each_call_once(rt: HostRuntime) -> Result<(), Fail> 
 }
 
 /// Lines, the input that can't be read, and the calls up to it.
-const STOPPED: [(&str, &str, &str); 8] = [
+const STOPPED: [(&str, &str, &str); 12] = [
     (MATCH, "l.pgm", "fetch l.pgm;"),
     (MATCH, "r.pgm", "fetch l.pgm;fetch r.pgm;"),
     (MATCH, "c.json", "fetch l.pgm;fetch r.pgm;fetch c.json;"),
@@ -104,6 +111,14 @@ const STOPPED: [(&str, &str, &str); 8] = [
     (TRACE, "c.json", "fetch l.pgm;fetch r.pgm;fetch c.json;"),
     (CHANGE, "e.asc", "fetch e.asc;"),
     (CHANGE, "f.asc", "fetch e.asc;fetch f.asc;"),
+    (MERGE, "list", "fetch list;"),
+    (MERGE, "c.json", "fetch list;fetch c.json;"),
+    (MERGE, "e.asc", "fetch list;fetch c.json;fetch e.asc;"),
+    (
+        MERGE,
+        "f.asc",
+        "fetch list;fetch c.json;fetch e.asc;fetch f.asc;",
+    ),
 ];
 
 #[test]

@@ -1,4 +1,4 @@
-use Rattle.std.proofs.Common.{◌∙◌, sym, refl, subst, List, ℕ, Option}
+use Rattle.std.proofs.Common.{arith, ◌∙◌, sym, refl, subst, List, ℕ, Option}
 use Rattle.sgm_io.specs.Unfinished.{NameSet}
 use Rattle.sgm_words.specs.Operands.{of_change}
 use Rattle.sgm_app.specs.Changing.{change_for}
@@ -20,13 +20,13 @@ use Rattle.sgm_app.proofs.change.run_change.Goals as goal
 pub returns-in-Err-clause-cause : goal.returns-in-Err-clause-cause
 returns-in-Err-clause-cause g c = λ told v calls.
     let asked = c.args.operands.now in let held = g.S.Shelf.held c.args.shelf.now in
-    rw c.outcome.ensures (shown_along v _ _ (sym calls) (c.in-Err.ensures.verdict told _ (none_changed 5 asked held)))
+    rw c.outcome.ensures (shown_along v _ _ (sym calls) (c.in-Err.ensures.verdict told _ (none_changed 6 (omega arith) asked held)))
 
 pub returns-in-Err-change_texts-clause-cause : goal.returns-in-Err-change_texts-clause-cause
 returns-in-Err-change_texts-clause-cause g c = λ told v calls.
     let asked = c.args.operands.now in let held = g.S.Shelf.held c.args.shelf.now in
     let at = c.in-Ok.ensures.at_hand told in
-    rw c.outcome-in-Err-change_texts.ensures (shown_along v _ _ (sym calls ∙ c.in-Ok.ensures.verdict told _ (none_changed 5 asked held))
+    rw c.outcome-in-Err-change_texts.ensures (shown_along v _ _ (sym calls ∙ c.in-Ok.ensures.verdict told _ (none_changed 6 (omega arith) asked held))
     (stop_shown (change_for (grid_reading (held asked.earlier)) (grid_reading (held asked.later))) (λ t. files (change_files_of asked.out t) t.summary) c.in-Err-change_texts.error
     (stops_along _ _ c.in-Err-change_texts.error (grids_at _ _ _ _ _ _ at.earlier at.later c.deref.ensures.value c.deref-2.ensures.value) c.in-Err-change_texts.ensures)))
 
@@ -37,7 +37,7 @@ returns-in-Ok-name_change-clause-files g c = λ told v calls.
     put_along c.deliver.result v _ _ _ _
     (delivered _ _ _ _ v c.in-Ok-name_change.ensures.files c.in-Ok-name_change.ensures.summary
     (settled _ v (change_for (grid_reading (held asked.earlier)) (grid_reading (held asked.later))) (λ t. files (change_files_of asked.out t) t.summary) (change_texts_in c.in-Ok-change_texts.texts) calls
-    (c.in-Ok.ensures.verdict told _ (none_changed 5 asked held))
+    (c.in-Ok.ensures.verdict told _ (none_changed 6 (omega arith) asked held))
     (grids_at _ _ _ _ _ _ at.earlier at.later c.deref.ensures.value c.deref-2.ensures.value ∙ c.in-Ok-change_texts.ensures)))
     (c.in-Ok.ensures.held told) (c.deliver.ensures.files told)
 
@@ -48,7 +48,7 @@ returns-in-Ok-name_change-clause-finished g c = λ told v calls done.
     finished_along v (files c.in-Ok-name_change.delivery.files.items c.in-Ok-name_change.delivery.summary.items) _
     (delivered _ _ _ _ v c.in-Ok-name_change.ensures.files c.in-Ok-name_change.ensures.summary
     (settled _ v (change_for (grid_reading (held asked.earlier)) (grid_reading (held asked.later))) (λ t. files (change_files_of asked.out t) t.summary) (change_texts_in c.in-Ok-change_texts.texts) calls
-    (c.in-Ok.ensures.verdict told _ (none_changed 5 asked held))
+    (c.in-Ok.ensures.verdict told _ (none_changed 6 (omega arith) asked held))
     (grids_at _ _ _ _ _ _ at.earlier at.later c.deref.ensures.value c.deref-2.ensures.value ∙ c.in-Ok-change_texts.ensures)))
     (c.deliver.ensures.finished done)
 
@@ -74,7 +74,7 @@ returns-in-Ok-name_change-clause-cause g c = λ told v calls.
     shown_along v (files c.in-Ok-name_change.delivery.files.items c.in-Ok-name_change.delivery.summary.items) c.deliver.result
     (sym (delivered _ _ _ _ v c.in-Ok-name_change.ensures.files c.in-Ok-name_change.ensures.summary
     (settled _ v (change_for (grid_reading (held asked.earlier)) (grid_reading (held asked.later))) (λ t. files (change_files_of asked.out t) t.summary) (change_texts_in c.in-Ok-change_texts.texts) calls
-    (c.in-Ok.ensures.verdict told _ (none_changed 5 asked held))
+    (c.in-Ok.ensures.verdict told _ (none_changed 6 (omega arith) asked held))
     (grids_at _ _ _ _ _ _ at.earlier at.later c.deref.ensures.value c.deref-2.ensures.value ∙ c.in-Ok-change_texts.ensures))))
     c.deliver.ensures.shown
 
@@ -85,7 +85,7 @@ returns-in-Ok-name_change-clause-out g c = λ told told_out v calls.
     out_along c.deliver.result v (files c.in-Ok-name_change.delivery.files.items c.in-Ok-name_change.delivery.summary.items) _ _
     (delivered _ _ _ _ v c.in-Ok-name_change.ensures.files c.in-Ok-name_change.ensures.summary
     (settled _ v (change_for (grid_reading (held asked.earlier)) (grid_reading (held asked.later))) (λ t. files (change_files_of asked.out t) t.summary) (change_texts_in c.in-Ok-change_texts.texts) calls
-    (c.in-Ok.ensures.verdict told _ (none_changed 5 asked held))
+    (c.in-Ok.ensures.verdict told _ (none_changed 6 (omega arith) asked held))
     (grids_at _ _ _ _ _ _ at.earlier at.later c.deref.ensures.value c.deref-2.ensures.value ∙ c.in-Ok-change_texts.ensures)))
     (c.deliver.ensures.out told_out)
 

@@ -1,12 +1,12 @@
 use Rattle.std.proofs.Common.{◌∙◌, ap, sym, arith, List, ℕ}
 use Rattle.sgm_io.specs.Held.{Held}
-use Rattle.sgm_words.specs.Operands.{is_plain}
+use Rattle.sgm_words.specs.Operands.{is_plain, is_plain_word}
 use Rattle.sgm_words.specs.declared.files.Input.TheVariants as input
 use Rattle.sgm_app.specs.Stops.{fetch_outcome}
 use Rattle.sgm_app.specs.Verdict.{pair_fetched, fetched, calib_fetched}
 use Rattle.sgm_app.proofs.Counting.{counts_since, goes_by, shown_by}
 use Rattle.sgm_app.proofs.Steps.{shown_along}
-use Rattle.sgm_app.proofs.VerdictLaws.{none_zero, none_less, none_calib_fetched}
+use Rattle.sgm_app.proofs.VerdictLaws.{none_fetched, none_less, none_calib_fetched}
 use Rattle.sgm_app.proofs.gathering.gather.Goals as goal
 
 pub returns-in-Err-clause-verdict : goal.returns-in-Err-clause-verdict
@@ -14,7 +14,7 @@ unfolding pair_fetched
 returns-in-Err-clause-verdict g c = λ told last none.
     let asked = c.args.operands.now in let held = g.S.Shelf.held c.args.shelf.now in
     let next = fetched input.Right (held asked.right) (calib_fetched (is_plain asked) (held asked.calib) last) in
-    shown_by input.Left held c.left.result.now asked.left next (fetch_outcome c.in-Err.stop) c.left.ensures (c.in-Err.ensures.bytes told next (none_zero next))
+    shown_by input.Left held c.left.result.now asked.left next (fetch_outcome c.in-Err.stop) c.left.ensures (c.in-Err.ensures.bytes told next (none_fetched 1 input.Right (held asked.right) _ (omega arith) (none_calib_fetched 1 (is_plain asked) (held asked.calib) last (omega arith) (none_less 1 4 last (omega arith) none))))
 
 pub returns-in-Err-fetch_input-clause-verdict : goal.returns-in-Err-fetch_input-clause-verdict
 unfolding pair_fetched
@@ -25,7 +25,7 @@ returns-in-Err-fetch_input-clause-verdict g c = λ told last none.
     (goes_by input.Left held c.left.result.now asked.left (fetched input.Right (held asked.right) next) c.left.ensures ((c.in-Ok.ensures.bytes told).1 (fetched input.Right (held asked.right) next))
     ∙ ap (λ (n : List ℕ). fetched input.Right (held n) next) (sym c.right.ensures)
     ∙ ap (λ (h : Held). fetched input.Right (h c.right.result.now) next) (sym (c.in-Ok.ensures.held told)))
-    (c.in-Err-fetch_input.ensures.bytes told next (none_calib_fetched 1 (is_plain asked) (held asked.calib) last (omega arith) (none_less 1 3 last (omega arith) none)))
+    (c.in-Err-fetch_input.ensures.bytes told next (none_calib_fetched 2 (is_plain asked) (held asked.calib) last (omega arith) (none_less 2 4 last (omega arith) none)))
 
 pub returns-in-Err-fetch_calib-clause-verdict : goal.returns-in-Err-fetch_calib-clause-verdict
 unfolding pair_fetched
@@ -38,8 +38,9 @@ returns-in-Err-fetch_calib-clause-verdict g c = λ told last none.
     ∙ ap (λ (n : List ℕ). fetched input.Right (held n) next) (sym c.right.ensures)
     ∙ ap (λ (h : Held). fetched input.Right (h c.right.result.now) next) (sym (c.in-Ok.ensures.held told))
     ∙ (c.in-Ok-fetch_input.ensures.bytes told).1 next
-    ∙ ap (λ (h : Held). calib_fetched (is_plain asked) (h asked.calib) last) (sym kept))
-    (c.in-Err-fetch_calib.ensures.bytes told last (none_less 2 3 last (omega arith) none))
+    ∙ ap (λ (n : List ℕ). calib_fetched (is_plain_word n) (held n) last) (sym c.calib.ensures)
+    ∙ ap (λ (h : Held). calib_fetched (is_plain_word c.calib.result.now) (h c.calib.result.now) last) (sym kept))
+    (c.in-Err-fetch_calib.ensures.bytes told last (none_less 3 4 last (omega arith) none))
 
 pub returns-in-Ok-fetch_calib-clause-verdict : goal.returns-in-Ok-fetch_calib-clause-verdict
 unfolding pair_fetched
@@ -51,7 +52,8 @@ returns-in-Ok-fetch_calib-clause-verdict g c = λ told last none.
     ∙ ap (λ (n : List ℕ). fetched input.Right (held n) next) (sym c.right.ensures)
     ∙ ap (λ (h : Held). fetched input.Right (h c.right.result.now) next) (sym (c.in-Ok.ensures.held told))
     ∙ (c.in-Ok-fetch_input.ensures.bytes told).1 next
-    ∙ ap (λ (h : Held). calib_fetched (is_plain asked) (h asked.calib) last) (sym kept)
+    ∙ ap (λ (n : List ℕ). calib_fetched (is_plain_word n) (held n) last) (sym c.calib.ensures)
+    ∙ ap (λ (h : Held). calib_fetched (is_plain_word c.calib.result.now) (h c.calib.result.now) last) (sym kept)
     ∙ (c.in-Ok-fetch_calib.ensures.bytes told).1 last
 
 pub returns-in-Err-fetch_input-clause-counts : goal.returns-in-Err-fetch_input-clause-counts
@@ -63,11 +65,11 @@ pub returns-in-Err-fetch_calib-clause-counts : goal.returns-in-Err-fetch_calib-c
 returns-in-Err-fetch_calib-clause-counts g c = λ names have out.
     let left = c.in-Ok.ensures.counts names (have input.Left c.left.result.now c.left.ensures) in
     let right = c.in-Ok-fetch_input.ensures.counts names (have input.Right c.right.result.now c.right.ensures) in
-    counts_since names (fetch_outcome c.in-Err-fetch_calib.stop) _ _ out _ _ _ (right.0 ∙ left.0, right.1 ∙ left.1) (c.in-Err-fetch_calib.ensures.counts names have out)
+    counts_since names (fetch_outcome c.in-Err-fetch_calib.stop) _ _ out _ _ _ (right.0 ∙ left.0, right.1 ∙ left.1) (c.in-Err-fetch_calib.ensures.counts names (λ own. have input.Calibration c.calib.result.now (sym (ap is_plain_word c.calib.ensures) ∙ own, c.calib.ensures)) out)
 
 pub returns-in-Ok-fetch_calib-clause-counts : goal.returns-in-Ok-fetch_calib-clause-counts
 returns-in-Ok-fetch_calib-clause-counts g c = λ names have.
     let left = c.in-Ok.ensures.counts names (have input.Left c.left.result.now c.left.ensures) in
     let right = c.in-Ok-fetch_input.ensures.counts names (have input.Right c.right.result.now c.right.ensures) in
-    let calib = c.in-Ok-fetch_calib.ensures.counts names have in
+    let calib = c.in-Ok-fetch_calib.ensures.counts names (λ own. have input.Calibration c.calib.result.now (sym (ap is_plain_word c.calib.ensures) ∙ own, c.calib.ensures)) in
     (calib.0 ∙ right.0 ∙ left.0, calib.1 ∙ right.1 ∙ left.1)

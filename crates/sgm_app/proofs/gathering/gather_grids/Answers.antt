@@ -14,7 +14,7 @@ returns-in-Err-clause-verdict g c = λ told last none.
     let asked = c.args.operands.now in let held = g.S.Shelf.held c.args.shelf.now in
     let next = fetched input.Later (held asked.later) last in
     shown_by input.Earlier held c.earlier.result.now asked.earlier next (fetch_outcome c.in-Err.stop) c.earlier.ensures
-    (c.in-Err.ensures.bytes told next (none_fetched 3 input.Later (held asked.later) last (omega arith) (none_less 3 5 last (omega arith) none)))
+    (c.in-Err.ensures.bytes told next (none_fetched 4 input.Later (held asked.later) last (omega arith) (none_less 4 6 last (omega arith) none)))
 
 pub returns-in-Err-fetch_input-clause-verdict : goal.returns-in-Err-fetch_input-clause-verdict
 unfolding grids_fetched
@@ -24,7 +24,7 @@ returns-in-Err-fetch_input-clause-verdict g c = λ told last none.
     (goes_by input.Earlier held c.earlier.result.now asked.earlier (fetched input.Later (held asked.later) last) c.earlier.ensures ((c.in-Ok.ensures.bytes told).1 (fetched input.Later (held asked.later) last))
     ∙ ap (λ (n : List ℕ). fetched input.Later (held n) last) (sym c.later.ensures)
     ∙ ap (λ (h : Held). fetched input.Later (h c.later.result.now) last) (sym (c.in-Ok.ensures.held told)))
-    (c.in-Err-fetch_input.ensures.bytes told last (none_less 4 5 last (omega arith) none))
+    (c.in-Err-fetch_input.ensures.bytes told last (none_less 5 6 last (omega arith) none))
 
 pub returns-in-Ok-fetch_input-clause-verdict : goal.returns-in-Ok-fetch_input-clause-verdict
 unfolding grids_fetched

@@ -1,9 +1,9 @@
-use Rattle.std.proofs.Common.{◌∙◌, sym, ap, subst, Result, Ok}
-use Rattle.sgm_words.specs.Operands.{Operands, ChangeOperands, of_none, of_match, of_trace, of_change, operands, bytes_of}
+use Rattle.std.proofs.Common.{◌∙◌, sym, ap, subst, None, option_map, Result, Ok}
+use Rattle.sgm_words.specs.Operands.{Operands, ChangeOperands, MergeOperands, of_none, of_match, of_trace, of_change, of_merge, operands, bytes_of}
 use Rattle.sgm_words.specs.declared.options.Options.{Options}
 use Rattle.sgm_words.specs.declared.usage.UsageFault.{UsageFault}
-use Rattle.sgm_app.specs.Calls.{MatchCallsFor, TraceCallsFor, ChangeCallsFor, ReadCallsFor}
-use Rattle.sgm_app.specs.Ends.{CountsShow, RunCounts, faults}
+use Rattle.sgm_app.specs.Calls.{MatchCallsFor, TraceCallsFor, ChangeCallsFor, MergeCallsFor, ReadCallsFor}
+use Rattle.sgm_app.specs.Ends.{CountsShow, RunCounts, faults, names_listed, told_by}
 use Rattle.sgm_app.specs.Unfinished.{UnfinishedStands, RunUnfinished}
 use Rattle.sgm_app.proofs.Completing.{demo_put, summary_alone, out_counts, trace_outputs, trace_put, trace_summary_alone}
 use Rattle.sgm_app.proofs.Delivering.{out_along}
@@ -35,7 +35,7 @@ returns-in-Match-clause-cause g c = λ told v calls.
 pub returns-in-Demo-clause-counts : goal.returns-in-Demo-clause-counts
 returns-in-Demo-clause-counts g c =
     let e = sym c.read_words.ensures.exact ∙ c.in-Ok.is ∙ ap (λ (o : Options). let r : Result Options UsageFault = Ok o in r) c.in-Demo.is in
-    let P : Result Options UsageFault → Type 0 = λ read. RunCounts read (bytes_of c.args.words.now) c.run_demo.result
+    let P : Result Options UsageFault → Type 0 = λ read. RunCounts read (bytes_of c.args.words.now) (told_by g.S.Shelf.tells (g.S.Shelf.held c.args.shelf.now)) c.run_demo.result
     (faults (g.S.Shelf.read_faults c.args.shelf.now) (g.S.Shelf.write_faults c.args.shelf.now) (g.O.Sink.faults c.args.out.now))
     (faults (g.S.Shelf.read_faults c.args.shelf.now) (g.S.Shelf.write_faults c.args.shelf.now) (g.O.Sink.faults c.run_demo.new.out)) in
     subst P (sym e) (out_counts of_none c.run_demo.result _ _ (c.run_demo.ensures.counts (g.S.Shelf.read_faults c.args.shelf.now) (g.S.Shelf.write_faults c.args.shelf.now)))
@@ -84,7 +84,7 @@ returns-in-Change-clause-files g c = λ told v calls.
 pub returns-in-Change-clause-counts : goal.returns-in-Change-clause-counts
 returns-in-Change-clause-counts g c =
     let e = sym c.read_words.ensures.exact ∙ c.in-Ok.is ∙ ap (λ (o : Options). let r : Result Options UsageFault = Ok o in r) c.in-Change.is in
-    let P : Result Options UsageFault → Type 0 = λ read. RunCounts read (bytes_of c.args.words.now) c.run_change.result
+    let P : Result Options UsageFault → Type 0 = λ read. RunCounts read (bytes_of c.args.words.now) (told_by g.S.Shelf.tells (g.S.Shelf.held c.args.shelf.now)) c.run_change.result
     (faults (g.S.Shelf.read_faults c.args.shelf.now) (g.S.Shelf.write_faults c.args.shelf.now) (g.O.Sink.faults c.args.out.now))
     (faults (g.S.Shelf.read_faults c.run_change.new.shelf) (g.S.Shelf.write_faults c.run_change.new.shelf) (g.O.Sink.faults c.run_change.new.out)) in
     let Q : ChangeOperands → Type 0 = λ asked. CountsShow (of_change asked) c.run_change.result
@@ -102,7 +102,7 @@ returns-in-Change-clause-unfinished g c =
 pub returns-in-Trace-clause-counts : goal.returns-in-Trace-clause-counts
 returns-in-Trace-clause-counts g c =
     let e = sym c.read_words.ensures.exact ∙ c.in-Ok.is ∙ ap (λ (o : Options). let r : Result Options UsageFault = Ok o in r) c.in-Trace.is in
-    let P : Result Options UsageFault → Type 0 = λ read. RunCounts read (bytes_of c.args.words.now) c.run_trace.result
+    let P : Result Options UsageFault → Type 0 = λ read. RunCounts read (bytes_of c.args.words.now) (told_by g.S.Shelf.tells (g.S.Shelf.held c.args.shelf.now)) c.run_trace.result
     (faults (g.S.Shelf.read_faults c.args.shelf.now) (g.S.Shelf.write_faults c.args.shelf.now) (g.O.Sink.faults c.args.out.now))
     (faults (g.S.Shelf.read_faults c.run_trace.new.shelf) (g.S.Shelf.write_faults c.run_trace.new.shelf) (g.O.Sink.faults c.run_trace.new.out)) in
     let Q : Operands → Type 0 = λ asked. CountsShow (of_trace asked) c.run_trace.result
@@ -127,7 +127,7 @@ returns-in-Trace-clause-cause g c = λ told v calls.
 pub returns-in-Match-clause-counts : goal.returns-in-Match-clause-counts
 returns-in-Match-clause-counts g c =
     let e = sym c.read_words.ensures.exact ∙ c.in-Ok.is ∙ ap (λ (o : Options). let r : Result Options UsageFault = Ok o in r) c.in-Match.is in
-    let P : Result Options UsageFault → Type 0 = λ read. RunCounts read (bytes_of c.args.words.now) c.run_match.result
+    let P : Result Options UsageFault → Type 0 = λ read. RunCounts read (bytes_of c.args.words.now) (told_by g.S.Shelf.tells (g.S.Shelf.held c.args.shelf.now)) c.run_match.result
     (faults (g.S.Shelf.read_faults c.args.shelf.now) (g.S.Shelf.write_faults c.args.shelf.now) (g.O.Sink.faults c.args.out.now))
     (faults (g.S.Shelf.read_faults c.run_match.new.shelf) (g.S.Shelf.write_faults c.run_match.new.shelf) (g.O.Sink.faults c.run_match.new.out)) in
     let Q : Operands → Type 0 = λ asked. CountsShow (of_match asked) c.run_match.result
@@ -167,3 +167,49 @@ returns-in-Demo-clause-cause g c = λ told v calls.
     let e = sym c.read_words.ensures.exact ∙ c.in-Ok.is ∙ ap (λ (o : Options). let r : Result Options UsageFault = Ok o in r) c.in-Demo.is in
     let P : Result Options UsageFault → Type 0 = λ read. ReadCallsFor read (bytes_of c.args.words.now) (g.S.Shelf.held c.args.shelf.now) v in
     shown_along v _ c.run_demo.result (sym (subst P e calls)) c.run_demo.ensures.cause
+
+pub returns-in-Merge-clause-cause : goal.returns-in-Merge-clause-cause
+returns-in-Merge-clause-cause g c = λ told v calls.
+    let e = sym c.read_words.ensures.exact ∙ c.in-Ok.is ∙ ap (λ (o : Options). let r : Result Options UsageFault = Ok o in r) c.in-Merge.is in
+    let P : Result Options UsageFault → Type 0 = λ read. ReadCallsFor read (bytes_of c.args.words.now) (g.S.Shelf.held c.args.shelf.now) v in
+    let Q : MergeOperands → Type 0 = λ asked. MergeCallsFor asked (g.S.Shelf.held c.args.shelf.now) v in
+    c.run_merge.ensures.cause told v (subst Q (sym c.of-in-Merge.ensures) (subst P e calls))
+
+pub returns-in-Merge-clause-finished : goal.returns-in-Merge-clause-finished
+returns-in-Merge-clause-finished g c = λ told v calls done.
+    let e = sym c.read_words.ensures.exact ∙ c.in-Ok.is ∙ ap (λ (o : Options). let r : Result Options UsageFault = Ok o in r) c.in-Merge.is in
+    let P : Result Options UsageFault → Type 0 = λ read. ReadCallsFor read (bytes_of c.args.words.now) (g.S.Shelf.held c.args.shelf.now) v in
+    let Q : MergeOperands → Type 0 = λ asked. MergeCallsFor asked (g.S.Shelf.held c.args.shelf.now) v in
+    c.run_merge.ensures.finished told v (subst Q (sym c.of-in-Merge.ensures) (subst P e calls)) done
+
+pub returns-in-Merge-clause-out : goal.returns-in-Merge-clause-out
+returns-in-Merge-clause-out g c = λ told told_out v calls.
+    let e = sym c.read_words.ensures.exact ∙ c.in-Ok.is ∙ ap (λ (o : Options). let r : Result Options UsageFault = Ok o in r) c.in-Merge.is in
+    let P : Result Options UsageFault → Type 0 = λ read. ReadCallsFor read (bytes_of c.args.words.now) (g.S.Shelf.held c.args.shelf.now) v in
+    let Q : MergeOperands → Type 0 = λ asked. MergeCallsFor asked (g.S.Shelf.held c.args.shelf.now) v in
+    c.run_merge.ensures.out told told_out v (subst Q (sym c.of-in-Merge.ensures) (subst P e calls))
+
+pub returns-in-Merge-clause-files : goal.returns-in-Merge-clause-files
+returns-in-Merge-clause-files g c = λ told v calls.
+    let e = sym c.read_words.ensures.exact ∙ c.in-Ok.is ∙ ap (λ (o : Options). let r : Result Options UsageFault = Ok o in r) c.in-Merge.is in
+    let P : Result Options UsageFault → Type 0 = λ read. ReadCallsFor read (bytes_of c.args.words.now) (g.S.Shelf.held c.args.shelf.now) v in
+    let Q : MergeOperands → Type 0 = λ asked. MergeCallsFor asked (g.S.Shelf.held c.args.shelf.now) v in
+    c.run_merge.ensures.files told v (subst Q (sym c.of-in-Merge.ensures) (subst P e calls))
+
+pub returns-in-Merge-clause-counts : goal.returns-in-Merge-clause-counts
+returns-in-Merge-clause-counts g c =
+    let e = sym c.read_words.ensures.exact ∙ c.in-Ok.is ∙ ap (λ (o : Options). let r : Result Options UsageFault = Ok o in r) c.in-Merge.is in
+    let P : Result Options UsageFault → Type 0 = λ read. RunCounts read (bytes_of c.args.words.now) (told_by g.S.Shelf.tells (g.S.Shelf.held c.args.shelf.now)) c.run_merge.result
+    (faults (g.S.Shelf.read_faults c.args.shelf.now) (g.S.Shelf.write_faults c.args.shelf.now) (g.O.Sink.faults c.args.out.now))
+    (faults (g.S.Shelf.read_faults c.run_merge.new.shelf) (g.S.Shelf.write_faults c.run_merge.new.shelf) (g.O.Sink.faults c.run_merge.new.out)) in
+    let Q : MergeOperands → Type 0 = λ asked. CountsShow (of_merge asked (option_map (names_listed asked) (told_by g.S.Shelf.tells (g.S.Shelf.held c.args.shelf.now)))) c.run_merge.result
+    (faults (g.S.Shelf.read_faults c.args.shelf.now) (g.S.Shelf.write_faults c.args.shelf.now) (g.O.Sink.faults c.args.out.now))
+    (faults (g.S.Shelf.read_faults c.run_merge.new.shelf) (g.S.Shelf.write_faults c.run_merge.new.shelf) (g.O.Sink.faults c.run_merge.new.out)) in
+    subst P (sym e) (subst Q c.of-in-Merge.ensures c.run_merge.ensures.counts)
+
+pub returns-in-Merge-clause-unfinished : goal.returns-in-Merge-clause-unfinished
+returns-in-Merge-clause-unfinished g c =
+    let e = sym c.read_words.ensures.exact ∙ c.in-Ok.is ∙ ap (λ (o : Options). let r : Result Options UsageFault = Ok o in r) c.in-Merge.is in
+    let P : Result Options UsageFault → Type 0 = λ read. RunUnfinished read (bytes_of c.args.words.now) c.run_merge.result (g.S.Shelf.unfinished c.args.shelf.now) (g.S.Shelf.unfinished c.run_merge.new.shelf) in
+    let Q : MergeOperands → Type 0 = λ asked. UnfinishedStands (of_merge asked None) c.run_merge.result (g.S.Shelf.unfinished c.args.shelf.now) (g.S.Shelf.unfinished c.run_merge.new.shelf) in
+    subst P (sym e) (subst Q c.of-in-Merge.ensures (c.run_merge.ensures.unfinished None))

@@ -1,4 +1,4 @@
-use Rattle.sgm_app.proofs.Completing.{distinct_verdict, completes_run, no_file_fault, usage_by}
+use Rattle.sgm_app.proofs.Completing.{distinct_verdict, completes_run, is_told, no_file_fault, usage_by}
 use Rattle.sgm_app.proofs.Holding.{stand}
 use Rattle.sgm_app.proofs.top.run.Goals as goal
 
@@ -8,12 +8,12 @@ returns-clause-files g c = λ told v calls.
 
 pub returns-clause-complete : goal.returns-clause-complete
 returns-clause-complete g c = λ told v calls.
-    completes_run _ _ _ _ v c.carry_out-outcome.result _ _ calls (c.carry_out-outcome.ensures.cause told v calls)
+    completes_run _ _ _ (g.S.Shelf.held c.args.shelf.now) _ v c.carry_out-outcome.result _ _ (is_told _ _ told) calls (c.carry_out-outcome.ensures.cause told v calls)
     (stand c.carry_out-outcome.result v _ _ (distinct_verdict _ _ _ v calls) (c.carry_out-outcome.ensures.files told v calls))
     c.carry_out-outcome.ensures.counts
 
 pub returns-clause-sure : goal.returns-clause-sure
-returns-clause-sure g c = λ reads writes. no_file_fault _ _ c.carry_out-outcome.result _ _ reads writes c.carry_out-outcome.ensures.counts
+returns-clause-sure g c = λ reads writes. no_file_fault _ _ _ c.carry_out-outcome.result _ _ reads writes c.carry_out-outcome.ensures.counts
 
 pub returns-clause-cause : goal.returns-clause-cause
 returns-clause-cause g c = c.carry_out-outcome.ensures.cause
@@ -37,7 +37,7 @@ pub returns-clause-counts : goal.returns-clause-counts
 returns-clause-counts g c = c.carry_out-outcome.ensures.counts
 
 pub returns-clause-usage : goal.returns-clause-usage
-returns-clause-usage g c = usage_by _ _ c.carry_out-outcome.result _ _ c.carry_out-outcome.ensures.counts
+returns-clause-usage g c = usage_by _ _ _ c.carry_out-outcome.result _ _ c.carry_out-outcome.ensures.counts
 
 pub returns-clause-line : goal.returns-clause-line
 returns-clause-line g c = c.write_fault.ensures.line

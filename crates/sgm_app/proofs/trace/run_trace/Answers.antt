@@ -1,4 +1,4 @@
-use Rattle.std.proofs.Common.{◌∙◌, sym, ap, refl, [], List, ℕ}
+use Rattle.std.proofs.Common.{arith, ◌∙◌, sym, ap, refl, [], List, ℕ}
 use Rattle.sgm_words.specs.Operands.{of_trace}
 use Rattle.sgm_app.specs.Certificates.{certificate_for}
 use Rattle.sgm_app.specs.Verdict.{files, calib_of}
@@ -14,7 +14,7 @@ use Rattle.sgm_app.proofs.trace.run_trace.Goals as goal
 pub returns-in-Err-clause-cause : goal.returns-in-Err-clause-cause
 returns-in-Err-clause-cause g c = λ told v calls.
     let asked = c.args.operands.now in let r = calls.readings in
-    rw c.outcome.ensures (shown_along v _ _ (sym calls.is) (c.in-Err.ensures.verdict told _ (none_traced 3 c.args.dir c.args.x c.args.y c.args.d r.left r.right (calib_of asked r))))
+    rw c.outcome.ensures (shown_along v _ _ (sym calls.is) (c.in-Err.ensures.verdict told _ (none_traced 4 (omega arith) c.args.dir c.args.x c.args.y c.args.d r.left r.right (calib_of asked r))))
 
 pub returns-in-Ok-certificate-clause-cause : goal.returns-in-Ok-certificate-clause-cause
 returns-in-Ok-certificate-clause-cause g c = λ told v calls.
@@ -23,7 +23,7 @@ returns-in-Ok-certificate-clause-cause g c = λ told v calls.
     shown_along v (files [] c.deref.result.now) c.deliver_summary.result
     (sym (ap (λ (s : List ℕ). files [] s) c.deref.ensures.value
     ∙ settled _ v (certificate_for r.left r.right (calib_of asked r) c.args.dir c.args.x c.args.y c.args.d) (λ t. files [] t) c.in-Ok-certificate.text.items calls.is
-    (c.in-Ok.ensures.verdict told _ (none_traced 3 c.args.dir c.args.x c.args.y c.args.d r.left r.right (calib_of asked r)))
+    (c.in-Ok.ensures.verdict told _ (none_traced 4 (omega arith) c.args.dir c.args.x c.args.y c.args.d r.left r.right (calib_of asked r)))
     (c.in-Ok-certificate.ensures r.left r.right (calib_of asked r)
     (image_reads _ _ _ r.left at.left c.left.ensures are.left) (image_reads _ _ _ r.right at.right c.right.ensures are.right)
     (calib_reads asked _ r c.in-Ok.inputs _ at are c.calib.ensures))))
@@ -36,7 +36,7 @@ returns-in-Ok-certificate-clause-out g c = λ told told_out v calls.
     out_along c.deliver_summary.result v (files [] c.deref.result.now) _ _
     (ap (λ (s : List ℕ). files [] s) c.deref.ensures.value
     ∙ settled _ v (certificate_for r.left r.right (calib_of asked r) c.args.dir c.args.x c.args.y c.args.d) (λ t. files [] t) c.in-Ok-certificate.text.items calls.is
-    (c.in-Ok.ensures.verdict told _ (none_traced 3 c.args.dir c.args.x c.args.y c.args.d r.left r.right (calib_of asked r)))
+    (c.in-Ok.ensures.verdict told _ (none_traced 4 (omega arith) c.args.dir c.args.x c.args.y c.args.d r.left r.right (calib_of asked r)))
     (c.in-Ok-certificate.ensures r.left r.right (calib_of asked r)
     (image_reads _ _ _ r.left at.left c.left.ensures are.left) (image_reads _ _ _ r.right at.right c.right.ensures are.right)
     (calib_reads asked _ r c.in-Ok.inputs _ at are c.calib.ensures)))
@@ -51,7 +51,7 @@ pub returns-clause-cause : goal.returns-clause-cause
 returns-clause-cause g c = λ told v calls.
     let asked = c.args.operands.now in let r = calls.readings in let are = calls.are_readings in
     let at = c.in-Ok.ensures.at_hand told in
-    rw c.outcome-in-Err-certificate.ensures (shown_along v _ _ (sym calls.is ∙ c.in-Ok.ensures.verdict told _ (none_traced 3 c.args.dir c.args.x c.args.y c.args.d r.left r.right (calib_of asked r)))
+    rw c.outcome-in-Err-certificate.ensures (shown_along v _ _ (sym calls.is ∙ c.in-Ok.ensures.verdict told _ (none_traced 4 (omega arith) c.args.dir c.args.x c.args.y c.args.d r.left r.right (calib_of asked r)))
     (stop_shown (certificate_for r.left r.right (calib_of asked r) c.args.dir c.args.x c.args.y c.args.d) (λ t. files [] t) c.in-Err-certificate.error
     (c.in-Err-certificate.ensures r.left r.right (calib_of asked r)
     (image_reads _ _ _ r.left at.left c.left.ensures are.left) (image_reads _ _ _ r.right at.right c.right.ensures are.right)

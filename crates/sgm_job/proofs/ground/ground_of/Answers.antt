@@ -4,8 +4,8 @@ use Rattle.sgm_job.specs.Heights.{points_of}
 use Rattle.sgm_job.proofs.Grounds.{gridded_spec, regions_inside}
 use Rattle.sgm_job.proofs.ground.ground_of.Goals as goal
 
-pub ground_over-requires-clause-regions : goal.ground_over-requires-clause-regions
-ground_over-requires-clause-regions c =
+pub tally_ground-requires-clause-regions : goal.tally_ground-requires-clause-regions
+tally_ground-requires-clause-regions g c =
     let points = points_of c.in-Some-Some.station c.span.result.first c.args.map.now in
     regions_inside c.args.calib.now c.in-Some-Some.spec c.in_ok-measured.measured.spec c.regions.result c.grid.ensures.kept
     (sym c.in-Some-Some.is-1 ∙ c.grid.ensures.value) c.regions.ensures.value

@@ -1,16 +1,16 @@
-use Rattle.std.proofs.Common.{◌≡◌, Some, ℕ, ap, sym, ◌∙◌, option_map, map}
+use Rattle.std.proofs.Common.{◌≡◌, ℕ, ap, sym, ◌∙◌, option_map, map}
 use Rattle.sgm_grid.specs.Bridges.{bridged}
 use Rattle.sgm_grid.specs.Cells.{Cells}
 use Rattle.sgm_grid.proofs.BridgeLaws.{without_bridges}
 use Rattle.sgm_report.specs.Tallies.{tally_of}
 use Rattle.sgm_job.proofs.Grounds.{bridged_spec, regions_of_place}
-use Rattle.sgm_job.proofs.ground.ground_over.Goals as goal
+use Rattle.sgm_job.proofs.ground.tally_ground.Goals as goal
 
 pub returns-then-most-eq0-clause-grid : goal.returns-then-most-eq0-clause-grid
 returns-then-most-eq0-clause-grid c =
     let measured = c.args.measured in
     let none : c.args.most ≡ 0 = c.if-most-eq0.true in
-    ap (λ (g : Cells). Some g) (sym (ap (λ (n : ℕ). bridged n measured) none ∙ without_bridges measured c.spec-spec.ensures.kept))
+    sym (ap (λ (n : ℕ). bridged n measured) none ∙ without_bridges measured c.spec-spec.ensures.kept)
 
 pub returns-then-most-eq0-clause-tallies : goal.returns-then-most-eq0-clause-tallies
 returns-then-most-eq0-clause-tallies c =

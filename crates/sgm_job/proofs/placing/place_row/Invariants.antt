@@ -1,0 +1,13 @@
+use Rattle.std.proofs.Common.{◌≡◌, ◌≤◌, None, get_or, length}
+use Rattle.std.specs.Prelude.{All, option_and_then}
+use Rattle.sgm_grid.specs.Placing.{IsPlaced}
+use Rattle.sgm_job.specs.Heights.{point_at}
+use Rattle.sgm_job.proofs.Places.{places_below}
+use Rattle.sgm_job.proofs.placing.place_row.Given as goal
+
+abbrev pub invariant-loop-x : goal.invariant-loop-x
+invariant-loop-x l = record {
+  exact : l.places.items ≡ places_below l.spec (λ x. option_and_then (point_at l.station l.fn.span.first x l.y) (get_or l.row x None)) l.x;
+  within : All (IsPlaced l.spec) l.places.items;
+  few : length l.places.items ≤ l.x;
+}
