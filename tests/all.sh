@@ -2,14 +2,15 @@
 # Runs all tests that stand outside the gate (.ci/run), one after the other, and prints a line for each: whether it
 # passed, its seconds and its last line. The last line of all is `N passed, M failed, K skipped`.
 #
-#     tests/all.sh [--install] [NAME..]
+#     tests/all.sh [--install] [--build] [NAME..]
 #     tests/all.sh --list
 #
 # With NAMEs only these run; --list prints them all. A test whose tools aren't installed is skipped, and the line
 # says which; --install installs them first, by apt-get, as root, but for those of ssh and Slurm, whose packages start
 # servers. The programs are those that the variables SGM and SGM_SERIES name (./sgm and ./sgm_series of this repository
-# without them), which are built first where they aren't. Once they are, all tests together take about half an hour, half
-# of it compare, package and definitions. The last two ask the toolchain for what is proved in this checkout, and take
+# without them). Where those of this repository were never built, the tests that need them are skipped, and the line says
+# so; --build builds them first, which takes many minutes. No other test starts them. With them all tests together take
+# about half an hour, half of it compare, package and definitions. The last two ask the toolchain for what is proved in this checkout, and take
 # many minutes more where nothing is. Of the edits that stand outside the gate it asks only whether each can be applied;
 # tests/edits.py tries them, for over an hour of processor time.
 #
@@ -18,9 +19,9 @@
 set -u
 here=$(cd "$(dirname "$0")" && pwd)
 top=$(cd "$here/.." && pwd)
-SGM=$(realpath -m -- "${SGM:-$top/sgm}")
-SGM_SERIES=$(realpath -m -- "${SGM_SERIES:-$top/sgm_series}")
-export SGM SGM_SERIES
+# Only tests that need the programs are told of them, below: a tool that finds one named would start it.
+programs=("SGM=$(realpath -m -- "${SGM:-$top/sgm}")" "SGM_SERIES=$(realpath -m -- "${SGM_SERIES:-$top/sgm_series}")")
+unset SGM SGM_SERIES
 # The ssh server and Slurm's daemons stand where only root's PATH leads.
 PATH=$PATH:/usr/sbin
 
@@ -39,6 +40,7 @@ reference_cells     -           tests/test_reference_cells.py
 reference_regions   -           tests/test_reference_regions.py
 reference_pose      -           tests/test_reference_pose.py
 reference_lists     -           tests/test_reference_lists.py
+reference_merge     -           tests/test_reference_merge.py
 reference_series    -           tests/test_reference_series.py
 quick_reference     pictures    tests/test_quick_reference.py
 stored_runs         -           tests/stored_runs.py
@@ -48,13 +50,14 @@ fine_cases          -           tests/fine_cases.py --check
 cells_cases         -           tests/cells_cases.py --check
 regions_cases       -           tests/regions_cases.py --check
 pose_cases          -           tests/pose_cases.py --check
+merge_cases         -           tests/merge_cases.py --check
 large_pair          -           tests/large_pair.py
 edits_apply         -           tests/edits.py --apply
 cubic_metres        pictures    tools/test_cubic_metres.py
 files               pictures    tools/test_files.py
 regions             pictures    tools/test_regions.py
-surveys             pictures    env -u SGM tools/test_surveys.py
-installed           pictures,pip    env -u SGM tools/test_installed.py
+surveys             pictures    tools/test_surveys.py
+installed           pictures,pip    tools/test_installed.py
 types               pictures,mypy   tests/types.sh
 slope_heap          pictures    tests/slope_heap.py
 stretch             pictures    tools/test_stretch.py
@@ -62,9 +65,12 @@ heights_picture     pictures    tools/test_heights_picture.py
 site_pose           pictures    tools/test_site_pose.py
 export_points       pictures    tools/test_export_points.py
 export_grid         pictures,gdal   tools/test_export_grid.py
+exports_qgis        pictures,gdal,qgis  tests/exports.py Qgis
+exports_meshlab     pictures,gdal,meshlab   tests/exports.py Meshlab
 photo_to_pgm        pictures    tools/test_photo_to_pgm.py
 opencv_calibration  opencv      tools/test_opencv_calibration.py
 calibrate_pair      opencv      tools/test_calibrate_pair.py
+board_volumes       opencv      tests/board_volumes.py
 middlebury          -           tools/test_middlebury_calibration.py
 accuracy            opencv      bench/test_accuracy.py
 survey_page_files   pictures    tools/test_survey_page.py
@@ -72,6 +78,7 @@ change_volumes      pictures    tools/test_change_volumes.py
 check_trace         pictures    tools/test_check_trace.py
 explain_pixel       pictures    tools/test_explain_pixel.py
 series_left         -           tools/test_series_left.py
+merge_check         pictures    tools/test_merge_check.py
 survey_page         browser     tests/survey_page.py
 ends                program     tests/ends.sh
 series_ends         series      tests/series_ends.sh
@@ -89,8 +96,9 @@ certificates        program,pictures tests/certificates.py
 surveys_program     program,pictures tools/test_surveys.py
 later_heap          program,pictures tests/later_heap.py
 moved_heap          program,opencv  tests/moved_heap.py
+quarry              program,series,pictures,gdal tests/quarry.py
 guide               program,opencv,gdal tests/guide.py
-many                program,series,parallel tests/many.sh
+many                program,series,parallel,pictures tests/many.sh
 many_ssh            program,parallel,ssh tests/many_ssh.sh
 many_slurm          program,series,slurm tests/many_slurm.sh
 compare             program     tests/compare.sh
@@ -139,6 +147,11 @@ need() {
             printf "OpenCV for Python\tpython3-opencv python3-numpy python3-pil\n"
         return
         ;;
+    qgis)
+        "$(python_with qgis)" -c "import qgis.core" 2>/dev/null || printf "QGIS for Python\tpython3-qgis\n"
+        return
+        ;;
+    meshlab) commands="meshlabserver xvfb-run" packages="meshlab xvfb xauth" ;;
     browser)
         commands="chromium chromedriver" packages="chromium chromium-driver python3-selenium python3-numpy python3-pil"
         if ! "$(python_with selenium)" -c "import selenium, numpy, PIL" 2>/dev/null; then
@@ -181,14 +194,19 @@ need() {
     done
 }
 
-# begin_program PATH NAME CRATE LINE: starts a program, and says in `missing` why the tests that need it can't run. It
-# is built here, once, so that its time is no test's. Where it should run and doesn't, that is a failure. NAME is the
-# launcher of this repository that starts CRATE.
+# begin_program PATH NAME CRATE LINE: starts a program, and says in `missing` why the tests that need it can't run. With
+# --build it is built here, once, so that its time is no test's. Where it should run and doesn't, that is a failure. NAME
+# is the launcher of this repository that starts CRATE.
 begin_program() {
     missing=
-    if [ "$1" = "$top/$2" ] && [ ! -x "$top/crates/$3/out/$3" ] && ! command -v rt >/dev/null; then
-        missing="there is no program $2: rt isn't on the PATH, and ${2^^} names none"
-        return
+    if [ "$1" = "$top/$2" ] && [ ! -x "$top/crates/$3/out/$3" ]; then
+        if ! command -v rt >/dev/null; then
+            missing="there is no program $2: rt isn't on the PATH, and ${2^^} names none"
+            return
+        elif [ $do_build = no ]; then
+            missing="the program $2 isn't built, and ${2^^} names none: --build builds it"
+            return
+        fi
     fi
     # Without words it ends with a line and the status 2.
     "$1" </dev/null >"$work/begin" 2> >(grep -vx "$4" >&2)
@@ -260,6 +278,9 @@ run() {
     case $2,${words[0]} in
     opencv,*) words=("$(python_with cv2)" "${words[@]}") ;;
     esac
+    case ,$2, in
+    *,program,* | *,series,*) words=(env "${programs[@]}" "${words[@]}") ;;
+    esac
     begin=$SECONDS
     if "${words[@]}" >"$work/$name.txt" 2>&1 </dev/null; then
         passed=$((passed + 1))
@@ -274,7 +295,7 @@ run() {
     fi
 }
 
-names=() do_install=no
+names=() do_install=no do_build=no
 for word; do
     case $word in
     -h | --help)
@@ -287,6 +308,7 @@ for word; do
         exit 0
         ;;
     --install) do_install=yes ;;
+    --build) do_build=yes ;;
     -*) wrong "unknown option $word" ;;
     *)
         table | grep -q "^$word " || wrong "no test is named $word"
@@ -303,11 +325,11 @@ work=$(mktemp -d "${TMPDIR:-/tmp}/sgm-all.XXXXXX") || exit 1
 trap 'rmdir "$work" 2>/dev/null' EXIT
 passed=0 failed=0 skipped=0 to_install=
 if wanted program; then
-    begin_program "$SGM" sgm sgm_cli 'sgm: no command'
+    begin_program "${programs[0]#SGM=}" sgm sgm_cli 'sgm: no command'
     no_program=$missing
 fi
 if wanted series; then
-    begin_program "$SGM_SERIES" sgm_series sgm_series_cli 'sgm_series: no list'
+    begin_program "${programs[1]#SGM_SERIES=}" sgm_series sgm_series_cli 'sgm_series: no list'
     no_series=$missing
 fi
 while read -r name needs command <&3; do

@@ -58,6 +58,11 @@ runs() {
     exit 1
 }
 
+# has_merge: whether the program has the command `merge`, as the reference's inputs say.
+has_merge() {
+    python3 -c 'import sys; sys.path.insert(0, sys.argv[1]); import reference_inputs as it; sys.exit(not it.HAS_MERGE)' "$here"
+}
+
 # Opens a pipe that nobody reads any more, at the number in pipe.
 unread_pipe() {
     exec {pipe}> >(:)

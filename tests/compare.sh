@@ -1,7 +1,7 @@
 #!/usr/bin/env bash
 # Runs the program and the reference on small pairs with many calibrations, on certificates of their pixels, on
-# the change between two grids, on bad input and on the example with the heap, each in a folder of its own, and
-# compares every byte: the files made, both streams and the status. Where a match names no strips and workers, the
+# the change between two grids, on merges, on bad input and on the example with the heap, each in a folder of its own,
+# and compares every byte: the files made, both streams and the status. Where a match names no strips and workers, the
 # program also runs with some numbers of them, which may change nothing. The reference's files for the heap are also
 # compared with those that the example holds. The program is the one that the variable SGM names (./sgm of this
 # repository without it). Takes minutes.

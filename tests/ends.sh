@@ -68,6 +68,13 @@ begin_change() {
     cp "$work/e.asc" "$work/l.asc" .
 }
 
+# The same with the words of a merge of these two grids.
+begin_merge() {
+    begin_change "$1"
+    words=(merge m.txt c.json o)
+    printf 'e.asc\nl.asc\n' >m.txt
+}
+
 # ends STATUS LINE SUMMARY [OUTPUT..]: runs the words and compares. `-` as LINE or SUMMARY asks for
 # nothing there. What the variables out and err name takes the place of the two streams: a closed stream
 # where it is `closed`, a pipe that nobody reads where it is `unread`. What the variable begun names is an
@@ -260,6 +267,107 @@ mkdir "$changed"
 printf 'both,come,gone,empty,fill,cut\n8,1,1,2,1000000000,0\n' >"$changed/o.csv"
 both=(o.asc o.csv) compared='compared 8 of 12'
 
+# What the merge of both writes by the calibration of the example, which keeps the highest: by hand, too.
+merged=$work/merged
+mkdir "$merged"
+{
+    head -n 6 "$whole/o.asc"
+    printf '%s\n' '51000 50000 50000 50000' '50000 50000 50000 -2147483648' '50000 50000 50000 -2147483648'
+} >"$merged/o.asc"
+cat >"$merged/o.csv" <<'CSV'
+region,cells,empty,fill,cut,lowest,highest
+all,10,2,101000000000,0,50000,51000
+east,1,0,0,10000000000,50000,50000
+CSV
+joined='merged 10 of 12'
+
+# merge_ends: the ends of a merge.
+merge_ends() {
+    local whole=$merged file count output stream
+    begin_merge "a merge"
+    ends 0 - "$joined" "${both[@]}"
+    begin_merge "a merge over older outputs"
+    echo older >o.asc
+    echo older >o.csv
+    ends 0 - "$joined" "${both[@]}"
+    begin_merge "a list with white space, and an entry that is named twice"
+    printf ' \n\te.asc\r\n\nl.asc \n./e.asc' >m.txt
+    ends 0 - "$joined" "${both[@]}"
+    begin_merge "a merge without regions"
+    echo "{$plain,$camera,$grid}" >c.json
+    ends 0 - "$joined" o.asc
+    begin_merge "a merge without a grid"
+    echo "{$plain,$camera}" >c.json
+    ends 3 'sgm: calibration: grid is missing' -
+    begin_merge "a merge by the plain settings"
+    words[2]=-
+    ends 3 'sgm: calibration: grid is missing' -
+    begin_merge "a list without entries"
+    printf '\n \t\n' >m.txt
+    ends 3 'sgm: list: no entries' -
+    begin_merge "a list of two words"
+    echo e.asc l.asc >>m.txt
+    ends 3 'sgm: list: line 3 does not have one word' -
+    begin_merge "a list that is no text"
+    printf '\xff' >>m.txt
+    ends 3 'sgm: list: not text' -
+    begin_merge "a list of too many entries"
+    for ((count = 0; count < 1001; count++)); do echo e.asc; done >m.txt
+    ends 3 'sgm: list: too many entries' -
+    begin_merge "an entry that is an output"
+    echo o.csv >>m.txt
+    ends 3 'sgm: list: grid 2 is also an output' -
+    begin_merge "a list that is too long"
+    truncate -s 1048577 m.txt
+    ends 3 'sgm: list is too long' -
+    begin_merge "an entry that is too long"
+    truncate -s 268435457 l.asc
+    ends 3 'sgm: grid 1 is too long' -
+    begin_merge "an entry beside the cells"
+    sed -i 's/yllcorner -2000/yllcorner -1999/' l.asc
+    ends 3 "sgm: grid 1: not on the calibration's cells" -
+    begin_merge "an entry with a height too few, before one that is absent"
+    sed -i '$ s/ [^ ]*$//' e.asc
+    rm l.asc
+    ends 3 'sgm: grid 0: 11 heights, 12 needed' -
+    begin_merge "an output that is also the list"
+    words[1]=o.asc
+    ends 2 'sgm: word 1 is also an output' -
+    begin_merge "an option of a merge"
+    words+=(workers=2)
+    ends 2 'sgm: word 4 is not an option' -
+    begin_merge "a merge in no folder"
+    words[3]=none/o
+    ends 5 'sgm: cannot write heights' -
+    count=0
+    for output in heights report; do
+        file=${both[count]}
+        begin_merge "a merge with a folder as $output"
+        mkdir "$file"
+        ends 5 "sgm: cannot write $output" - "${both[@]:0:count}"
+        begin_merge "a merge with a full device for $output"
+        ln -s /dev/full "$file"
+        ends 5 "sgm: cannot write $output" - "${both[@]:0:count}"
+        count=$((count + 1))
+    done
+    for stream in closed /dev/full unread; do
+        begin_merge "a merge to standard output $stream"
+        out=$stream ends 5 'sgm: cannot write summary' - "${both[@]}"
+    done
+}
+
+# merge_disks: those on full disks, of which the inputs take six pages and each output one.
+merge_disks() {
+    local whole=$merged count=0 output
+    for output in heights report; do
+        pages=$((6 + count)) begin_merge "a full disk for $output of a merge"
+        begun=${both[count]}:0 ends 5 "sgm: cannot write $output" - "${both[@]:0:count}"
+        count=$((count + 1))
+    done
+    pages=8 begin_merge "a disk with room for a merge"
+    ends 0 - "$joined" "${both[@]}"
+}
+
 need_program
 
 begin "done"
@@ -309,7 +417,11 @@ begin "a calibration that is too long"
 truncate -s 16777217 c.json
 ends 3 'sgm: calibration is too long' -
 
-for input in {begin,begin_trace}:{left:l.pgm,right:r.pgm,calibration:c.json} begin_change:{earlier:e.asc,later:l.asc}; do
+named=(begin{,_trace}:{left:l.pgm,right:r.pgm,calibration:c.json} begin_change:{earlier:e.asc,later:l.asc})
+if has_merge; then
+    named+=(begin_merge:{list:m.txt,calibration:c.json,'grid 0':e.asc,'grid 1':l.asc})
+fi
+for input in "${named[@]}"; do
     IFS=: read -r start what file <<<"$input"
     "$start" "$start: no $what"
     rm "$file"
@@ -423,6 +535,8 @@ for output in difference volumes; do
     count=$((count + 1))
 done
 whole=$work/whole
+
+if has_merge; then merge_ends; fi
 
 # Warps that leave every pixel where it is, in each of their kinds.
 identity='{"kind":"identity"}'
@@ -567,6 +681,7 @@ if mount -t tmpfs -o size=4096 none "$work/disk" 2>"$work/mount"; then
     done
     pages=7 begin_change "a disk with room for a change"
     ends 0 - "$compared" "${both[@]}"
+    if has_merge; then merge_disks; fi
     # A picture of 100 x 100 pixels, each as the other: 3 pages for each input, and 5 for OUT.pgm. Each pixel
     # has the index 0.
     whole=$work/large

@@ -4,7 +4,8 @@
     tests/interrupted.py [--runs N]
 
 The match is the worked example's with a grid of 2000 x 2000 cells, whose OUT.asc has 48 megabytes; the change is that
-between two grids of 1500 x 1500 cells, whose OUT.asc has 25. Half of the runs begin with no outputs and half with older
+between two grids of 1500 x 1500 cells, whose OUT.asc has 25; and the merge is that of both over the grid of the match,
+once the program has it (HAS_MERGE of reference_inputs.py). Half of the runs begin with no outputs and half with older
 ones; half are interrupted at a moment of their time, and half as soon as OUT.asc has begun to change. Afterwards each
 output has to be as it was, or to hold the beginning of the text that an undisturbed run writes, perhaps all of it; only
 the last one that changed may be short of its end; the inputs are as they were; standard error is empty; and the summary
@@ -22,8 +23,11 @@ import sys
 import tempfile
 import time
 
+import reference_inputs
+
 HERE = os.path.dirname(os.path.abspath(__file__))
 TOP = os.path.join(HERE, "..")
+EXAMPLE = os.path.join(TOP, "crates", "sgm_cli", "data")
 SGM = os.path.realpath(os.environ.get("SGM", os.path.join(TOP, "sgm")))
 OLDER = b"what stood here before\n"
 # The output whose first change is waited for.
@@ -32,22 +36,33 @@ WATCHED = "o.asc"
 PATIENCE = 60
 
 
+def write_calibration(folder):
+    """The worked example's, with a grid of 2000 x 2000 cells."""
+    with open(os.path.join(EXAMPLE, "c.json"), encoding="utf-8") as file:
+        calibration = json.load(file)
+    calibration["grid"].update(cols=2000, rows=2000)
+    with open(os.path.join(folder, "c.json"), "w", encoding="utf-8") as file:
+        json.dump(calibration, file)
+
+
+def write_grids(folder, west=0, south=0, cell=1):
+    head = f"ncols 1500 nrows 1500 xllcorner {west} yllcorner {south} cellsize {cell} nodata_value -2147483648"
+    for name, height in zip(("e.asc", "l.asc"), ("0", "2000000000")):
+        with open(os.path.join(folder, name), "w", encoding="utf-8") as file:
+            file.write(head + f" {height}" * 1500 * 1500)
+
+
 class Match:
     inputs = ["l.pgm", "r.pgm", "c.json"]
     outputs = ["o.pgm", "o.asc", "o.csv"]
     words = ["match", *inputs, "o", "strips=3", "workers=2"]
     summary = b"valid 15 of 15\n"
 
-    @classmethod
-    def write_inputs(cls, folder):
-        for name in cls.inputs:
-            shutil.copyfile(os.path.join(TOP, "crates", "sgm_cli", "data", name), os.path.join(folder, name))
-        path = os.path.join(folder, "c.json")
-        with open(path, encoding="utf-8") as file:
-            calibration = json.load(file)
-        calibration["grid"].update(cols=2000, rows=2000)
-        with open(path, "w", encoding="utf-8") as file:
-            json.dump(calibration, file)
+    @staticmethod
+    def write_inputs(folder):
+        for name in ("l.pgm", "r.pgm"):
+            shutil.copyfile(os.path.join(EXAMPLE, name), os.path.join(folder, name))
+        write_calibration(folder)
 
 
 class Change:
@@ -56,12 +71,23 @@ class Change:
     words = ["change", *inputs, "o"]
     summary = b"compared 2250000 of 2250000\n"
 
-    @classmethod
-    def write_inputs(cls, folder):
-        head = "ncols 1500 nrows 1500 xllcorner 0 yllcorner 0 cellsize 1 nodata_value -2147483648"
-        for name, height in zip(cls.inputs, ("0", "2000000000")):
-            with open(os.path.join(folder, name), "w", encoding="utf-8") as file:
-                file.write(head + f" {height}" * 1500 * 1500)
+    @staticmethod
+    def write_inputs(folder):
+        write_grids(folder)
+
+
+class Merge:
+    inputs = ["m.txt", "c.json", "e.asc", "l.asc"]
+    outputs = ["o.asc", "o.csv"]
+    words = ["merge", "m.txt", "c.json", "o"]
+    summary = b"merged 2250000 of 4000000\n"
+
+    @staticmethod
+    def write_inputs(folder):
+        write_calibration(folder)
+        write_grids(folder, west=2000, south=-2000, cell=1000)
+        with open(os.path.join(folder, "m.txt"), "w", encoding="utf-8") as file:
+            file.write("e.asc\nl.asc\n")
 
 
 def begin(kind, folder, has_older):
@@ -192,7 +218,8 @@ def main():
     parser.add_argument("--runs", type=natural, default=120, metavar="N", help="how many runs of each command (120)")
     words = parser.parse_args()
     try:
-        texts, wrong = zip(*(try_runs(kind, words.runs) for kind in (Match, Change)))
+        kinds = [Match, Change] + ([Merge] if reference_inputs.HAS_MERGE else [])
+        texts, wrong = zip(*(try_runs(kind, words.runs) for kind in kinds))
         print(f"interrupted: {'; '.join(texts)}; {sum(wrong)} wrong")
         return 1 if any(wrong) else 0
     except (OSError, subprocess.TimeoutExpired) as error:

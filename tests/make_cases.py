@@ -6,8 +6,8 @@
 A case has the file `words`, one word a line, and the files that the words name. The pictures are
 small and drawn from fixed numbers, so the cases are the same each time. They go over sizes, spans,
 windows, penalties, all versions, options, peaks and filling, warps, cameras, poses, grids, regions, and
-the refusals; over certificates in all directions; and over the change between two grids. The last case is
-the example with the heap.
+the refusals; over certificates in all directions; over the change between two grids; and over merges, once
+the program has them (HAS_MERGE of reference_inputs.py). The last case is the example with the heap.
 """
 
 import argparse
@@ -16,6 +16,7 @@ import os
 import sys
 
 import calibration_cases
+import merge_cases
 import random_inputs
 import reference_inputs
 from reference_inputs import DIRECTIONS
@@ -140,6 +141,8 @@ def cases():
     yield from calibrations()
     yield from certificates()
     yield from changes()
+    if reference_inputs.HAS_MERGE:
+        yield from merges()
     yield heap()
 
 
@@ -542,6 +545,15 @@ def grid_faults(text):
         "no-folder": "change e.asc e.asc none/o",
     }.items():
         yield "change-wrong-" + name, {"words": words, "e.asc": text}
+
+
+def merges():
+    """Each fourth of those of merge_cases.py that a folder can hold; the stored runs have them all."""
+    for number, case in enumerate(merge_cases.cases()):
+        words, files = case.words.split(" "), case.files()
+        is_large = sum(map(len, files.values())) > 2**25
+        if number % 4 == 0 and not case.devices and "" not in words and not is_large:
+            yield f"merge-{number}", {"words": case.words, **files}
 
 
 def heap():

@@ -15,7 +15,7 @@ need_program
 [ ! -x "$SGM_SERIES" ] || need_series
 make_survey
 match_singly
-is "the page's blocks of commands" "$(blocks 1) $(blocks 2) $(blocks 3) $(blocks 4)" "1 2 1 1"
+is "the page's blocks of commands" "$(blocks 1) $(blocks 2) $(blocks 3) $(blocks 4) $(blocks 7)" "1 2 1 1 2"
 good=()
 for number in "${all[@]}"; do is_refused "$number" || good+=("$number"); done
 left_are "before anything" "${all[@]}"
@@ -131,6 +131,24 @@ for file in 04_left 04_right 09_left 09_right; do cp "$work/mended" "$survey/$fi
 typed 3 1
 is "the status once all is mended" "$status" 0
 left_are "all is mended"
+
+# All grids in one. Ten entries have a calibration with a grid.
+if has_merge; then
+    printf '%s\n' "$survey"/*.asc >"$work/grids"
+    is "how many grids there are" "$(wc -l <"$work/grids")" 9
+    merged=$("$SGM" merge "$work/grids" "$survey/calibration.json" "$work/merged")
+    typed 7 1
+    is "the merge" "$status $out$err" "0 $merged"
+    is "its list" "$(sort "$survey/heights")" "$(sort "$work/grids")"
+    for ending in asc csv; do is "its OUT.$ending" "$(cat "$survey/site.$ending")" "$(cat "$work/merged.$ending")"; done
+    typed 7 2
+    is "how the check ends" "$status $err" "0 merge_check: 0 of 9 grids are off"
+    rm "$survey"/site.* "$survey/heights" "$survey/check.png" "$survey/00.csv"
+    typed 7 1
+    is "a merge before the series is whole" "$status $out$err" "3 series_left: 1 of 12 entries are left"
+    is "whether it was begun" "$(ls "$survey"/site.* 2>/dev/null)" ""
+    typed 3 1
+fi
 is "the absent input's line" "$(rm "$survey/03.pgm" "$survey/03_left.pgm"; typed 3 1; tail -n 1 <<<"$status $err")" \
     "sgm_series: entry 0: cannot read left"
 end

@@ -1,7 +1,7 @@
 #!/usr/bin/env bash
-# Runs the command of docs/MANY.md for Slurm, as it stands there, over the survey of many.sh: an array of tasks, one of
-# which is taken back and begun again while it waits for an input, as when its node dies, and the same command again after
-# outputs were lost. The cluster is one node, this machine, with daemons, keys and folders of this test.
+# Runs the commands of docs/MANY.md for Slurm, as they stand there, over the survey of many.sh: an array of tasks, one of
+# which is taken back and begun again while it waits for an input, as when its node dies, the same command again after
+# outputs were lost, and a merge behind an array, where a task is begun again and where one ends otherwise. The cluster is one node, this machine, with daemons, keys and folders of this test.
 #
 #     tests/many_slurm.sh
 #
@@ -91,7 +91,7 @@ done
 
 make_survey
 match_singly
-is "the page's blocks of commands" "$(blocks 6)" 1
+is "the page's blocks of commands" "$(blocks 6)" 2
 
 # submit: runs the page's command, which says the job's number.
 submit() {
@@ -145,10 +145,52 @@ is "task 1 again" "$(task 1 | head -n 1)" "$(summaries 0)"
 is "task 3 again, which had all" "$(task 3)" ""
 is "task 4 again" "$(task 4)" "$(summaries 11)"
 
+# merge_behind: runs the page's commands for an array and a merge behind it, whose numbers are `job` and `merge`.
+merge_behind() {
+    clear
+    rm -f "$survey"/site.*
+    typed 6 2
+    merge=${out##* } job=$((${out##* } - 1))
+    is "what sbatch says of a merge" "$status $out$err" "0 Submitted batch job $merge"
+}
+# shellcheck disable=SC2317
+waits_for_array() { [ "$(squeue -h -j "$merge" -o '%t %r')" = "PD Dependency" ]; }
+# shellcheck disable=SC2317
+has_merged() { [ -z "$(squeue -h -j "$merge" 2>/dev/null)" ]; }
+
+if has_merge; then
+    # Two entries are refused, so one task ends with 3, and the merge is taken away.
+    merge_behind
+    awaited "the merge is taken away" has_merged || scancel "$merge"
+    awaited "the tasks before it have ended" has_ended || scancel "$job"
+    is "what is merged of refused entries" "$(ls "$survey"/site.* "$work/top/slurm-$merge.out" 2>/dev/null)" ""
+    # Without them it waits until all tasks are done, one of which is begun again.
+    cp "$survey/list" "$work/list"
+    sed -i -e 5d -e 10d "$survey/list"
+    hold 2
+    merge_behind
+    awaited "the merge waits" waits_for_array
+    awaited "the other tasks have come once more" have_come 0 1 3 4 5 7 8 9
+    go 2
+    scontrol requeue "${job}_3"
+    awaited "the task is taken back once more" is_taken_back
+    is "whether the merge waits on" "$(squeue -h -j "$merge" -o '%t %r')" "PD Dependency"
+    scontrol update "jobid=${job}_3" StartTime=now
+    awaited "the merge has ended" has_merged || scancel "$merge"
+    left_are "a merge behind an array"
+    "$left_of" --grids "$survey/list" >"$work/grids"
+    merged=$("$SGM" merge "$work/grids" "$survey/calibration.json" "$work/merged")
+    is "the merge" "$(cat "$work/top/slurm-$merge.out")" "$merged"
+    for ending in asc csv; do is "its OUT.$ending" "$(cat "$survey/site.$ending")" "$(cat "$work/merged.$ending")"; done
+    rm "$survey"/site.*
+    cp "$work/list" "$survey/list"
+fi
+
 # A list that is refused ends each task, with the program's words.
 entry 0 >>"$survey/list"
 submit
 awaited "the tasks have ended once more" has_ended || scancel "$job"
 is "a list that clashes" "$(for it in 1 2 3 4; do task "$it"; done | sort -u)" "series_left: entry 12 clashes"
-is "whether a task's list is left over" "$(find "${TMPDIR:-/tmp}" -maxdepth 1 -name 'sgm-series.*' -newer "$SLURM_CONF")" ""
+is "whether a task's list is left over" \
+    "$(find "${TMPDIR:-/tmp}" -maxdepth 1 \( -name 'sgm-series.*' -o -name 'sgm-grids.*' \) -newer "$SLURM_CONF")" ""
 end

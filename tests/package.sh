@@ -97,6 +97,22 @@ for page in "$unpacked"/usr/share/man/man1/*; do
     is "whether $(basename "$page" .1.gz) is installed (0: yes)" $? 0
 done
 
+# Each tool answers under its own name, with what it reads to begin with.
+while read -r _ name; do
+    is "the usage of $name" "$("$unpacked/usr/bin/$name" --help | grep -o "^usage: $name ")" "usage: $name "
+    is "its completion" "$(bash -c '. "$1"; complete -p "$2"' complete "$unpacked/usr/share/bash-completion/completions/sgm" "$name")" \
+        "complete -F _sgm_tool $name"
+done <"$top/packaging/names.txt"
+# What the pages point at is there, and none names a tool as it is named in a checkout.
+doc=$unpacked/usr/share/doc/sgm
+grep -ro --include='*.md' '](\([^)#:]*\)[)#]' "$doc" | sed 's/](\([^)#]*\)[)#]$/\1/' | while IFS=: read -r page target; do
+    [ -z "$target" ] || [ -e "$(dirname "$page")/$target" ] || echo "$page: $target"
+done >"$work/said"
+is "what the pages point at and isn't there" "$(cat "$work/said")" ""
+# shellcheck disable=SC2016
+cut -d ' ' -f 1 "$top/packaging/names.txt" | sed 's/.*/`\(tools\/\)\?&\.py`/' >"$work/named"
+is "tools under other names" "$(grep -rlf "$work/named" --include='*.md' "$doc")" ""
+
 # Words that go on with what was typed.
 
 # completed PROGRAM WORD..: what bash would offer for the last word.
@@ -106,7 +122,7 @@ completed() {
 }
 is "commands" "$(completed sgm '')" "$(sed -n 's/^sgm \([a-z]*\).*/\1/p' "$top/packaging/help.txt" | tr '\n' ' ')--help --version"
 is "a picture" "$(completed sgm match l)" left.pgm
-is "a calibration" "$(completed sgm match a b cal)" calibration.json
+is "a calibration" "$(completed sgm match a b calibration.)" calibration.json
 is "a direction" "$(completed sgm trace a b c downr)" downright
 is "options that are left" "$(completed sgm match a b c d strips = 3 '')" "workers= peak= fill="
 is "an option's number" "$(completed sgm match a b c d strips = '')" ""

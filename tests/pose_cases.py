@@ -23,7 +23,6 @@ import argparse
 import functools
 import itertools
 import json
-import os
 import sys
 from unittest import mock
 
@@ -41,8 +40,6 @@ from test_reference_pose import (
     FILES, IDENTITY, MATCH, ONE, TRACE, WHOLE, pose_of, worked_matrices, worked_points,
 )  # fmt: skip
 
-HERE = os.path.dirname(os.path.abspath(__file__))
-STORED = os.path.join(HERE, "..", "crates", "sgm_cases", "stdin")
 SEED, RANDOM_POINTS = 54, 120
 HIGHEST, FARTHEST, SHIFT_MOST = inputs.HIGHEST, 35651072000000000, 2000000000
 ALONG = ("east", "north", "up")
@@ -555,28 +552,6 @@ def is_possible(pose, place):
     )
 
 
-def hold(wanted, is_writing):
-    """Compares the stored cases with these, or puts these in their place."""
-    with open(STORED, encoding="utf-8", newline="") as file:
-        lines = file.read().split("\n")
-    stored = [lines[at : at + 2] for at in range(0, len(lines) - 1, 2)]
-    names = {case for case, _ in wanted}
-    is_ours = lambda case: case in names or case.startswith("point ")
-    ours = [pair for pair in stored if is_ours(pair[0])]
-    if is_writing:
-        others = [pair for pair in stored if not is_ours(pair[0])]
-        with open(STORED, "w", encoding="utf-8", newline="") as file:
-            file.writelines(line + "\n" for pair in [*wanted, *others] for line in pair)
-        print(f"pose_cases: {len(wanted)} cases written")
-        return 0
-    differ = [case for case, answer in wanted if [case, answer] not in ours]
-    if sorted(ours) == sorted(wanted):
-        print(f"pose_cases: {len(wanted)} cases the same")
-        return 0
-    print(f"pose_cases: {len(differ)} of {len(wanted)} cases differ or are missing")
-    return 1
-
-
 def main():
     epilog = "Example: tests/pose_cases.py > /tmp/poses"
     parser = argparse.ArgumentParser(description=__doc__.split("\n\n")[0], epilog=epilog)
@@ -593,7 +568,7 @@ def main():
     if words.kinds:
         print("\n".join(f"{number} {name}" for name, number in counted().items()))
     elif words.check or words.write:
-        return hold(pairs(), words.write) or bool(missing)
+        return stored_runs.hold_cases("pose_cases", pairs(), "point ", words.write) or bool(missing)
     else:
         print("\n".join(line for pair in pairs() for line in pair))
     return 1 if missing else 0

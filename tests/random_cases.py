@@ -19,6 +19,8 @@ that stands in the folder afterwards. The kinds of cases take turns:
     traces        certificates of the pixels of such pairs in all directions, and of places beside them;
     changes       two grids' texts in any white space and case, of one ground or not, cut, with bytes or words
                   changed, and with numbers at the ends of their ranges and beyond;
+    merges        up to five grids of one ground over, beside and between the cells of another one, and lists of
+                  them with faults, once the program has them (HAS_MERGE of reference_inputs.py);
     places        inputs and outputs that are absent, folders, links or devices.
 
 A case is made from the seed and its number alone, so --case runs it again. What differs is printed, and

@@ -845,6 +845,7 @@ def ill(draw, words):
 GOOD_WORDS = ["match", "l.pgm", "r.pgm", "c.json", "o"]
 TRACE_WORDS = ["trace", "l.pgm", "r.pgm", "c.json", "right", "0", "0", "0"]
 CHANGE_WORDS = ["change", "e.asc", "l.asc", "o"]
+MERGE_WORDS = ["merge", "m.txt", "c.json", "o"]
 ODD_WORDS = [
     "trace", "change", "right", "left", "downright", "upleft", "Right", "UP", "up ", "rightdown", "sideways", "e.asc", "l.asc",
     "", "-", "--", "--help", "-h", "match", "demo", "MATCH", "match ", "0", "7", "4294967295", "4294967296", "00", "-1", "+1",
@@ -890,7 +891,8 @@ def trace_words(draw, width, height, count):
 
 
 def odd_words(draw):
-    words = draw.of([GOOD_WORDS, GOOD_WORDS, GOOD_WORDS, TRACE_WORDS, TRACE_WORDS, CHANGE_WORDS, ["demo"]])
+    plain = [GOOD_WORDS, GOOD_WORDS, GOOD_WORDS, TRACE_WORDS, TRACE_WORDS, CHANGE_WORDS, ["demo"]]
+    words = draw.of(plain + ([MERGE_WORDS] if reference_inputs.HAS_MERGE else []))
     words = words + [draw.of(["5", "x", "", "4294967296", "0" * 30])] if words == ["demo"] else list(words)
     words += options(draw) if words[0] in ("match", "demo") or draw.chance(15) else []
     command = reference_inputs.COMMANDS[words[0]]
@@ -903,7 +905,7 @@ def odd_words(draw):
             words[at : at + 1] = [draw.of(ODD_WORDS)]
         elif what < 4 and command.names:
             # The inputs, one of which may be an output.
-            here = draw.between(1, 2 if words[0] == "change" else 3)
+            here = draw.between(1, 2 if words[0] in ("change", "merge") else 3)
             words[here : here + 1] = [draw.of(["o.pgm", "o.asc", "o.csv", "O.pgm", "./o.csv", "o", ""])]
         elif what == 4:
             words.append(draw.of(words or ODD_WORDS))
@@ -944,7 +946,7 @@ def words_case(draw):
     width, height = sides_of(draw, 60)
     calibration = json_text(draw, settings(draw, 0, draw.between(1, 4)), False).encode()
     files, words = files_of(pair_of(draw, width, height), calibration), odd_words(draw)
-    files |= grids_of(draw)[0]
+    files |= {**grids_of(draw)[0], "m.txt": b"e.asc\nl.asc\n"}
     try:
         reference_inputs.read_words(words)
         # A demo that runs takes the reference too long.
@@ -1117,6 +1119,101 @@ def change_case(draw):
     return list(CHANGE_WORDS), files
 
 
+# Merges
+
+
+def ground_of(draw):
+    """A small grid, over which others can be laid."""
+    cell = draw.of([1, 2, 7, 10, 1000, 250000, 1000000000])
+    corner = lambda: draw.of([0, -3 * cell, draw.between(-9, 9), draw.between(-(10**9), 10**9), 2000000000, -2000000000])
+    numbers = [("west", corner()), ("south", corner()), ("cell", cell)]
+    west, south = (max(-2000000000, min(2000000000, at)) for _, at in numbers[:2])
+    numbers[:2] = [("west", west), ("south", south)]
+    return completed(draw, "grid", [*numbers, ("cols", draw.between(1, 6)), ("rows", draw.between(1, 5))])
+
+
+def laid_over(draw, grid):
+    """The head of a grid whose cells lie on those of another one: over it, in part or beside it."""
+    sides = dict(grid)
+    head = {"cols": draw.between(1, 6), "rows": draw.between(1, 5), "cell": sides["cell"], "empty": reference_inputs.EMPTY}
+    for side, count in (("west", "cols"), ("south", "rows")):
+        away = draw.of([0, 1, -1, draw.between(-head[count] - 1, sides[count] + 1)])
+        at = sides[side] + away * sides["cell"]
+        head[side] = at if abs(at) <= 2000000000 else sides[side]
+    return head
+
+
+def beside_cells(draw, head):
+    """A head with another cell, or with a side that may lie between the cells."""
+    key, other = draw.of(["west", "south", "cell"]), dict(head)
+    low, high = reference_inputs.RANGES["grid." + key]
+    off = draw.of([1, -1, head["cell"] // 2, head["cell"], 2 * head["cell"], -(head["cell"] // 2)])
+    other[key] = max(low, min(high, head[key] + off))
+    return other
+
+
+def ground_heights(draw, head, ground):
+    """Heights of one ground, as high as that, mostly level enough that gaps are bridged."""
+    count, empty = head["cols"] * head["rows"], draw.of([0, 20, 50, 80, 100])
+    if draw.chance(15):
+        return heights_of(draw, count, empty)
+    rough = draw.of([0, 1, 5, head["cell"], 3 * head["cell"]])
+    high = lambda: max(-2000000000, min(2000000000, ground + draw.between(-rough, rough)))
+    return [reference_inputs.EMPTY if draw.chance(empty) else high() for _ in range(count)]
+
+
+def merge_entry(draw, grid, ground, ill_percent):
+    """The text of an entry of a merge, which has a fault in so many of a hundred cases."""
+    head, is_loose = laid_over(draw, grid), draw.chance(15)
+    if draw.chance(ill_percent):
+        head = beside_cells(draw, head)
+    words = grid_words(draw, head, ground_heights(draw, head, ground), is_loose)
+    if draw.chance(ill_percent):
+        words = ill(draw, words)
+    return grid_text(draw, words, head["cols"], is_loose)
+
+
+def merge_list(draw, names, ill_percent):
+    """The text of a list with these names, most of them once; at times it has a fault."""
+    lines = draw.shuffled([*names, *(draw.of(names) for _ in range(draw.of([0, 0, 1, 2])))])
+    if draw.chance(ill_percent):
+        odd = ["", " ", "e0 e1", "o.asc", "o.csv", "./o.asc", "o", "none", "m.txt", "c.json", "#e0", "e0\v", "\u00e4", "\ufeffe0"]
+        lines.insert(draw.below(len(lines) + 1), draw.of(odd))
+    if draw.chance(ill_percent):
+        lines = draw.of([[], [""], lines * 400, lines[:1] * 1000, lines[:1] * 1001])
+    blank = lambda: draw.of(["", "", "", "", " ", "\t", "\r", "\n"])
+    text = "\n".join(blank() + line + blank() for line in lines) + draw.of(["", "\n", "\r\n"])
+    data = text.encode()
+    if draw.chance(ill_percent):
+        at = draw.below(len(data) + 1)
+        data = data[:at] + draw.of([b"\xff", b"\xc3", b"\0", b"\xa0", b"\r", b" "]) + data[at:]
+    return data
+
+
+def merge_case(draw):
+    """A merge of up to five grids of one ground, and mostly of regions over them."""
+    grid, camera = ground_of(draw), camera_of(draw)
+    regions = regions_of(draw, grid) if draw.chance(70) else None
+    pose = pose_of(draw, camera, 9, 9, (0, 4)) if draw.chance(10) else None
+    whole = settings(draw, 0, 4, camera=camera, pose=pose, grid=grid, regions=regions)
+    ill_percent = draw.of([0, 0, 15, 40])
+    highest = reference_inputs.HIGHEST
+    ground = draw.of([0, 0, highest, -highest, draw.between(-highest, highest)])
+    names = [f"e{number}" for number in range(draw.between(1, 5))]
+    files = {name: merge_entry(draw, grid, ground, ill_percent // 2) for name in names}
+    files["m.txt"] = merge_list(draw, names, ill_percent)
+    if draw.chance(ill_percent):
+        change(draw, whole)
+        whole = whole if not is_long(whole) else settings(draw, 0, 4, camera=camera, pose=None)
+    files["c.json"] = json_text(draw, whole, draw.chance(10)).encode("utf-8", "surrogatepass")
+    words = list(MERGE_WORDS)
+    if draw.chance(2):
+        words[2] = "-"
+    if draw.chance(ill_percent // 3):
+        del files[draw.of(list(files))]
+    return words, files
+
+
 def place_case(draw):
     """Inputs and outputs that aren't plain files of their own."""
     width, height = sides_of(draw, 60)
@@ -1124,13 +1221,19 @@ def place_case(draw):
     sections = {"camera": camera_of(draw), "grid": grid, "regions": regions_of(draw, grid)}
     calibration = json_text(draw, settings(draw, 0, draw.between(1, 4), **sections), False).encode()
     files = files_of(pair_of(draw, width, height), calibration) | grids_of(draw)[0]
-    plain = draw.of([GOOD_WORDS, GOOD_WORDS, GOOD_WORDS, TRACE_WORDS, CHANGE_WORDS, CHANGE_WORDS])
+    some = [GOOD_WORDS, GOOD_WORDS, GOOD_WORDS, TRACE_WORDS, CHANGE_WORDS, CHANGE_WORDS]
+    plain = draw.of(some + ([MERGE_WORDS] * 2 if reference_inputs.HAS_MERGE else []))
     words = list(plain) + (options(draw) if plain == GOOD_WORDS else [])
-    inputs = plain[1:3] if plain == CHANGE_WORDS else plain[1:4]
+    inputs = plain[1:3] if plain[0] in ("change", "merge") else plain[1:4]
+    if plain == MERGE_WORDS:
+        _, files = merge_case(draw)
+        # An entry has a place too.
+        inputs = [*inputs, "e0"]
+        files.setdefault("e0", b"")
     for _ in range(draw.of([1, 1, 2])):
         output = draw.of(["o.pgm", "o.asc", "o.csv"])
         name = draw.of(inputs)
-        at = plain.index(name)
+        at = plain.index(name) if name in plain else 1
         what = draw.below(9)
         if what == 0:
             files.pop(name, None)
@@ -1162,6 +1265,7 @@ KINDS = {
     "cells": cells_case,
     "traces": trace_case,
     "changes": change_case,
+    "merges": merge_case,
     "calibrations": calibration_case,
     "pictures": picture_case,
     "words": words_case,
@@ -1169,6 +1273,7 @@ KINDS = {
 }
 TURNS = "surveys calibrations words traces scenes changes pictures cells surveys calibrations traces".split()
 TURNS += "places changes words scenes traces cells pictures calibrations changes scenes surveys".split()
+TURNS += ["merges", "merges"] if reference_inputs.HAS_MERGE else []
 
 
 def case_of(seed, number):

@@ -59,6 +59,25 @@ def text_of(draw, entries):
     return draw.of(["\n", "\n", "\r\n"]).join(lines).encode() + draw.of([b"\n", b"", b"\r\n", b"\n\n"])
 
 
+def name_list_of(seed, number):
+    """The bytes of a merge's list, where OUT is o."""
+    draw = Draw(seed, number)
+    count = draw.of([0, 1, 1, 2, 5, draw.below(20)])
+    if draw.chance(3):
+        count = draw.of([1000, 1001, 1200])
+    names = [name_of(draw, "e", it) for it in range(count)]
+    if names and draw.chance(30):
+        names[draw.below(count)] = draw.of(["o.asc", "o.csv", "o.pgm", "./o.asc", "o", "O.asc", "o.asc\u00a0"])
+    entries = [[name] for name in names]
+    if entries and draw.chance(20):
+        draw.of(entries).append("x")
+    data = text_of(draw, entries)
+    if draw.chance(12):
+        at = draw.below(len(data) + 1)
+        data = data[:at] + draw.of(ILL_BYTES) + data[at:]
+    return data
+
+
 def list_of(seed, number):
     """A list's bytes and the name under which it is held."""
     draw = Draw(seed, number)

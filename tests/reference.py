@@ -12,8 +12,9 @@ import sys
 import reference_matching as matching
 from reference_inputs import (
     DIRECTIONS, EMPTY, GRID_HEAD, LONGEST_CALIBRATION, LONGEST_GRID, LONGEST_IMAGE, REFUSED, UNREAD, UNWRITTEN,
-    Calibration, Ended, Image, read_calibration, read_grid, read_pgm, read_words,
+    COMMANDS, Calibration, Ended, Image, read_calibration, read_grid, read_pgm, read_words,
 )
+from reference_lists import LONGEST_LIST, read_names
 from reference_matching import VOLUME_MOST, survey, warp_fault
 
 
@@ -87,7 +88,8 @@ def fetch(name, most, what):
     try:
         with open(name, "rb") as file:
             data = file.read(most + 1)
-    except OSError:
+    # (no name that an operating system knows has a byte of 0)
+    except (OSError, ValueError):
         raise Ended(UNREAD, f"sgm: cannot read {what}")
     if len(data) > most:
         raise Ended(REFUSED, f"sgm: {what} is too long")
@@ -124,32 +126,46 @@ def fitting(left, right, calibration):
             raise Ended(REFUSED, f"sgm: {side} warp: {fault}")
 
 
+def calibration_of(data):
+    """The calibration of those bytes, or the plain settings."""
+    return Calibration() if data is None else read_calibration(data)
+
+
 def judged(left_data, right_data, calibration_data):
     """The two pictures and the calibration, or the first refusal."""
     left, right = read_pgm(left_data, "left"), read_pgm(right_data, "right")
-    calibration = Calibration() if calibration_data is None else read_calibration(calibration_data)
+    calibration = calibration_of(calibration_data)
     fitting(left, right, calibration)
     return left, right, calibration
 
 
+def fetch_calibration(name):
+    """The bytes of a calibration, with None for `-`."""
+    return None if name == "-" else fetch(name, LONGEST_CALIBRATION, "calibration")
+
+
 def fetch_inputs(left_name, right_name, calibration_name):
-    """The bytes of the three inputs, with None for a calibration of `-`."""
+    """The bytes of the three inputs."""
     left = fetch(left_name, LONGEST_IMAGE, "left")
     right = fetch(right_name, LONGEST_IMAGE, "right")
-    if calibration_name == "-":
-        return left, right, None
-    return left, right, fetch(calibration_name, LONGEST_CALIBRATION, "calibration")
+    return left, right, fetch_calibration(calibration_name)
 
 
-def match_texts(left, right, calibration, **refine):
-    """The outputs, each as the ending of its name, its text and its word in fault lines, and the summary."""
-    found, cells, tallies = survey(left, right, calibration, **refine)
-    outputs = [(".pgm", disparity_text(found), "disparity")]
+def ground_texts(calibration, cells, tallies):
+    """The outputs of a grid and of its regions, where there are such."""
+    outputs = []
     if cells is not None:
         outputs.append((".asc", grid_text(calibration.grid, cells), "heights"))
     if tallies is not None:
         table = table_text(calibration.regions, tallies, calibration.version)
         outputs.append((".csv", table, "report"))
+    return outputs
+
+
+def match_texts(left, right, calibration, **refine):
+    """The outputs, each as the ending of its name, its text and its word in fault lines, and the summary."""
+    found, cells, tallies = survey(left, right, calibration, **refine)
+    outputs = [(".pgm", disparity_text(found), "disparity"), *ground_texts(calibration, cells, tallies)]
     return outputs, summary_text(found)
 
 
@@ -200,6 +216,34 @@ def change(earlier_name, later_name, out):
     deliver(out, [(".asc", difference, "difference"), (".csv", volumes, "volumes")], summary)
 
 
+def fetch_entry(number, name, grid):
+    """An entry of a merge over that grid: the numbers of its own grid and its cells, or the first refusal."""
+    what = f"grid {number}"
+    entry = read_grid(fetch(name, LONGEST_GRID, what), what)
+    if not matching.fits(entry[0], grid):
+        raise Ended(REFUSED, f"sgm: {what}: not on the calibration's cells")
+    return entry
+
+
+def merge_texts(calibration, entries):
+    """The outputs of a merge, and the summary."""
+    cells, tallies = matching.merged(calibration, entries)
+    heights = [height for row in cells for height in row]
+    filled = sum(height is not None for height in heights)
+    return ground_texts(calibration, cells, tallies), f"merged {filled} of {len(heights)}\n"
+
+
+def merge(list_name, calibration_name, out):
+    list_data = fetch(list_name, LONGEST_LIST, "list")
+    calibration_data = fetch_calibration(calibration_name)
+    names = read_names(list_data, [out + ending for ending in COMMANDS["merge"].endings])
+    calibration = calibration_of(calibration_data)
+    if calibration.grid is None:
+        raise Ended(REFUSED, "sgm: calibration: grid is missing")
+    entries = [fetch_entry(number, name, calibration.grid) for number, name in enumerate(names)]
+    deliver(out, *merge_texts(calibration, entries))
+
+
 def demo(number, **refine):
     found, _, _ = survey(*generated_pair(256, 192, int(number)), Calibration(), **refine)
     say(summary_text(found) + f"sum {sum(disparity_samples(found))}\n")
@@ -219,7 +263,7 @@ def main(words):
             call = match if words[0] == "match" else demo
             call(*operands, peak=options["peak"], fill=options["fill"])
         else:
-            call = trace if words[0] == "trace" else change
+            call = {"trace": trace, "change": change, "merge": merge}[words[0]]
             call(*operands)
     except Ended as end:
         try:

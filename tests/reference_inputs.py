@@ -19,6 +19,9 @@ if hasattr(sys, "set_int_max_str_digits"):
 # Whether a calibration may have `disparities.fine` true: False as long as the program refuses it.
 # The cases for the program follow it; the definitions and their own tests are there either way.
 TAKES_FINE = True
+# Whether the program has the command `merge`: False as long as it has not. The cases for the program
+# follow it; the definition and its own tests are there either way.
+HAS_MERGE = True
 
 USAGE, REFUSED, UNREAD, UNWRITTEN = 2, 3, 4, 5
 LONGEST_IMAGE, LONGEST_CALIBRATION, LONGEST_GRID = 67108864, 16777216, 268435456
@@ -56,6 +59,7 @@ COMMANDS = {
     "demo": Command(numbers=1, takes_options=True),
     "trace": Command(names=3, has_direction=True, numbers=3),
     "change": Command(names=3, endings=(".asc", ".csv")),
+    "merge": Command(names=3, endings=(".asc", ".csv")),
 }
 DIRECTIONS = "right left down downright downleft up upright upleft".split()
 # The options, each with its least and its greatest value; where one isn't given, it is its least.

@@ -1,6 +1,7 @@
-"""The reading of a series' list, from its definition alone: its entries, or its first fault.
+"""The reading of lists, from their definitions alone: their entries, or their first fault.
 
-A list is text in UTF-8. Each of its lines that has words has four of them, which are an entry: LEFT RIGHT CALIB OUT.
+A list is text in UTF-8. In that of a series each line that has words has four of them, which are an entry:
+LEFT RIGHT CALIB OUT. In that of a merge each has one, the name of a grid.
 """
 
 import re
@@ -37,6 +38,15 @@ def clashes(entries, name):
     ]
 
 
+def lines_of(data):
+    """The number and the words of each line, counted from 1, or None where the bytes are no text."""
+    try:
+        text = data.decode("utf-8")
+    except UnicodeDecodeError:
+        return None
+    return enumerate(map(WORD.findall, text.split("\n")), 1)
+
+
 def read_list(data, name):
     """The entries of a list that is held under that name. Ends with the first fault."""
 
@@ -45,13 +55,11 @@ def read_list(data, name):
 
     if len(data) > LONGEST_LIST:
         refused("list is too long")
-    try:
-        text = data.decode("utf-8")
-    except UnicodeDecodeError:
+    lines = lines_of(data)
+    if lines is None:
         refused("list is not text")
     entries = []
-    for number, line in enumerate(text.split("\n"), 1):
-        words = WORD.findall(line)
+    for number, words in lines:
         if len(words) not in (0, 4):
             refused(f"line {number} does not have four words")
         entries += [Entry(*words)] if words else []
@@ -60,3 +68,27 @@ def read_list(data, name):
     if True in clashes(entries, name):
         refused(f"entry {clashes(entries, name).index(True)} clashes")
     return entries
+
+
+def read_names(data, outputs):
+    """The names of the grids in the list of a merge that writes these outputs. Ends with the first fault."""
+
+    def refused(text):
+        raise Ended(REFUSED, "sgm: list: " + text)
+
+    lines = lines_of(data)
+    if lines is None:
+        refused("not text")
+    names = []
+    for number, words in lines:
+        if len(words) > 1:
+            refused(f"line {number} does not have one word")
+        names += words
+    if not names:
+        refused("no entries")
+    if len(names) > MOST_ENTRIES:
+        refused("too many entries")
+    for number, name in enumerate(names):
+        if name in outputs:
+            refused(f"grid {number} is also an output")
+    return names

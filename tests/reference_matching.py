@@ -578,6 +578,16 @@ def heights(points, grid, keep="highest"):
     return [[KEPT[keep](some) for some in row] for row in cells]
 
 
+def points_in(grid, cells):
+    """A point on the south-west corner of each cell that has a height, from the north-west."""
+    for line, some in enumerate(cells):
+        row = grid["rows"] - 1 - line
+        for col, height in enumerate(some):
+            if height is not None:
+                east, north = (at * grid["cell"] for at in (col, row))
+                yield grid["west"] + east, grid["south"] + north, height
+
+
 def met_along(line, at, step, most):
     """Of a line of cells the first height from `at` on to one side, and behind how many cells it
     comes; None where none of the first `most` cells that are there has one."""
@@ -687,6 +697,18 @@ def tally_with_bridges(before, after, cell, region, corner=(0, 0)):
     return filled, bridges_in(before, after, cell, region, corner), *others
 
 
+def over(calibration, before):
+    """The calibration's grid from its cells before they are bridged, and its regions' tallies or None."""
+    side, regions = calibration.grid["cell"], calibration.regions
+    cells = bridged(before, side, calibration.bridge)
+    if regions is None:
+        return cells, None
+    if calibration.version < 3:
+        return cells, [tally(cells, side, region) for region in regions]
+    corner = calibration.grid["west"], calibration.grid["south"]
+    return cells, [tally_with_bridges(before, cells, side, it, corner) for it in regions]
+
+
 # The certificate of one pixel
 
 
@@ -767,6 +789,22 @@ def differences(earlier, later):
     return [[difference(*pair) for pair in zip(*rows)] for rows in zip(earlier, later)]
 
 
+# Merge
+
+
+def fits(entry, grid):
+    """Whether the cells of an entry's grid lie on those of another one."""
+    apart = [entry[side] - grid[side] for side in ("west", "south")]
+    return entry["cell"] == grid["cell"] and all(it % grid["cell"] == 0 for it in apart)
+
+
+def merged(calibration, entries):
+    """The grid of many grids' cells and the regions' tallies or None. A height of an entry is a point
+    of its own there. An entry is the numbers of its grid and its cells."""
+    points = [it for entry in entries for it in points_in(*entry)]
+    return over(calibration, heights(points, calibration.grid, calibration.keep))
+
+
 # The whole survey
 
 
@@ -796,13 +834,5 @@ def survey(left_image, right_image, calibration, peak=0, fill=0, match=match_pla
         for x, value in enumerate(row)
         if value is not None
     ]
-    side = calibration.grid["cell"]
     before = heights([it for it in points if it is not None], calibration.grid, calibration.keep)
-    cells = bridged(before, side, calibration.bridge)
-    if calibration.regions is None:
-        return found, cells, None
-    if calibration.version < 3:
-        return found, cells, [tally(cells, side, region) for region in calibration.regions]
-    corner = calibration.grid["west"], calibration.grid["south"]
-    regions = calibration.regions
-    return found, cells, [tally_with_bridges(before, cells, side, it, corner) for it in regions]
+    return found, *over(calibration, before)

@@ -1,6 +1,6 @@
 #!/usr/bin/env bash
-# Runs the worked example with three strips and two workers, a certificate of one of its pixels, and the change between
-# its grid and another, and refuses each memory: the first allocation in the first run, the second one in the second,
+# Runs the worked example with three strips and two workers, a certificate of one of its pixels, the change between
+# its grid and another, and the merge of both, and refuses each memory: the first allocation in the first run, the second one in the second,
 # and so on, until a run takes none of that number. All workers count together, so a number may fall to any of them.
 # Each run has to end Done, with the files and the summary whole; or out of memory, with its line and status, nothing
 # on standard output, and each file as it was, but for outputs up to one: those before that one whole, and that one the
@@ -22,7 +22,7 @@ if ! head -c 4 "$program" | grep -q ELF; then
     exit 0
 fi
 most=100000 failed=0 line='sgm: no memory'
-inputs=(l.pgm r.pgm c.json e.asc l.asc)
+inputs=(l.pgm r.pgm c.json e.asc l.asc m.txt)
 
 # of COMMAND: sets the words of a run, the summary and the outputs.
 of() {
@@ -37,6 +37,10 @@ of() {
         ;;
     change)
         words=(change e.asc l.asc o) summary='compared 9 of 12'
+        outputs=(o.asc o.csv)
+        ;;
+    merge)
+        words=(merge m.txt c.json o) summary='merged 9 of 12'
         outputs=(o.asc o.csv)
         ;;
     esac
@@ -97,10 +101,11 @@ gcc -O2 -shared -fPIC -o "$work/refuse.so" "$work/refuse.c" || exit 1
     for _ in 1 2 3; do echo 50000 50000 50000 -2147483648; done
 } >"$work/e.asc"
 sed 's/50000/51000/' "$work/e.asc" >"$work/l.asc"
+printf 'e.asc\nl.asc\n' >"$work/m.txt"
 
 # begin FOLDER [TEXT]: a folder with the inputs, and outputs of that text.
 begin() {
-    rm -rf "$1" && mkdir "$1" && cp "$top"/crates/sgm_cli/data/{l.pgm,r.pgm,c.json} "$work"/{e,l}.asc "$1" || exit 1
+    rm -rf "$1" && mkdir "$1" && cp "$top"/crates/sgm_cli/data/{l.pgm,r.pgm,c.json} "$work"/{e,l}.asc "$work/m.txt" "$1" || exit 1
     [ $# = 1 ] || for file in "${outputs[@]}"; do echo "$2" >"$1/$file"; done
 }
 
@@ -170,8 +175,10 @@ refuse_each() {
 
 cd "$work" || exit 1
 without=0 with=0 told=
-for command in match trace change; do
-    of $command
+commands=(match trace change)
+if has_merge; then commands+=(merge); fi
+for command in "${commands[@]}"; do
+    of "$command"
     rm -rf whole
     begin made && run && mv made whole || exit 1
     for file in "${outputs[@]}"; do [ -s "whole/$file" ] || status="$status, without $file"; done

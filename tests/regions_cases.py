@@ -29,7 +29,6 @@ import functools
 import itertools
 import json
 import math
-import os
 import re
 import sys
 from typing import NamedTuple
@@ -40,11 +39,10 @@ import random_inputs
 import reference
 import reference_inputs as inputs
 import reference_matching as matching
+import stored_runs
 from random_inputs import Draw
 from test_reference_regions import BASES, OUTLINES, WIDE, numbers_in
 
-HERE = os.path.dirname(os.path.abspath(__file__))
-STORED = os.path.join(HERE, "..", "crates", "sgm_cases", "stdin")
 SEED, RANDOM_CASES = 59, 90
 HIGHEST, MOST_POINTS = inputs.HIGHEST, 1000
 
@@ -281,15 +279,7 @@ KINDS += ["four edges"]
 
 
 def points_of(grid, cells):
-    """A point on the south-west corner of each cell that has a height."""
-    made = []
-    for line, heights in enumerate(cells):
-        row = grid["rows"] - 1 - line
-        for col, height in enumerate(heights):
-            if height is not None:
-                east, north = (at * grid["cell"] for at in (col, row))
-                made.append((grid["west"] + east, grid["south"] + north, height))
-    return made
+    return list(matching.points_in(grid, cells))
 
 
 def region_of(name, place, base=0, rises=(0, 0), outline=None):
@@ -647,28 +637,6 @@ def is_possible(case):
     return len(case.points) <= MOST_POINTS
 
 
-def hold(wanted, is_writing):
-    """Compares the stored cases with these, or puts these in their place."""
-    with open(STORED, encoding="utf-8", newline="") as file:
-        lines = file.read().split("\n")
-    stored = [lines[at : at + 2] for at in range(0, len(lines) - 1, 2)]
-    names = {case for case, _ in wanted}
-    is_ours = lambda case: case in names or case.startswith("regions ")
-    ours = [pair for pair in stored if is_ours(pair[0])]
-    if is_writing:
-        others = [pair for pair in stored if not is_ours(pair[0])]
-        with open(STORED, "w", encoding="utf-8", newline="") as file:
-            file.writelines(line + "\n" for pair in [*wanted, *others] for line in pair)
-        print(f"regions_cases: {len(wanted)} cases written")
-        return 0
-    differ = [case for case, answer in wanted if [case, answer] not in ours]
-    if sorted(ours) == sorted(wanted):
-        print(f"regions_cases: {len(wanted)} cases the same")
-        return 0
-    print(f"regions_cases: {len(differ)} of {len(wanted)} cases differ or are missing")
-    return 1
-
-
 def main():
     epilog = "Example: tests/regions_cases.py > /tmp/regions"
     parser = argparse.ArgumentParser(description=__doc__.split("\n\n")[0], epilog=epilog)
@@ -685,7 +653,7 @@ def main():
     if words.kinds:
         print("\n".join(f"{counted[kind]} {kind}" for kind in KINDS))
     elif words.check or words.write:
-        return hold(pairs(), words.write) or bool(missing)
+        return stored_runs.hold_cases("regions_cases", pairs(), "regions ", words.write) or bool(missing)
     else:
         print("\n".join(line for pair in pairs() for line in pair))
     return 1 if missing else 0

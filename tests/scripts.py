@@ -22,7 +22,7 @@ sys.path.insert(0, os.path.join(TOP, "tools"))
 from sgm_tools import running
 
 FOLDERS = ["tests", "tools", "tools/sgm_tools", "bench", "packaging", "examples/pair", "examples/photographs", "examples/stockpile"]
-FOLDERS += ["examples/slope"]
+FOLDERS += ["examples/quarry", "examples/slope"]
 # They take the words of the programs and no others; the programs have no --help either.
 REFERENCES = ["tests/reference.py", "tests/quick_reference.py", "tests/reference_series.py"]
 # What reads a file, with the words around the file's name, and what writes into a folder.
@@ -39,6 +39,7 @@ READERS = {
     "packaging/tool_page.py": "FILE --names FILE",
     "tools/change_volumes.py": "FILE --calib FILE",
     "tools/cell_pixels.py": "FILE 0 0 --calib FILE",
+    "tools/merge_check.py": "FILE FILE",
     "tools/check_trace.py": "FILE FILE FILE right 0 0 0 FILE",
     "tools/explain_pixel.py": "FILE FILE FILE 0 0",
     "tools/calibrate_pair.py": "--left FILE --right FILE --board 9x6 --square 1 --out made.json",
@@ -51,6 +52,7 @@ READERS = {
 }
 WRITERS = ["tests/make_cases.py", "tests/make_survey.py", "tests/calibration_cases.py", "tests/definitions.py"]
 WRITERS += ["examples/photographs/make_photographs.py", "examples/stockpile/make_later.py"]
+WRITERS += ["examples/quarry/make_quarry.py", "examples/quarry/survey_quarry.py"]
 
 
 # Tools with words that make something of the files of this repository, the output's name being OUT.

@@ -22,12 +22,13 @@ import tempfile
 
 import random_cases
 import reference_inputs
+import reference_lists
 from test_reference import WORKED
 
 STORED = os.path.join(os.path.dirname(os.path.abspath(__file__)), "..", "crates", "sgm_cases", "stdin")
 OUTPUTS = ("o.pgm", "o.asc", "o.csv")
 # How many of a command's words name inputs.
-INPUTS = {"match": 3, "trace": 3, "change": 2}
+INPUTS = {"match": 3, "trace": 3, "change": 2, "merge": 2}
 # The most bytes of a file that an answer shows.
 ROOM = 4096
 ESCAPE = re.compile(rb"\\(?:x(..)|\*(\d+):((?:[^\\]|\\[^*.])*)\\\.|(.))", re.S)
@@ -71,10 +72,18 @@ def given(case):
             return None
     words = words.split(" ") if words else []
     if absent != "absent" and words:
-        for name in words[1 : 1 + INPUTS.get(words[0], 0)]:
+        for name in [*words[1 : 1 + INPUTS.get(words[0], 0)], *listed(words, files)]:
             if name and name != "-" and "/" not in name:
                 files.setdefault(name, b"")
     return words, files, absent
+
+
+def listed(words, files):
+    """The names in the list of a merge, where it has no fault."""
+    try:
+        return reference_lists.read_names(files[words[1]], ()) if words[0] == "merge" else []
+    except (IndexError, KeyError, reference_inputs.Ended):
+        return []
 
 
 def without_splits(words):
@@ -95,15 +104,48 @@ def answer(words, files, absent):
             with open(os.path.join(folder, name), "wb") as file:
                 file.write(data)
         status, out, err = random_cases.run_reference(folder, words)
-        parts = [str(status)]
+        held = {}
         for name in OUTPUTS:
-            path, shown = os.path.join(folder, name), absent
+            path = os.path.join(folder, name)
             if os.path.exists(path):
                 with open(path, "rb") as file:
-                    data = file.read()
-                shown = quoted(data) if len(data) <= ROOM else "too long"
-            parts.append(f"{name} {shown}")
+                    held[name] = file.read()
+    return ended(status, held, out, err, absent)
+
+
+def ended(status, held, out, err, absent="absent"):
+    """The answer to a case: its status, the outputs that are held then, and what both streams have received."""
+
+    def shown(name):
+        if name not in held:
+            return absent
+        return quoted(held[name]) if len(held[name]) <= ROOM else "too long"
+
+    parts = [str(status), *(f"{name} {shown(name)}" for name in OUTPUTS)]
     return " | ".join([*parts, f"out {quoted(out)}", f"err {quoted(err)}"])
+
+
+def hold_cases(name, wanted, beginning, is_writing):
+    """Compares the stored cases with these, or puts these in their place, in front of all others. There
+    are no other ones with that beginning. The name is that of the script whose cases they are."""
+    with open(STORED, encoding="utf-8", newline="") as file:
+        lines = file.read().split("\n")
+    stored = [lines[at : at + 2] for at in range(0, len(lines) - 1, 2)]
+    names = {case for case, _ in wanted}
+    is_ours = lambda case: case in names or case.startswith(beginning)
+    ours = [pair for pair in stored if is_ours(pair[0])]
+    if is_writing:
+        others = [pair for pair in stored if not is_ours(pair[0])]
+        with open(STORED, "w", encoding="utf-8", newline="") as file:
+            file.writelines(line + "\n" for pair in [*wanted, *others] for line in pair)
+        print(f"{name}: {len(wanted)} cases written")
+        return 0
+    if sorted(ours) == sorted(wanted):
+        print(f"{name}: {len(wanted)} cases the same")
+        return 0
+    differ = [case for case, answer in wanted if [case, answer] not in ours]
+    print(f"{name}: {len(differ)} of {len(wanted)} cases differ or are missing")
+    return 1
 
 
 def with_finer(lines):

@@ -39,7 +39,8 @@ from sgm_tools.running import Wrong, numpy
 METRE = 1_000_000
 MOUNT = 8_000_000
 # The words that docs/GUIDE.md has for the pair: a grid in the site's frame, the heap, and ground on all sides of it.
-LIMITS = f"--version 3 --near 4000000 --far 11000000 --mount {MOUNT} --grid -6400000 -7000000 125000 115 104"
+WEST, SOUTH, CELL, COLS, ROWS = -6_400_000, -7_000_000, 125_000, 115, 104
+LIMITS = f"--version 3 --near 4000000 --mount {MOUNT} --grid {WEST} {SOUTH} {CELL} {COLS} {ROWS}"
 REGIONS = (
     " --region pile 15 19 77 76 0 --region ground-east 95 24 17 48 0 --region ground-west 3 36 10 22 0"
     " --region ground-north 57 0 24 18 0 --region ground-south 43 95 16 9 0"
@@ -87,6 +88,14 @@ def exact_pose(rig, cameras):
     return {"matrix": matrix, **dict(zip(("east", "north", "up"), numpy.rint(shift).astype(int).tolist()))}
 
 
+def limits_of(rig):
+    """The words for a pair that hangs so. What is farther away than `far` has no disparity, so it is half a metre or
+    more beyond the grid's farthest corner, in whole metres."""
+    corners = [(WEST + col * CELL, SOUTH + row * CELL, 0) for col in (0, COLS) for row in (0, ROWS)]
+    farthest = ((numpy.array(corners) - rig.place) @ -rig.axes[:, 2]).max()
+    return f"{LIMITS} --far {math.ceil(farthest / METRE + 0.5) * METRE}{REGIONS}"
+
+
 @dataclasses.dataclass
 class Survey:
     """A survey of the pair in a folder: the first letters of its files, the calibration of the cameras, the unit of its
@@ -96,8 +105,8 @@ class Survey:
     name: str
     cameras: str
     unit: str
-    pose: "dict | None" = None
-    limits: str = LIMITS + REGIONS
+    pose: "dict | None"
+    limits: str
 
     def path(self, ending):
         return os.path.join(self.folder, self.name + ending)
@@ -157,14 +166,14 @@ def height_errors(survey, rig):
 
 @dataclasses.dataclass
 class Found:
-    """What a survey has found: the error of its volume in percent, and its worst place, in micrometres and as a part of
-    a quarter of a depth step."""
+    """What a survey has found: the error of its volume in percent, and how far each of PLACES is from its true height,
+    in micrometres and as a part of a quarter of a depth step."""
 
     survey: Survey
     volume: float
     error: float
-    worst: float
-    part: float
+    heights: list
+    parts: list
     said: "str | None"
 
 
@@ -172,31 +181,28 @@ def found_by(survey, rig):
     running.progress(f"surveying: {survey.name}")
     said = survey.measured()
     volume, true = volume_of(survey), compare_truth.true_volume() / METRE**3
-    errors = list(height_errors(survey, rig))
-    worst = max((abs(it) for it, _ in errors))
-    part = max(abs(it) / quarter for it, quarter in errors)
-    return Found(survey, volume, 100 * (volume / true - 1), worst, part, said)
+    errors = [(abs(error), abs(error) / quarter) for error, quarter in height_errors(survey, rig)]
+    return Found(survey, volume, 100 * (volume / true - 1), *map(list, zip(*errors)), said)
 
 
-def put_pair(folder, pair):
-    """Writes a pair as left.pgm and right.pgm."""
-    for side, pixels in zip(("left", "right"), pair):
-        files.write_pgm(os.path.join(folder, f"{side}.pgm"), pixels)
-
-
-def surveys(source, work):
-    """The three surveys of a folder of make_photographs.py, made in another one."""
+def take_pair(source, work):
+    """Makes left.pgm and right.pgm of the photographs of another folder."""
     for side in ("left", "right"):
         words = [os.path.join(source, f"{side}.png"), "--out", f"{side}.pgm"]
         run_tool("photo_to_pgm.py", *words, folder=work)
+
+
+def surveys(source, work, rig):
+    """The three surveys of a folder of make_photographs.py, whose pair hangs so, made in another one."""
+    take_pair(source, work)
     with open(os.path.join(work, "targets.csv"), "wb") as file:
         file.write(files.read_bytes(os.path.join(source, "targets.csv")))
     true, board = (os.path.join(source, name) for name in ("true.json", "cameras.json"))
-    rig = made.aslant()
+    limits = limits_of(rig)
     return [
-        found_by(Survey(work, "exact", true, "m", exact_pose(rig, true)), rig),
-        found_by(Survey(work, "posed", true, "m"), rig),
-        found_by(Survey(work, "board", board, "mm"), rig),
+        found_by(Survey(work, "exact", true, "m", exact_pose(rig, true), limits), rig),
+        found_by(Survey(work, "posed", true, "m", None, limits), rig),
+        found_by(Survey(work, "board", board, "mm", None, limits), rig),
     ]
 
 
@@ -207,15 +213,15 @@ NAMES = (
 )
 
 
-def compare(source):
+def compare(source, rig=None):
     """Prints the comparison, and gives what the three surveys have found."""
     with tempfile.TemporaryDirectory(prefix="sgm-compare_photographs.") as work:
-        found = surveys(os.path.abspath(source), work)
+        found = surveys(os.path.abspath(source), work, rig or made.aslant())
     print(f"true volume {compare_truth.true_volume() / METRE**3:.3f} m3")
     for name, it in zip(NAMES, found):
         print(f"{name}: {it.volume:.3f} m3, {it.error:+.2f} %")
-        worst = f"worst of {len(PLACES)} heights {it.worst / 1000:.0f} mm off"
-        print(f"    {worst}, at most {it.part:.2f} of a quarter of a depth step")
+        worst = f"worst of {len(PLACES)} heights {max(it.heights) / 1000:.0f} mm off"
+        print(f"    {worst}, at most {max(it.parts):.2f} of a quarter of a depth step")
         for line in (it.said or "").splitlines():
             if line.split(" ")[0] in (CHECK, "root", "the", "WARNING:"):
                 print(f"    {line}")

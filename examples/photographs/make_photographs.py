@@ -87,9 +87,16 @@ class Rig:
 
     def __init__(self, place, turn=0, tilt=0, towards=0):
         self.place = numpy.array(place, float)
-        turn, tilt, towards = map(math.radians, (turn, tilt, towards))
+        self.angles = turn, tilt, towards
+        turn, tilt, towards = map(math.radians, self.angles)
         about = tilt * numpy.array([math.cos(towards), -math.sin(towards), 0])
         self.axes = cv2.Rodrigues(numpy.array([0, 0, turn]))[0] @ cv2.Rodrigues(about)[0]
+
+    def __str__(self):
+        east, north, up = self.place / 1_000_000
+        turn, tilt, towards = self.angles
+        at = f"at {east:.2f} {north:.2f} {up:.2f} m"
+        return f"{at}, turned by {turn:.0f} and tilted by {tilt:.1f} degrees, towards {towards:.0f}"
 
     def camera(self, is_right):
         """Where a camera is."""
@@ -238,21 +245,27 @@ def boards():
         yield board_picture(LEFT, 0, pose), board_picture(RIGHT, heap.BASELINE / 1_000_000, pose)
 
 
+def write_heap(folder, rig=None, scene=None, seeds=(31, 32)):
+    """The pair of pictures of a scene, the targets in it, and the numbers of the cameras."""
+    os.makedirs(folder, exist_ok=True)
+    pair = photographs(rig, scene, seeds)
+    for side, pixels in zip(("left", "right"), pair):
+        files.write_png(os.path.join(folder, f"{side}.png"), pixels)
+    texts = {"targets.csv": targets_text(pair[0], rig), "true.json": json.dumps(calibration(), indent=1) + "\n"}
+    for name, text in texts.items():
+        with open(os.path.join(folder, name), "w") as file:
+            file.write(text)
+
+
 def write(folder):
     for side in ("left", "right"):
         os.makedirs(os.path.join(folder, "boards", side), exist_ok=True)
-    with open(os.path.join(folder, "true.json"), "w") as file:
-        file.write(json.dumps(calibration(), indent=1) + "\n")
     for number, pair in enumerate(boards(), 1):
         running.progress(f"board {number} of {len(POSES)}")
         for side, pixels in zip(("left", "right"), pair):
             files.write_png(os.path.join(folder, "boards", side, f"{number:02}.png"), pixels)
     running.progress("the heap")
-    pair = photographs()
-    for side, pixels in zip(("left", "right"), pair):
-        files.write_png(os.path.join(folder, f"{side}.png"), pixels)
-    with open(os.path.join(folder, "targets.csv"), "w") as file:
-        file.write(targets_text(pair[0]))
+    write_heap(folder)
 
 
 def main():
