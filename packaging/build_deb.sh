@@ -136,6 +136,7 @@ git ls-files examples | grep -vE '/(accuracy|settings)\.py$' | while read -r fil
 done
 git ls-files docs README.md CHANGELOG.md | while read -r file; do put 644 "$doc/$(dirname "$file")" "$file"; done
 ln -s ../../sgm/examples "$doc/examples"
+ln -s ../../sgm/tools "$doc/tools"
 edits=(-e 's#\./sgm #sgm #g' -e 's#\./sgm_series #sgm_series #g')
 install -m 644 packaging/completion.bash "$usr/share/bash-completion/completions/sgm"
 ln -s sgm "$usr/share/bash-completion/completions/sgm_series"
@@ -143,7 +144,7 @@ names=packaging/names.txt
 # shellcheck disable=SC2094
 while read -r tool name; do
     if [ -e "$usr/share/sgm/tools/$tool.py" ]; then
-        edits+=(-e "s#tools/$tool\\.py#$name#g")
+        edits+=(-e "s#tools/$tool\\.py#$name#g" -e "s#\`$tool\\.py\`#\`$name\`#g")
         ln -s "../share/sgm/tools/$tool.py" "$usr/bin/$name"
         ln -s sgm "$usr/share/bash-completion/completions/$name"
         python3 packaging/tool_page.py "tools/$tool.py" --names $names >"$usr/share/man/man1/$name.1"

@@ -32,13 +32,13 @@ _sgm_options() {
 _sgm() {
     local typed=${COMP_WORDS[COMP_CWORD]} command=${COMP_WORDS[1]-}
     COMPREPLY=()
-    [ "$COMP_CWORD" = 1 ] && _sgm_words "match trace change demo --help --version" && return
+    [ "$COMP_CWORD" = 1 ] && _sgm_words "match trace change merge demo --help --version" && return
     case $command,$COMP_CWORD in
     match,[23] | trace,[23]) _sgm_files .pgm ;;
-    match,4 | trace,4) _sgm_files .json ;;
+    match,4 | trace,4 | merge,3) _sgm_files .json ;;
     trace,5) _sgm_words "right left down downright downleft up upright upleft" ;;
     change,[23]) _sgm_files .asc ;;
-    match,5 | change,4) _sgm_files ;;
+    match,5 | change,4 | merge,[24]) _sgm_files ;;
     match,* | demo,[3-9] | demo,??) _sgm_options ;;
     esac
 }
@@ -72,5 +72,6 @@ _sgm_tool() {
 
 complete -F _sgm sgm
 complete -F _sgm_series sgm_series
-complete -F _sgm_tool sgm-calibrate sgm-calibration sgm-photo sgm-page sgm-heights sgm-stretch sgm-cubic-metres \
-    sgm-site-pose sgm-export-grid sgm-export-points sgm-change-volumes sgm-cell-pixels sgm-check-trace sgm-explain-pixel sgm-series-left
+complete -F _sgm_tool sgm-calibrate sgm-calibration sgm-middlebury sgm-photo sgm-page sgm-heights sgm-stretch sgm-cubic-metres \
+    sgm-site-pose sgm-export-grid sgm-export-points sgm-change-volumes sgm-cell-pixels sgm-check-trace sgm-explain-pixel sgm-series-left \
+    sgm-merge-check

@@ -51,7 +51,7 @@ output where --out isn't given. Needs Python alone, and numpy for --heights.
 import csv
 import sys
 
-from sgm_tools.running import need, numpy, progress, run
+from sgm_tools.running import need, numpy, progress, run, tool_name
 from sgm_tools.volumes import COVERED, Ground, made
 from sgm_tools.words import add_digits, parser_of
 
@@ -77,7 +77,7 @@ def main() -> None:
     lines = made(words.file, asked, words.digits)
     progress("")
     if words.heights is not None:
-        print(f"cubic_metres: {COVERED}", file=sys.stderr)
+        print(f"{tool_name()}: {COVERED}", file=sys.stderr)
     if words.out is None:
         csv.writer(sys.stdout, lineterminator="\n").writerows(lines)
     else:

@@ -4,10 +4,12 @@
     tools/site_pose.py CALIB.json OUT.pgm POINTS.csv [--check NAME,..] [--write OUT.json]
     tools/site_pose.py CALIB.json OUT.pgm --level COL,ROW,COLS,ROWS .. [--height METRES] [--write OUT.json]
     tools/site_pose.py CALIB.json --camera E N H --look E N H [--roll DEGREES] [--write OUT.json]
+    tools/site_pose.py CALIB.json --earlier EARLIER.asc LATER.asc [--still NAME,..] [--write OUT.json]
 
 With a pose a camera may look aslant from anywhere, and all surveys of a site are in one frame, in metres from a
 point of the site within 2 km. The calibration is one of version 3 with a camera; a pose that it has already is put
-aside. The last line that is printed is the section `pose`, and --write writes the calibration with it.
+aside, but for --earlier. The last line that is printed is the section `pose`, and --write writes the calibration with
+it.
 
 From control points. POINTS.csv has the head name,x,y,east,north,up and a line for each target, at least three that
 don't lie on one line, better six or more all over the picture and of different heights. x and y are its column and
@@ -30,6 +32,13 @@ which is where the rectified picture shows cx, cy of the calibration, and --roll
 clockwise, as seen from behind it. With 0 the right of the picture is level; where the camera looks straight down it is
 east.
 
+From an earlier survey. --earlier brings a pose that the calibration has, of targets for instance, into the frame of an
+earlier survey of the same grid, by what stayed as it was: EARLIER.asc is that survey, LATER.asc this one, matched with
+CALIB.json. Still are the regions whose name begins with `ground`, or those that --still names. The plane through how
+much higher LATER.asc lies there is taken off, by a turn about the middle of those cells and a shift upwards. It is one
+of least squares, without the cells that lie more than three spreads from it. How far the still cells move is printed in
+mm and mm/m, and refused where that is more than --worst. East, north and the turn about the upright are kept.
+
 Coordinates of a map go beyond 2 km. --offset says what the origin of the site's frame has there, and --epsg in which
 system; both go into site.json beside the file of --write, or where --site says, for tools/export_grid.py and
 tools/export_points.py. With --map-coordinates the points, or --camera and --look, have that offset in them, and it is
@@ -37,11 +46,12 @@ taken off.
 
 It ends with 0 where it is done, 1 where a file can't be read, used or written, and 2 for wrong words. Others are:
 
-- 3: a place, or a level region, has too few disparities, or lies in no picture
+- 3: a place, or a level region, has too few disparities, or lies in no picture; still ground has too few heights
 - 4: fewer than three points
-- 5: the points lie on one line
+- 5: the points, or the still cells, lie on one line
 - 6: the points are mirrored
-- 7: a point that has a part in the pose lies farther from its place than --worst; a check point has a warning
+- 7: a point that has a part in the pose, or a still cell, lies farther from its place than --worst; a check point has a
+  warning
 - 8: the calibration isn't of version 3
 - 9: the pose goes beyond the ranges of a calibration
 
@@ -59,8 +69,9 @@ from typing import NoReturn
 
 from sgm_tools.calibrations import calibration_text
 from sgm_tools.files import read_disparities, read_json
+from sgm_tools.grids import read_grid
 from sgm_tools.kinds import Json
-from sgm_tools.points import Points, Pose
+from sgm_tools.points import Points, Pose, pose_of
 from sgm_tools.poses import (
     NO_PLACE,
     OLD_VERSION,
@@ -81,6 +92,7 @@ from sgm_tools.poses import (
 )
 from sgm_tools.running import Wrong, need, numpy, progress, run
 from sgm_tools.site import Site, add_words
+from sgm_tools.still import Still, Tilt, brought_back, still_of, tilt_of
 from sgm_tools.words import metres_word, number_word, parser_of
 
 
@@ -161,6 +173,32 @@ def from_camera(words: argparse.Namespace, _: Json, points: Points) -> Pose:
     return aimed_pose(centre, aim, words.roll, points.mount)
 
 
+def from_earlier(words: argparse.Namespace, calibration: Json, _: Points) -> Pose:
+    """The calibration's pose, brought to the still ground of an earlier survey; prints what it moves."""
+    pose = pose_of(calibration)
+    if pose is None:
+        raise Wrong(f"{words.calibration}: it has no pose yet: targets or level ground give one")
+    earlier, later = (read_grid(name) for name in words.earlier)
+    still = still_of(calibration, earlier, later, words.still)
+    tilt = tilt_of(still)
+    worst = float(abs(tilt.at(still.places))[tilt.kept].max()) / 1000
+    progress("")
+    print("\n".join(still_lines(still, tilt)))
+    print(f"still cells move by {worst:.1f} mm at most", flush=True)
+    if worst > words.worst:
+        raise Wrong(f"a still cell lies {worst:.1f} mm from the earlier survey, --worst is {words.worst:g}", TOO_FAR)
+    return brought_back(pose, tilt)
+
+
+def still_lines(still: Still, tilt: Tilt) -> tuple[str, str]:
+    """What the still ground says of the two surveys."""
+    off = (still.higher - tilt.at(still.places))[tilt.kept]
+    spread = float(numpy.sqrt((off**2).mean())) / 1000
+    kept = f"{int(tilt.kept.sum())} of {len(tilt.kept)} still cells lie {spread:.1f} mm from a plane (root mean square)"
+    rises = f"{1000 * tilt.east:+.2f} mm/m to the east, {1000 * tilt.north:+.2f} mm/m to the north"
+    return kept, f"the later survey is {tilt.higher / 1000:+.1f} mm higher in their middle, rising {rises}"
+
+
 # Words
 
 
@@ -180,7 +218,8 @@ def words_of() -> argparse.Namespace:
     epilog = """example:
   tools/site_pose.py calibration.json heap.pgm targets.csv --photograph --check T4,T7 --write posed.json
   tools/site_pose.py calibration.json heap.pgm --level 20,150,80,40 --level 240,160,60,40 --write posed.json
-  tools/site_pose.py calibration.json --camera 12.40 -3.15 8.02 --look 18.00 4.50 0.30 --write posed.json"""
+  tools/site_pose.py calibration.json --camera 12.40 -3.15 8.02 --look 18.00 4.50 0.30 --write posed.json
+  tools/site_pose.py posed.json --earlier may.asc june.asc --write june.json"""
     parser = parser_of(__doc__, epilog, ("It ends", "- 3:"))
     option = parser.add_argument
     option("calibration", metavar="CALIB.json", help="the calibration, of version 3")
@@ -192,7 +231,7 @@ def words_of() -> argparse.Namespace:
     option("--check", metavar="NAMES", action="append", default=[], help=check)
     window = "side of the window of disparities around a place, in pixels, odd (7)"
     option("--window", type=window_word, default=7, metavar="PIXELS", help=window)
-    worst = "how far a point may lie from its place, in millimetres (50)"
+    worst = "how far a point or a still cell may lie from its place, in millimetres (50)"
     option("--worst", type=number_word(0, 1e9), default=50.0, metavar="MILLIMETRES", help=worst)
     scale = "how far from 1 the scale may be before there is a warning (0.002)"
     option("--scale", type=number_word(0, 1), default=0.002, metavar="PART", help=scale)
@@ -209,6 +248,10 @@ def words_of() -> argparse.Namespace:
     option("--look", type=metres_word, nargs=3, metavar=place, help=look)
     roll = "by how much the camera is turned clockwise, as seen from behind it (0)"
     option("--roll", type=number_word(-360, 360), metavar="DEGREES", help=roll)
+    earlier = "what an earlier survey and this one have written, of one grid"
+    option("--earlier", nargs=2, metavar=("EARLIER.asc", "LATER.asc"), help=earlier)
+    still = "regions that stayed as they were, separated by commas (those whose name begins with ground)"
+    option("--still", metavar="NAMES", action="append", default=[], help=still)
     option("--write", metavar="OUT.json", help="the calibration with the pose")
     add_words(option, "where --offset and --epsg go (site.json beside OUT.json)")
     off = "points, camera and look have the offset in them"
@@ -218,25 +261,41 @@ def words_of() -> argparse.Namespace:
     return words
 
 
-def check_words(words: argparse.Namespace, error: Callable[[str], NoReturn]) -> None:
-    """Ends where the words don't belong together; chooses the way to a pose."""
-    words.check = [name for names in words.check for name in names.split(",") if name]
-    if words.camera is not None:
+def names_in(words: list[str]) -> list[str]:
+    """The names of words that each have some, separated by commas."""
+    return [name for names in words for name in names.split(",") if name]
+
+
+def choose_way(words: argparse.Namespace, error: Callable[[str], NoReturn]) -> None:
+    """The way to a pose that the words ask for; ends where they ask for two, or where one is without its words."""
+    if words.earlier is not None:
+        if words.disparities is not None or words.level or words.camera is not None:
+            error("--earlier takes neither disparities nor --level or --camera")
+        words.way = from_earlier
+    elif words.camera is not None:
         if words.look is None:
             error("--camera needs --look")
         if words.disparities is not None or words.level:
             error("--camera takes neither disparities nor --level")
         words.way, words.roll = from_camera, words.roll or 0.0
-    elif words.look is not None or words.roll is not None:
-        error("--look and --roll need --camera")
     elif words.level:
         if words.disparities is None or words.points is not None:
             error("--level needs CALIB.json and OUT.pgm and takes no points")
         words.way = from_level
     else:
         if words.points is None:
-            error("OUT.pgm and POINTS.csv, --level or --camera needed")
+            error("OUT.pgm and POINTS.csv, --level, --camera or --earlier needed")
         words.way = from_points
+
+
+def check_words(words: argparse.Namespace, error: Callable[[str], NoReturn]) -> None:
+    """Ends where the words don't belong together."""
+    words.check, words.still = map(names_in, (words.check, words.still))
+    choose_way(words, error)
+    if words.still and words.way != from_earlier:
+        error("--still needs --earlier")
+    if words.way != from_camera and (words.look is not None or words.roll is not None):
+        error("--look and --roll need --camera")
     if words.height is not None and words.way != from_level:
         error("--height needs --level")
     words.height = words.height or decimal.Decimal(0)
@@ -244,8 +303,8 @@ def check_words(words: argparse.Namespace, error: Callable[[str], NoReturn]) -> 
         error("--photograph, --check and --upwards need points")
     if words.map_coordinates and words.offset is None:
         error("--map-coordinates needs --offset")
-    if words.map_coordinates and words.way == from_level:
-        error("--map-coordinates: level ground has none")
+    if words.map_coordinates and words.way in (from_level, from_earlier):
+        error("--map-coordinates: level or still ground has none")
     words.taken_off = words.offset if words.map_coordinates else (0, 0)
     has_site = words.offset is not None or words.epsg is not None
     if words.site is not None and not has_site:

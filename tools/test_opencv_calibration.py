@@ -396,6 +396,12 @@ class WithoutDistortion(unittest.TestCase):
         for given, options, line in [
             (without("M2", "D1"), LIMITS, "D1 and K2 missing"),
             (without("T"), LIMITS, "T missing"),
+            # The program's own calibration, say.
+            (
+                {"version": 3, "camera": {"focal": 40960}},
+                LIMITS,
+                "given.json: not a stereo calibration of OpenCV: it has no camera matrix (K1 or M1)",
+            ),
             (without("imageSize"), LIMITS, "the size of the pictures is missing: --size WxH"),
             (
                 {**PLAIN, "T": [0.5, 0, 0]},

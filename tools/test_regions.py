@@ -241,10 +241,14 @@ class Planes(unittest.TestCase):
             {**region(SMALL, place=(1, 1, 2, 1)), "name": "Ground"},
             {**region(SMALL), "name": "pile"},
         ]
-        found = tool.ground_cells(
-            {"grid": SMALL, "regions": regions}, grids.Grid(0, 0, 1000, heights, filled)
-        )
+        calibration, grid = {"grid": SMALL, "regions": regions}, grids.Grid(0, 0, 1000, heights, filled)
+        found = tool.ground_cells(calibration, grid)
         self.assertEqual(sorted(found), [(0, 1, 4), (0, 2, 0), (1, 2, 1), (2, 1, 6)])
+        # Those that are named, whatever their names are.
+        self.assertEqual(sorted(tool.ground_cells(calibration, grid, ["Ground"])), [(2, 1, 6)])
+        self.assertEqual(len(list(tool.ground_cells(calibration, grid, ["Ground", "pile"]))), 11)
+        with self.assertRaisesRegex(tool.Wrong, "no region of the calibration has the name field"):
+            list(tool.ground_cells(calibration, grid, ["pile", "field"]))
 
 
 class PlusMinus(unittest.TestCase):

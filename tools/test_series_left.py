@@ -1,7 +1,7 @@
 #!/usr/bin/env python3
 """Tries series_left.py: with the worked example's outputs, cut at each of their lengths, changed and taken away; with
 lists of every kind before the separate reading of them (tests/reference_lists.py); and with a series that was interrupted
-and went on, by the separate implementation (tests/reference_series.py). And series_array.sh."""
+and went on, by the separate implementation (tests/reference_series.py). And series_array.sh and series_merge.sh."""
 
 import os
 import shutil
@@ -20,7 +20,7 @@ from reference_inputs import Ended
 from test_reference import DISPARITY_TEXT, GRID_TEXT, TABLE_TEXT, WORKED
 from sgm_tools import series as tool
 
-SERIES = os.path.join(TESTS, "reference_series.py")
+SERIES, SINGLE = (os.path.join(TESTS, name) for name in ("reference_series.py", "reference.py"))
 # The worked pair's outputs by its calibration, and by the plain settings.
 WHOLE = {"o.pgm": DISPARITY_TEXT, "o.asc": GRID_TEXT, "o.csv": TABLE_TEXT, "p.pgm": b"P5\n5 3\n65535\n" + 15 * b"\0\x10"}
 LIST = b"l.pgm r.pgm c.json o\nl.pgm r.pgm - p\n"
@@ -257,6 +257,52 @@ class Series(Tool):
         with open("/dev/full", "wb") as full:
             done = subprocess.run([sys.executable, os.path.join(HERE, "series_left.py"), "list"], stdout=full, stderr=subprocess.PIPE)
         self.assertEqual((done.returncode, done.stderr), (1, b"series_left: No space left on device\n"))
+
+
+class Grids(Tool):
+    def test_grids(self):
+        """The grids of what is done; the plain settings have none."""
+        self.assertEqual(self.left("--grids"), b"o.asc\n")
+        os.remove("p.pgm")
+        line = "series_left: 1 of 2 entries are left\n"
+        self.assertEqual(self.run_tool("list", "--grids"), (3, b"o.asc\n", line))
+        self.assertEqual(self.run_tool("list", "--grids", "--part", "1/2"), (0, b"o.asc\n", ""))
+        os.remove("o.csv")
+        said = "o.csv: No such file or directory", "p.pgm: No such file or directory", "2 of 2 entries are left"
+        lines = "".join(f"series_left: {it}\n" for it in said)
+        self.assertEqual(self.run_tool("list", "--grids", "--why"), (3, b"", lines))
+
+    def test_calibration_that_is_gone(self):
+        os.remove("c.json")
+        self.assertEqual(self.run_tool("list", "--grids"), (3, b"", "series_left: 1 of 2 entries are left\n"))
+
+    def merge(self, *words, **variables):
+        command = [os.path.join(HERE, "series_merge.sh"), *words]
+        done = subprocess.run(command, capture_output=True, env={"PATH": os.environ["PATH"], **variables})
+        return done.returncode, done.stdout, done.stderr.decode()
+
+    def test_merge(self):
+        """series_merge.sh, without Slurm: what it does with its words and the programs."""
+        for words, line in (
+            ([], "it takes LIST, CALIB and OUT"),
+            (["list", "c.json"], "it takes LIST, CALIB and OUT"),
+            (["list", "c.json", "m", "n"], "it takes LIST, CALIB and OUT"),
+            (["--merge"], "unknown option --merge"),
+        ):
+            self.assertEqual(self.merge(*words), (2, b"", f"series_merge: {line}; --help says more\n"))
+        os.mkdir("tmp")
+        given = {"SGM": SINGLE, "SERIES_LEFT": os.path.join(HERE, "series_left.py"), "TMPDIR": os.path.abspath("tmp")}
+        self.assertEqual(self.merge("list", "c.json", "m", **given), (0, b"merged 9 of 12\n", ""))
+        with open("m.asc", "rb") as file:
+            self.assertEqual(file.read(), GRID_TEXT)
+        self.assertEqual(self.merge("list", "none", "m", **given), (4, b"", "sgm: cannot read calibration\n"))
+        os.remove("m.asc")
+        os.remove("p.pgm")
+        left = "series_left: 1 of 2 entries are left\n"
+        self.assertEqual(self.merge("list", "c.json", "m", **given), (3, b"", left))
+        self.write({"list": LIST + LIST})
+        self.assertEqual(self.merge("list", "c.json", "m", **given), (1, b"", "series_left: entry 2 clashes\n"))
+        self.assertEqual((os.path.exists("m.asc"), os.listdir("tmp")), (False, []))
 
 
 class Array(Tool):

@@ -1,6 +1,6 @@
 #!/usr/bin/env python3
 """Tries site_pose.py: poses are recovered from made-up points to rounding, from level ground and from a known place;
-each refusal, check points, the warning of the scale, and places in the photograph."""
+each refusal, check points, the warning of the scale, places in the photograph, and what stayed as it was."""
 
 import decimal
 import json
@@ -486,11 +486,146 @@ class FromCamera(Tool):
         self.refused(1, line, "--camera", "1", "1", "1", "--look", "1", "1", "1.0009")
 
 
+class FromEarlier(Tool):
+    """Two surveys of rough ground, of which the later one lies by TILT higher: millimetres at the middle of the still
+    ground, and millimetres a metre to the east and to the north. Between the two pieces of ground a heap went away."""
+
+    TILT = (12, 1.5, -0.8)
+    GRID = {"west": -3000000, "south": 2000000, "cell": 250000, "cols": 24, "rows": 20, "keep": "mean", "bridge": 0}
+    REGIONS = {"ground-west": (0, 6), "heap": (6, 12), "Ground-east": (18, 6)}
+    MIDDLE = (0, 4500000)
+
+    def setUp(self):
+        super().setUp()
+        regions = [
+            {"name": name, "col": col, "row": 0, "cols": cols, "rows": 20, "base": 0, "rise_east": 0, "rise_north": 0}
+            for name, (col, cols) in self.REGIONS.items()
+        ]
+        self.calibration = {**CALIBRATION, "pose": POSE.section(), "grid": self.GRID, "regions": regions}
+        self.write_json("c.json", self.calibration)
+        row, col = numpy.mgrid[0:20, 0:24]
+        self.east = -3000000 + 250000 * col + 125000
+        self.north = 2000000 + 250000 * (19 - row) + 125000
+        self.earlier = 7300000 + (col * 7919 + row * 104729) % 400000
+        higher, to_east, to_north = self.TILT
+        away = [at - middle for at, middle in zip((self.east, self.north), self.MIDDLE)]
+        plane = 1000 * higher + to_east * away[0] / 1000 + to_north * away[1] / 1000
+        self.later = numpy.rint(self.earlier + plane).astype(int)
+        self.later[:, 6:18] -= 500000
+        self.write_surveys()
+
+    def write_surveys(self):
+        for name, heights in (("e.asc", self.earlier), ("l.asc", self.later)):
+            head = "ncols 24\nnrows 20\nxllcorner -3000000\nyllcorner 2000000\ncellsize 250000\n"
+            rows = "\n".join(" ".join(map(str, row)) for row in heights.tolist())
+            with open(self.path(name), "w") as file:
+                file.write(f"{head}NODATA_value -2147483648\n{rows}\n")
+
+    def moved(self, found, col, row):
+        """Where the new pose takes what the old one has at a cell of the later survey."""
+        old, new = (numpy.array(it).reshape(3, 3) / ONE for it in (POSE.matrix, found["matrix"]))
+        place = numpy.array([self.east[row, col], self.north[row, col], self.later[row, col]], float)
+        seen = old.T @ (place - [POSE.east, POSE.north, POSE.up])
+        return new @ seen + [found[key] for key in ("east", "north", "up")]
+
+    def brings_back(self, found, micrometres=10):
+        """All corners of both pieces of ground have the earlier heights, and nothing is turned about the upright."""
+        for col, row in ((0, 0), (0, 19), (5, 10), (18, 0), (23, 19), (23, 0)):
+            east, north, up = self.moved(found, col, row)
+            self.assertAlmostEqual(up, self.earlier[row, col], delta=micrometres)
+            # A turn by 1.7 mm a metre moves what lies 0.3 m above the middle by half a millimetre.
+            self.assertLess(math.hypot(east - self.east[row, col], north - self.north[row, col]), 600)
+
+    def test_recovered(self):
+        found, said = self.pose("--earlier", "e.asc", "l.asc")
+        self.brings_back(found)
+        self.assertEqual(said[0], "240 of 240 still cells lie 0.0 mm from a plane (root mean square)")
+        rises = "+1.50 mm/m to the east, -0.80 mm/m to the north"
+        self.assertEqual(said[1], f"the later survey is +12.0 mm higher in their middle, rising {rises}")
+        # The corners are 2.875 m to the east and 2.375 m to the north of the middle.
+        self.assertEqual(said[2:], ["still cells move by 18.2 mm at most"])
+
+    def test_written(self):
+        found, _ = self.pose("--earlier", "e.asc", "l.asc", "--write", "w.json")
+        with open(self.path("w.json")) as file:
+            self.assertEqual(json.load(file), {**self.calibration, "pose": found})
+
+    def test_the_same(self):
+        """Where nothing is higher the pose stays as it is."""
+        self.later = self.earlier
+        self.write_surveys()
+        found, said = self.pose("--earlier", "e.asc", "l.asc")
+        self.is_near(found, POSE)
+        self.assertEqual(said[2], "still cells move by 0.0 mm at most")
+
+    def test_what_moved_has_no_part(self):
+        """A corner of the ground, a fifth of it, that was built upon, and cells with a height in one survey alone."""
+        self.later[:8, 18:24] += 400000
+        self.later[15:17, 0:3] = -(2**31)
+        self.earlier[17:19, 0:3] = -(2**31)
+        self.write_surveys()
+        found, said = self.pose("--earlier", "e.asc", "l.asc")
+        self.assertEqual(said[0], "180 of 228 still cells lie 0.0 mm from a plane (root mean square)")
+        self.later[:8, 18:24] -= 400000
+        self.brings_back(found)
+
+    def test_named(self):
+        """The heap alone, as if it were still: it lies half a metre lower."""
+        status, out, err = self.run_tool("c.json", "--earlier", "e.asc", "l.asc", "--still", "heap")
+        self.assertEqual((status, out.splitlines()[0].split()[:3]), (poses.TOO_FAR, ["240", "of", "240"]))
+        # -500 + 12 mm in the middle, and 1.375 m and 2.375 m to the corner.
+        self.assertIn("is -488.0 mm higher in their middle", out)
+        self.assertEqual(err, "site_pose: a still cell lies 492.0 mm from the earlier survey, --worst is 50\n")
+        words = ("--earlier", "e.asc", "l.asc", "--still", "ground-west,Ground-east")
+        self.assertEqual(self.pose(*words), self.pose("--earlier", "e.asc", "l.asc"))
+        self.refused(1, "no region of the calibration has the name hill", *words[:3], "--still", "heap,hill")
+
+    def test_worst(self):
+        words = ("--earlier", "e.asc", "l.asc", "--write", "w.json", "--worst")
+        line = "a still cell lies 18.2 mm from the earlier survey, --worst is 18"
+        self.assertEqual(len(self.refused(poses.TOO_FAR, line, *words, "18").splitlines()), 3)
+        self.assertFalse(os.path.exists(self.path("w.json")))
+        self.pose(*words, "18.3")
+
+    def test_on_a_line(self):
+        self.calibration["regions"][2]["name"] = "field"
+        self.calibration["regions"][0]["cols"] = 1
+        self.write_json("c.json", self.calibration)
+        line = "the still ground lies on one line, and fixes no tilt across it"
+        self.refused(poses.ON_A_LINE, line, "--earlier", "e.asc", "l.asc")
+
+    def test_too_few(self):
+        self.later[:, 0:6] = -(2**31)
+        self.earlier[:, 18:24] = -(2**31)
+        self.later[0, 18:20] = self.earlier[0, 18:20] = 7000000
+        self.write_surveys()
+        line = "2 cells of still ground have a height in both surveys, 3 at least"
+        self.refused(poses.NO_PLACE, line, "--earlier", "e.asc", "l.asc")
+
+    def test_without_a_pose(self):
+        del self.calibration["pose"]
+        self.write_json("c.json", self.calibration)
+        line = "c.json: it has no pose yet: targets or level ground give one"
+        self.refused(1, line, "--earlier", "e.asc", "l.asc")
+
+    def test_another_grid(self):
+        self.calibration["grid"] = {**self.GRID, "south": 2250000}
+        self.write_json("c.json", self.calibration)
+        line = "the calibration's grid isn't that of the heights: is it the calibration of this survey?"
+        self.refused(1, line, "--earlier", "e.asc", "l.asc")
+
+
 class Words(Tool):
     def test_wrong(self):
+        needed = "OUT.pgm and POINTS.csv, --level, --camera or --earlier needed"
+        others = "--earlier takes neither disparities nor --level or --camera"
         for words, line in [
-            ((), "OUT.pgm and POINTS.csv, --level or --camera needed"),
-            (("o.pgm",), "OUT.pgm and POINTS.csv, --level or --camera needed"),
+            ((), needed),
+            (("o.pgm",), needed),
+            (("o.pgm", "p.csv", "--earlier", "e.asc", "l.asc"), others),
+            (("--earlier", "e.asc", "l.asc", "--camera", "0", "0", "0", "--look", "0", "1", "0"), others),
+            (("--earlier", "e.asc", "l.asc", "--check", "A"), "--photograph, --check and --upwards need points"),
+            (("o.pgm", "p.csv", "--still", "ground"), "--still needs --earlier"),
             (("o.pgm", "p.csv", "--level", "0,0,1,1"), "--level needs CALIB.json and OUT.pgm and takes no points"),
             (("--level", "0,0,1,1"), "--level needs CALIB.json and OUT.pgm and takes no points"),
             (

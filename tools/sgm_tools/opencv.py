@@ -94,6 +94,8 @@ def read_calibration(files: Sequence[str], size: Size | None) -> Json:
             parts[part] = flat(given[0])
             if len(parts[part]) not in COUNTS[part]:
                 raise Wrong(f"{part} has {len(parts[part])} numbers")
+    if not parts:
+        raise Wrong(f"{files[0]}: not a stereo calibration of OpenCV: it has no camera matrix (K1 or M1)")
     rectified = {"R1", "R2", "P1", "P2"} & set(parts)
     missing = {"K1", "D1", "K2", "D2", "R", "T"} - set(parts)
     if missing and not (missing <= {"R", "T"} and len(rectified) == 4):

@@ -77,10 +77,15 @@ def changed(grid: Grid) -> tuple[Greys, tuple[int, int] | None]:
     if not grid.filled.any():
         return numpy.zeros((*grid.heights.shape, 3), numpy.uint8), None
     darkest = darkest_of(grid)
-    part = grid.heights.clip(-darkest, darkest)[..., None]
+    return blue_and_red(grid.heights, grid.filled, darkest), (-darkest, darkest)
+
+
+def blue_and_red(differences: Ints, filled: Flags, darkest: int) -> Greys:
+    """The colours of differences, of which those that are as great, up or down, have the darkest."""
+    part = differences.clip(-darkest, darkest)[..., None]
     red, blue, white = (numpy.array(it, numpy.int64) for it in (RED, BLUE, (250, 250, 250)))
     colours = white + (numpy.where(part > 0, red, blue) - white) * abs(part) // darkest
-    return numpy.where(grid.filled[..., None], colours, 0).astype(numpy.uint8), (-darkest, darkest)
+    return numpy.where(filled[..., None], colours, 0).astype(numpy.uint8)
 
 
 def drawn(grid: Grid) -> tuple[Greys, tuple[int, int] | None]:

@@ -247,15 +247,28 @@ class Plane:
         return rounded(rest, RISE_UNIT * self.n), east, north
 
 
-def ground_cells(calibration: Json, grid_of_heights: Grid) -> Iterator[tuple[int, int, int]]:
-    """The column, the row from the south and the height of each cell of the regions whose name
-    begins with `ground`; a cell of two such regions comes once."""
+def grounds_in(calibration: Json, names: Sequence[str]) -> Iterator[Json]:
+    """The regions of these names, or without any those whose name begins with `ground`."""
+    regions = regions_in(calibration)
+    missing = set(names) - {str(region.get("name")) for region in regions}
+    if missing:
+        raise Wrong(f"no region of the calibration has the name {min(missing)}")
+    for region in regions:
+        name = str(region.get("name"))
+        if name in names or not names and name.lower().startswith("ground"):
+            yield region
+
+
+def ground_cells(
+    calibration: Json, grid_of_heights: Grid, names: Sequence[str] = ()
+) -> Iterator[tuple[int, int, int]]:
+    """The column, the row from the south and the height of each cell of the ground's regions
+    (grounds_in); a cell of two such regions comes once."""
     grid = grid_in(calibration)
     heights, filled = grid_of_heights.heights, grid_of_heights.filled
     cells: dict[tuple[int, int], None] = {}
-    for region in regions_in(calibration):
-        if str(region.get("name")).lower().startswith("ground"):
-            cells |= dict.fromkeys(cells_of(region, grid))
+    for region in grounds_in(calibration, names):
+        cells |= dict.fromkeys(cells_of(region, grid))
     for col, row in cells:
         if filled[row, col]:
             yield col, grid["rows"] - 1 - row, int(heights[row, col])

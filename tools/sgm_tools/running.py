@@ -73,7 +73,8 @@ def need(**modules: object) -> None:
         names = DEBIAN_PACKAGES if IS_BESIDE_SCRIPTS else PIP_PACKAGES
         packages = " ".join(names[name] for name in missing)
         how = f"apt-get install {packages} on Debian" if IS_BESIDE_SCRIPTS else f"pip install {packages}"
-        raise Wrong(f"{' and '.join(missing)} of Python needed: {how}")
+        named = " and ".join([", ".join(missing[:-1])] * (len(missing) > 1) + missing[-1:])
+        raise Wrong(f"{named} of Python needed: {how}")
 
 
 def need_for_tests(**modules: object) -> None:

@@ -6,7 +6,7 @@ import functools
 import os
 import re
 import stat
-from collections.abc import Sequence
+from collections.abc import Iterator, Sequence
 from typing import Any, BinaryIO, NamedTuple
 
 from sgm_tools.calibrations import regions_in, whole
@@ -55,8 +55,8 @@ def first_clash(entries: Sequence[Entry], name: bytes) -> int | None:
     return None
 
 
-def read_list(name: str) -> list[Entry]:
-    """The entries of the list, or a Wrong with the program's words on its first fault."""
+def lines_of(name: str) -> Iterator[tuple[int, list[bytes]]]:
+    """The number of each line of a list and its words, or a Wrong with the program's words."""
     with open(name, "rb") as file:
         data = file.read(LONGEST_LIST + 1)
     if len(data) > LONGEST_LIST:
@@ -65,9 +65,14 @@ def read_list(name: str) -> list[Entry]:
         data.decode("utf-8")
     except UnicodeDecodeError:
         raise Wrong("list is not text")
-    entries = []
     for number, line in enumerate(data.split(b"\n"), 1):
-        words = WORD.findall(line)
+        yield number, WORD.findall(line)
+
+
+def read_list(name: str) -> list[Entry]:
+    """The entries of the list, or a Wrong with the program's words on its first fault."""
+    entries = []
+    for number, words in lines_of(name):
         if len(words) not in (0, 4):
             raise Wrong(f"line {number} does not have four words")
         entries += [Entry(*words)] if words else []
@@ -168,6 +173,11 @@ def check_report(name: str, regions: Sequence[str]) -> None:
     # A line that is cut within its last number looks like a line.
     if not is_ended or len(found) < len(regions):
         raise Wrong(f"{name}: cut short")
+
+
+def has_grid(entry: Entry) -> bool:
+    """Whether the entry's calibration, which can be read, asks for a grid."""
+    return wanted_by(entry.calib).head is not None
 
 
 def fault(entry: Entry) -> str | None:
