@@ -10,9 +10,10 @@ true one, by the chessboard's calibration within 1 percent, and the heights of p
 within a quarter of a depth step.
 
 With --more the same is asked of eight other places of the cameras, which tests/camera_places.py draws, each with noise
-of its own: of all of them, but for the height on the crate. The settings are the guide's, which were chosen when its
-own place alone had been tried, but for `far`, which goes by the place: with the guide's 11 m for all, one volume was
-0.88 percent off by the cameras as they are. The program is the one that the variable SGM names (./sgm of this
+of its own, but for the height on the crate, and 1.5 percent by the chessboard. One height by the chessboard was
+13 percent beyond that when this was written, so with --more the status is 1. The settings are the guide's, which were
+chosen when its own place alone had been tried, but for `far`, which goes by the place: with the guide's 11 m for all,
+one volume was 0.88 percent off by the cameras as they are. The program is the one that the variable SGM names (./sgm of this
 repository without it). Takes a minute, with --more some minutes.
 """
 
@@ -31,8 +32,9 @@ import make_photographs as made
 from sgm_tools import files, running
 from sgm_tools.running import Wrong
 
-# The most that the volume may be off, in percent, by each of the three ways.
+# The most that the volume may be off, in percent, by each of the three ways, from the guide's place and from others.
 MOST = (0.7, 0.7, 1.0)
+MOST_ELSEWHERE = (0.7, 0.7, 1.5)
 # The last of the places whose heights are looked at is the crate's middle. From other places than the guide's it is
 # told and not asked for: the plate there is plain, and covers most of the crate's top.
 ON_GROUND_AND_HEAP = len(compare_photographs.PLACES) - 1
@@ -55,9 +57,9 @@ def found_from(folder, rig, number):
     return compare_photographs.compare(other, rig)
 
 
-def misses(place, found, count):
+def misses(place, found, bounds, count):
     """Lines about what isn't near enough to the truth; of the heights so many are asked for."""
-    for name, it, most in zip(compare_photographs.NAMES, found, MOST):
+    for name, it, most in zip(compare_photographs.NAMES, found, bounds):
         if abs(it.error) > most:
             yield f"{place}, {name}: the volume is {it.error:+.2f} % off, {most} at most"
         if max(it.parts[:count]) > 1:
@@ -88,7 +90,8 @@ def main():
             every[f"place {number}"] = found_from(folder, rig, number)
     missed = []
     for number, (place, found) in enumerate(every.items()):
-        missed += misses(place, found, ON_GROUND_AND_HEAP if number else len(compare_photographs.PLACES))
+        bounds, count = (MOST_ELSEWHERE, ON_GROUND_AND_HEAP) if number else (MOST, len(compare_photographs.PLACES))
+        missed += misses(place, found, bounds, count)
     summary(every.values())
     if missed:
         raise Wrong("\n".join(missed))
