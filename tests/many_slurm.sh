@@ -157,6 +157,8 @@ merge_behind() {
 waits_for_array() { [ "$(squeue -h -j "$merge" -o '%t %r')" = "PD Dependency" ]; }
 # shellcheck disable=SC2317
 has_merged() { [ -z "$(squeue -h -j "$merge" 2>/dev/null)" ]; }
+# The queue can be silent about a merge that has yet to start, while a task before it is taken back.
+has_written() { has_merged && [ -s "$work/top/slurm-$merge.out" ]; }
 
 if has_merge; then
     # Two entries are refused, so one task ends with 3, and the merge is taken away.
@@ -176,7 +178,7 @@ if has_merge; then
     awaited "the task is taken back once more" is_taken_back
     is "whether the merge waits on" "$(squeue -h -j "$merge" -o '%t %r')" "PD Dependency"
     scontrol update "jobid=${job}_3" StartTime=now
-    awaited "the merge has ended" has_merged || scancel "$merge"
+    awaited "the merge has ended" has_written || scancel "$merge"
     left_are "a merge behind an array"
     "$left_of" --grids "$survey/list" >"$work/grids"
     merged=$("$SGM" merge "$work/grids" "$survey/calibration.json" "$work/merged")
