@@ -252,7 +252,7 @@ SummaryAlone (ReadFault i) = Unit {0}
 SummaryAlone NoMemory = Unit {0}
 
 -- a run that touches no file, and is to write none, leaves them as they should stand
-none_put : (v : Verdict) (outcome : Outcome) (old : Held) → outputs_of v ≡ [] → SummaryAlone outcome → FilesPut outcome v old old
+pub none_put : (v : Verdict) (outcome : Outcome) (old : Held) → outputs_of v ≡ [] → SummaryAlone outcome → FilesPut outcome v old old
 none_put v Done old none only = rw none refl
 none_put v (Usage fault) old none only = refl
 none_put v (Refused refusal) old none only = refl
@@ -260,8 +260,9 @@ none_put v (ReadFault i) old none only = refl
 none_put v (WriteFault output) old none only = inr (only, rw none refl)
 none_put v NoMemory old none only = inl refl
 
-pub demo_put : (number : ℕ) (refine : Refining) (v : Verdict) (outcome : Outcome) (old : Held) → demoed number refine ≡ v → SummaryAlone outcome → FilesPut outcome v old old
-demo_put number refine v outcome old is only = none_put v outcome old (sym (ap (λ (x : Verdict). outputs_of x) is) ∙ alone_files (demo_for number refine)) only
+-- a demo writes no file
+pub demo_outputs : (number : ℕ) (refine : Refining) (v : Verdict) → demoed number refine ≡ v → outputs_of v ≡ []
+demo_outputs number refine v is = sym (ap (λ (x : Verdict). outputs_of x) is) ∙ alone_files (demo_for number refine)
 
 outputs_fetched : (i : Input) (held : Option (List ℕ)) (next : Verdict) → outputs_of next ≡ [] → outputs_of (fetched i held next) ≡ []
 outputs_fetched i None next none = refl
@@ -282,10 +283,6 @@ trace_outputs asked dir x y d held v calls =
     sym (ap (λ (w : Verdict). outputs_of w) calls.is)
     ∙ outputs_traced asked held _ (alone_files (certificate_for calls.readings.left calls.readings.right (calib_of asked calls.readings) dir x y d))
 
-pub trace_put : (asked : Operands) (dir : Dir) (x y d : ℕ) (held new : Held) (v : Verdict) (outcome : Outcome) → TraceCallsFor asked dir x y d held v → SummaryAlone outcome → new ≡ held → FilesPut outcome v held new
-trace_put asked dir x y d held new v outcome calls only same =
-    let P : Held → Type 0 = λ h. FilesPut outcome v held h in subst P (sym same) (none_put v outcome held (trace_outputs asked dir x y d held v calls) only)
-
 pub summary_alone : (outcome : Outcome) (before now : Faults) → OutCountsShow outcome before now → SummaryAlone outcome
 summary_alone Done before now counts = tt
 summary_alone (Usage fault) before now counts = tt
@@ -293,15 +290,6 @@ summary_alone (Refused refusal) before now counts = tt
 summary_alone (ReadFault i) before now counts = tt
 summary_alone (WriteFault output) before now counts = counts.0
 summary_alone NoMemory before now counts = tt
-
-pub trace_summary_alone : (asked : Operands) (outcome : Outcome) (before now : Faults) → CountsShow (of_trace asked) outcome before now → SummaryAlone outcome
-trace_summary_alone asked Done before now counts = tt
-trace_summary_alone asked (Usage fault) before now counts = tt
-trace_summary_alone asked (Refused refusal) before now counts = tt
-trace_summary_alone asked (ReadFault i) before now counts = tt
-trace_summary_alone asked (WriteFault output) before now (inl rose) = absurd rose.is_name
-trace_summary_alone asked (WriteFault output) before now (inr out) = out.0
-trace_summary_alone asked NoMemory before now counts = tt
 
 -- the counts of a run that reads and writes no file show its outcome, whatever the names
 pub out_counts : (names : FileNames) (outcome : Outcome) (before now : Faults) → OutCountsShow outcome before now → CountsShow names outcome before now

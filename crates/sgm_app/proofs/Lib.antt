@@ -4,6 +4,7 @@ pub mod Completing
 pub mod Counting
 pub mod Delivering
 pub mod Early
+pub mod Ending
 pub mod EntryLaws
 pub mod Filing
 pub mod FirstAbsent
@@ -21,3 +22,4 @@ pub mod Steps
 pub mod Stopping
 pub mod Tallied
 pub mod VerdictLaws
+pub mod WordsEnding

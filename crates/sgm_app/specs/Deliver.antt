@@ -8,11 +8,16 @@ use Rattle.sgm_words.specs.declared.files.Output.TheVariants.{Summary}
 use Rattle.sgm_outcome.specs.declared.outcome.Outcome.{Outcome}
 use Rattle.sgm_outcome.specs.declared.outcome.Outcome.TheVariants.{Done, Usage, Refused, ReadFault, WriteFault, NoMemory}
 use Rattle.sgm_app.specs.Outputs.{OutputFile, IsNamed}
-use Rattle.sgm_app.specs.Verdict.{Verdict, outputs_of}
+use Rattle.sgm_app.specs.Verdict.{Verdict, files, outputs_of}
 use Rattle.sgm_app.specs.Ends.{CountsShow, Faults}
 use Rattle.sgm_app.specs.Stops.{write_outcome}
+use Rattle.sgm_app.specs.declared.files.Delivery.{Delivery}
 use Rattle.sgm_app.specs.declared.stops.WriteStop.{WriteStop}
 use Rattle.sgm_app.specs.declared.stops.WriteStop.TheVariants as stop
+
+-- the verdict that a delivery is for
+abbrev pub delivered_by : Delivery → Verdict
+delivered_by delivery = files delivery.files.items delivery.summary.items
 
 -- ---- what is held
 

@@ -3,11 +3,13 @@ use Rattle.std.specs.Prelude.{◌≡◌, ◌≢◌, ◌⊎◌, ℕ, ◌+◌, ◌
 use Rattle.sgm_io.specs.Held.{Held, IsPrefix}
 use Rattle.sgm_io.specs.Counts.{Counts, NoneFell, RoseAt, Rose}
 use Rattle.sgm_io.specs.Sink.{GrowsByPrefix}
+use Rattle.sgm_io.specs.declared.shelf.Shelf as shelf
+use Rattle.sgm_io.specs.declared.sink.Sink as sink
 use Rattle.sgm_list.specs.Names.{names_in}
-use Rattle.sgm_words.specs.Operands.{FileNames, MergeOperands, merge_operands, names_of, IsInputName, IsOutputName}
+use Rattle.sgm_words.specs.Operands.{FileNames, of_none, of_match, of_trace, of_change, of_merge}
+use Rattle.sgm_words.specs.Operands.{MergeOperands, merge_operands, names_of, IsInputName, IsOutputName}
 use Rattle.sgm_words.specs.declared.usage.UsageFault.{UsageFault}
 use Rattle.sgm_words.specs.declared.options.Options.{Options}
-use Rattle.sgm_words.specs.declared.options.Options.TheVariants as options
 use Rattle.sgm_words.specs.declared.files.Input.{Input}
 use Rattle.sgm_words.specs.declared.files.Input.TheVariants as input
 use Rattle.sgm_words.specs.declared.files.Output.{Output}
@@ -131,6 +133,14 @@ pub record Faults : Type 0 where
 abbrev pub faults : Counts → Counts → ℕ → Faults
 faults reads writes out = record { reads = reads; writes = writes; out = out }
 
+-- those of a shelf and of an `out` that has counted so many
+abbrev pub shelf_faults : {S : Type 0} → shelf.Ghosts S → S → ℕ → Faults
+shelf_faults s files out = faults (s.read_faults files) (s.write_faults files) out
+
+-- those of a shelf and of an `out`
+abbrev pub faults_at : {S O : Type 0} → shelf.Ghosts S → sink.Ghosts O → S → O → Faults
+faults_at s o files out = shelf_faults s files (o.faults out)
+
 -- no count changed
 pub record SameFaults (before now : Faults) : Type 0 where
   pub reads : now.reads ≡ before.reads
@@ -196,16 +206,25 @@ abbrev pub RunCounts : Result Options UsageFault → List (List ℕ) → Option 
 RunCounts (Err fault) words told outcome before now = (outcome ≡ Usage fault) × SameFaults before now
 RunCounts (Ok options) words told outcome before now = CountsShow (run_names options words told) outcome before now
 
--- which name is being written after an outcome: where no file is written, the one that was being written before
-abbrev pub RunWriting : Result Options UsageFault → Outcome → Option (List ℕ) → Option (List ℕ) → Type 0
-RunWriting (Err fault) outcome old new = new ≡ old
-RunWriting (Ok (options.Match strips workers refine)) outcome old new = WritingStands outcome old new
-RunWriting (Ok (options.Demo number strips workers refine)) outcome old new = new ≡ old
-RunWriting (Ok (options.Trace dir x y d)) outcome old new = new ≡ old
-RunWriting (Ok options.Change) outcome old new = WritingStands outcome old new
-RunWriting (Ok options.Merge) outcome old new = WritingStands outcome old new
+-- which name is being written after an outcome: where no file is written, the one that was before
+abbrev pub WritingEnds : FileNames → Outcome → Option (List ℕ) → Option (List ℕ) → Type 0
+WritingEnds of_none outcome old new = new ≡ old
+WritingEnds (of_trace asked) outcome old new = new ≡ old
+WritingEnds (of_match asked) outcome old new = WritingStands outcome old new
+WritingEnds (of_change asked) outcome old new = WritingStands outcome old new
+WritingEnds (of_merge asked listed) outcome old new = WritingStands outcome old new
 
--- a stage over the shelf alone: at Ok no count changed; a stop is shown by the counts, whatever `out` has counted
-abbrev pub StageCounts : {T S : Type 0} → (S → Faults → Faults → Type 0) → Result T S → Counts → Counts → Counts → Counts → Type 0
-StageCounts shows (Ok value) reads writes reads' writes' = (reads' ≡ reads) × (writes' ≡ writes)
-StageCounts shows (Err stop) reads writes reads' writes' = (out : ℕ) → shows stop (faults reads writes out) (faults reads' writes' out)
+-- the same over the words
+abbrev pub RunWriting : Result Options UsageFault → List (List ℕ) → Outcome
+    → Option (List ℕ) → Option (List ℕ) → Type 0
+RunWriting (Err fault) words outcome old new = new ≡ old
+RunWriting (Ok options) words outcome old new = WritingEnds (names_of options words None) outcome old new
+
+-- a stage over the shelf alone: at Ok no count changed; a stop is shown by the counts, whatever `out` has
+-- counted
+abbrev pub StageCounts : {T Stop S : Type 0} → (Stop → Faults → Faults → Type 0) → Result T Stop
+    → shelf.Ghosts S → S → S → Type 0
+StageCounts shows (Ok value) s old new =
+    (s.read_faults new ≡ s.read_faults old) × (s.write_faults new ≡ s.write_faults old)
+StageCounts shows (Err stop) s old new =
+    (out : ℕ) → shows stop (shelf_faults s old out) (shelf_faults s new out)

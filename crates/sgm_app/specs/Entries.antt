@@ -1,8 +1,10 @@
 -- Adding the entries of a list to a merge.
-use Rattle.std.specs.Prelude.{◌≡◌, ⊤, ℕ, ◌+◌, List, fold, Option, Result, Ok, Err}
+use Rattle.std.specs.Prelude.{◌≡◌, ⊤, ℕ, ◌+◌, List, fold, slice_get, Option, Some, Result, Ok, Err}
 use Rattle.sgm_grid.specs.Cells.{Cells}
 use Rattle.sgm_io.specs.Held.{Held}
 use Rattle.sgm_merge.specs.Merging.{Merging, with_entry}
+use Rattle.sgm_words.specs.Operands.{FileNames, IsInputName}
+use Rattle.sgm_words.specs.declared.files.Input.TheVariants as input
 use Rattle.sgm_outcome.specs.declared.outcome.Outcome.{Outcome}
 use Rattle.sgm_outcome.specs.declared.outcome.Outcome.TheVariants.{Done, Usage, Refused, ReadFault, WriteFault, NoMemory}
 use Rattle.sgm_app.specs.Ends.{NoneBefore, ShownBy}
@@ -11,6 +13,11 @@ use Rattle.sgm_app.specs.Merging.{MergePlan}
 use Rattle.sgm_app.specs.Outputs.{merge_files_of}
 use Rattle.sgm_app.specs.Verdict.{Verdict, files, entry_fetched, entries_fetched, merged_by}
 use Rattle.sgm_app.specs.declared.merging.MergeTexts.{MergeTexts}
+
+-- the entries with these names are asked for under them
+abbrev pub HaveEntries : List (List ℕ) → FileNames → Type 0
+HaveEntries names known =
+    (k : ℕ) (name : List ℕ) → slice_get names k ≡ Some name → IsInputName known (input.Grid k) name
 
 -- none of the first inputs is absent, and nothing is refused, whatever comes
 abbrev pub NoneEver : {X : Type 0} → (X → Verdict) → Type 0

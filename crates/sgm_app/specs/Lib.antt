@@ -10,9 +10,11 @@ pub mod Inputs
 pub mod Judge
 pub mod Made
 pub mod Merging
+pub mod Moments
 pub mod Outputs
 pub mod Readings
 pub mod Refusals
+pub mod RunEnds
 pub mod Stops
 pub mod Texts
 pub mod Unfinished

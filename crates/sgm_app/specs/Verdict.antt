@@ -3,6 +3,7 @@ use Rattle.std.specs.Prelude.{ℕ, ◌+◌, List, [], ◌∷◌, Bool, true, fal
 use Rattle.sgm_base.specs.Picture.{Picture}
 use Rattle.sgm_base.specs.declared.side.Side.TheVariants as side
 use Rattle.sgm_base.specs.declared.limits.TheConstants.{MAX_IMAGE_BYTES, MAX_CALIB_BYTES}
+use Rattle.sgm_base.specs.declared.limits.TheConstants.{MAX_GRID_BYTES, MAX_LIST_BYTES}
 use Rattle.sgm_io.specs.Held.{Held}
 use Rattle.sgm_pgm.specs.declared.fault.PgmFault.{PgmFault}
 use Rattle.sgm_calib.specs.Calibration.{Calibration, plain}
@@ -11,12 +12,10 @@ use Rattle.sgm_energy.specs.declared.dir.Dir.{Dir}
 use Rattle.sgm_refine.specs.Refining.{Refining}
 use Rattle.sgm_job.specs.Survey.{surveyed}
 use Rattle.sgm_list.specs.Names.{names_reading}
-use Rattle.sgm_list.specs.declared.limits.TheConstants.{MAX_LIST_BYTES}
 use Rattle.sgm_grid.specs.Cells.{Cells}
 use Rattle.sgm_grid.specs.declared.grid_spec.GridSpec.{GridSpec}
 use Rattle.sgm_words.specs.Operands.{Operands, ChangeOperands, MergeOperands, is_plain, is_plain_word}
 use Rattle.sgm_words.specs.declared.usage.UsageFault.{UsageFault}
-use Rattle.sgm_words.specs.declared.files.TheConstants.{MAX_GRID_BYTES}
 use Rattle.sgm_words.specs.declared.files.Input.{Input}
 use Rattle.sgm_words.specs.declared.files.Input.TheVariants as input
 use Rattle.sgm_outcome.specs.declared.outcome.Refusal.{Refusal}

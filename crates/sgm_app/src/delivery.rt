@@ -5,10 +5,12 @@ ghost use Rattle.sgm_words.specs.Operands.{FileNames};
 ghost use Rattle.sgm_outcome.specs.declared.outcome.Outcome.TheVariants.{Done};
 ghost use Rattle.sgm_app.specs.Outputs.{IsNamed};
 ghost use Rattle.sgm_app.specs.Verdict.{files};
-ghost use Rattle.sgm_app.specs.Ends.{StageCounts, ShownBy, OutStands, OutUntouched, WritingStands, CountsShow, OutCountsShow, faults};
+ghost use Rattle.sgm_app.specs.Ends.{ShownBy, OutStands, OutUntouched, WritingStands};
+ghost use Rattle.sgm_app.specs.Ends.{StageCounts, CountsShow, OutCountsShow, faults, faults_at};
 ghost use Rattle.sgm_app.specs.Unfinished.{AreFinished, UnfinishedStands};
 ghost use Rattle.sgm_app.specs.Deliver.{WritesFile, StopsAtFile, EndsWriting, FinishesFile, FileCounts};
-ghost use Rattle.sgm_app.specs.Deliver.{IsDeliveryEnd, WritesFiles, FinishesFiles, FilesCounts, FilesPut};
+ghost use Rattle.sgm_app.specs.Deliver.{IsDeliveryEnd, WritesFiles, FinishesFiles, FilesCounts};
+ghost use Rattle.sgm_app.specs.Deliver.{FilesPut, delivered_by};
 
 use crate::files::{Delivery, OutputText};
 use crate::stops::WriteStop;
@@ -19,9 +21,9 @@ fn write_file<S: Shelf>(shelf: &mut S, file: &OutputText) -> Result<(), WriteSto
     ensures held { IsTrue S.tells → WritesFile file.now result (S.held shelf.old) (S.held shelf.new) }
     ensures stop { StopsAtFile file.now.output result }
     ensures writing { EndsWriting result (S.writing shelf.new) }
-    ensures unfinished { FinishesFile file.now result (S.unfinished shelf.old) (S.unfinished shelf.new) }
-    ensures counts { StageCounts (FileCounts file.now) result
-        (S.read_faults shelf.old) (S.write_faults shelf.old) (S.read_faults shelf.new) (S.write_faults shelf.new) }
+    ensures unfinished { FinishesFile file.now result
+        (S.unfinished shelf.old) (S.unfinished shelf.new) }
+    ensures counts { StageCounts (FileCounts file.now) result S.Shelf shelf.old shelf.new }
 {
     match shelf.create(file.name()) {
         Ok(()) => {}
@@ -43,9 +45,9 @@ fn write_file<S: Shelf>(shelf: &mut S, file: &OutputText) -> Result<(), WriteSto
 fn write_files<S: Shelf>(shelf: &mut S, files: &[OutputText]) -> Result<(), WriteStop>
     ensures held { IsTrue S.tells → WritesFiles files.now result (S.held shelf.old) (S.held shelf.new) }
     ensures writing { 0 < length files.now → EndsWriting result (S.writing shelf.new) }
-    ensures unfinished { FinishesFiles files.now result (S.unfinished shelf.old) (S.unfinished shelf.new) }
-    ensures counts { StageCounts (FilesCounts files.now) result
-        (S.read_faults shelf.old) (S.write_faults shelf.old) (S.read_faults shelf.new) (S.write_faults shelf.new) }
+    ensures unfinished { FinishesFiles files.now result
+        (S.unfinished shelf.old) (S.unfinished shelf.new) }
+    ensures counts { StageCounts (FilesCounts files.now) result S.Shelf shelf.old shelf.new }
 {
     for file in files {
         match write_file(shelf, file) {
@@ -60,19 +62,19 @@ fn write_files<S: Shelf>(shelf: &mut S, files: &[OutputText]) -> Result<(), Writ
 /// of writing that it stopped at, or the shelf's want of memory.
 pub fn deliver<S: Shelf, O: Sink>(shelf: &mut S, out: &mut O, delivery: &Delivery) -> Outcome
     ensures ends { IsDeliveryEnd result }
-    ensures shown { ShownBy (files delivery.now.files.items delivery.now.summary.items) result }
+    ensures shown { ShownBy (delivered_by delivery.now) result }
     ensures files { IsTrue S.tells
-        → FilesPut result (files delivery.now.files.items delivery.now.summary.items) (S.held shelf.old) (S.held shelf.new) }
+        → FilesPut result (delivered_by delivery.now) (S.held shelf.old) (S.held shelf.new) }
     ensures out { IsTrue O.tells
-        → OutStands result (files delivery.now.files.items delivery.now.summary.items) (O.written out.old) (O.written out.new) }
+        → OutStands result (delivered_by delivery.now) (O.written out.old) (O.written out.new) }
     ensures untouched { IsTrue O.tells → OutUntouched result (O.written out.old) (O.written out.new) }
     ensures writing { WritingStands result (S.writing shelf.old) (S.writing shelf.new) }
     ensures unfinished { (names : FileNames) → All (IsNamed names) delivery.now.files.items
         → UnfinishedStands names result (S.unfinished shelf.old) (S.unfinished shelf.new) }
     ensures finished { result ≡ Done → AreFinished delivery.now.files.items (S.unfinished shelf.new) }
-    ensures counts { (names : FileNames) → All (IsNamed names) delivery.now.files.items → CountsShow names result
-        (faults (S.read_faults shelf.old) (S.write_faults shelf.old) (O.faults out.old))
-        (faults (S.read_faults shelf.new) (S.write_faults shelf.new) (O.faults out.new)) }
+    ensures counts { (names : FileNames) → All (IsNamed names) delivery.now.files.items
+        → CountsShow names result
+        (faults_at S.Shelf O.Sink shelf.old out.old) (faults_at S.Shelf O.Sink shelf.new out.new) }
 {
     match write_files(shelf, &delivery.files) {
         Ok(()) => match write_whole(out, &delivery.summary) {
@@ -86,10 +88,11 @@ pub fn deliver<S: Shelf, O: Sink>(shelf: &mut S, out: &mut O, delivery: &Deliver
 /// Writes the summary of a run that writes no file. It takes no memory.
 pub fn deliver_summary<O: Sink>(out: &mut O, summary: &[u8]) -> Outcome
     ensures shown { ShownBy (files [] summary.now) result }
-    ensures out { IsTrue O.tells → OutStands result (files [] summary.now) (O.written out.old) (O.written out.new) }
+    ensures out { IsTrue O.tells
+        → OutStands result (files [] summary.now) (O.written out.old) (O.written out.new) }
     ensures untouched { IsTrue O.tells → OutUntouched result (O.written out.old) (O.written out.new) }
-    ensures counts { (reads writes : Counts)
-        → OutCountsShow result (faults reads writes (O.faults out.old)) (faults reads writes (O.faults out.new)) }
+    ensures counts { (reads writes : Counts) → OutCountsShow result
+        (faults reads writes (O.faults out.old)) (faults reads writes (O.faults out.new)) }
 {
     match write_whole(out, summary) {
         Ok(()) => Outcome::Done,

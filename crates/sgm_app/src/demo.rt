@@ -104,9 +104,11 @@ pub fn run_demo<R: Threads + Sync, O: Sink, G: Gate + Sync>(
     requires strips { IsStrips strips }
     requires workers { IsWorkers workers }
     ensures cause { ShownBy (demoed number refine) result }
-    ensures out { IsTrue O.tells → OutStands result (demoed number refine) (O.written out.old) (O.written out.new) }
+    ensures out { IsTrue O.tells
+        → OutStands result (demoed number refine) (O.written out.old) (O.written out.new) }
     ensures untouched { IsTrue O.tells → OutUntouched result (O.written out.old) (O.written out.new) }
-    ensures counts { (reads writes : Counts) → OutCountsShow result (faults reads writes (O.faults out.old)) (faults reads writes (O.faults out.new)) }
+    ensures counts { (reads writes : Counts) → OutCountsShow result
+        (faults reads writes (O.faults out.old)) (faults reads writes (O.faults out.new)) }
 {
     match demo_summary(rt, alloc, number, strips, workers, refine, gate) {
         Ok(summary) => deliver_summary(out, summary.as_bytes()),

@@ -1,5 +1,5 @@
 //! The entries of a list: each is fetched, judged and added before the next.
-ghost use Rattle.std.specs.Prelude.{◌≡◌, ◌+◌, ◌≤◌, ◌<◌, ℕ, List, length, slice_get, Ok, Some, true};
+ghost use Rattle.std.specs.Prelude.{◌≡◌, ◌+◌, ◌≤◌, ◌<◌, length, Ok, true};
 ghost use Rattle.std.specs.Prelude.{IsTrue, IfOk, MatchResult};
 ghost use Rattle.sgm_grid.specs.Asc.{asc_reading};
 ghost use Rattle.sgm_grid.specs.Cells.{IsGridSpec};
@@ -9,9 +9,10 @@ ghost use Rattle.sgm_words.specs.Operands.{FileNames, bytes_of, IsInputName};
 ghost use Rattle.sgm_words.specs.declared.files.Input.TheVariants as input;
 ghost use Rattle.sgm_outcome.specs.declared.outcome.Refusal.TheVariants as refusal;
 ghost use Rattle.sgm_app.specs.Ends.{CountsShow, StageCounts};
-ghost use Rattle.sgm_app.specs.Entries.{AddsEntries, AddsEntry, AddsOne, EndsEarly};
+ghost use Rattle.sgm_app.specs.Entries.{AddsEntries, AddsEntry, AddsOne, EndsEarly, HaveEntries};
 ghost use Rattle.sgm_app.specs.Judge.{StopsFor};
 ghost use Rattle.sgm_app.specs.Merging.{cells_refusal, entry_for};
+ghost use Rattle.sgm_app.specs.Moments.{Keeps};
 ghost use Rattle.sgm_app.specs.Refusals.{or_refused, unless};
 
 use crate::gathering::fetch_input;
@@ -32,17 +33,13 @@ pub(crate) fn add_entries<S: Shelf>(
     merge: &mut Merge,
 ) -> Result<(), Outcome>
     requires room { merge.old.entries + length names.now ≤ MAX_ENTRIES }
-    ensures held { IsTrue S.tells → S.held shelf.new ≡ S.held shelf.old }
+    ensures keeps { Keeps S.Shelf shelf.old shelf.new }
     ensures entries { IsTrue S.tells
         → AddsEntries merge.old 0 (bytes_of names.now) (S.held shelf.old) result merge.new }
     ensures ranges { merge.new.spec ≡ merge.old.spec }
-    ensures writing { S.writing shelf.new ≡ S.writing shelf.old }
-    ensures unfinished { S.unfinished shelf.new ≡ S.unfinished shelf.old }
     ensures end { EndsEarly result }
-    ensures counts { (known : FileNames)
-        → ((k : ℕ) (name : List ℕ) → slice_get (bytes_of names.now) k ≡ Some name → IsInputName known (input.Grid k) name)
-        → StageCounts (CountsShow known) result
-        (S.read_faults shelf.old) (S.write_faults shelf.old) (S.read_faults shelf.new) (S.write_faults shelf.new) }
+    ensures counts { (known : FileNames) → HaveEntries (bytes_of names.now) known
+        → StageCounts (CountsShow known) result S.Shelf shelf.old shelf.new }
 {
     for number in 0..names.len() {
         match add_entry(alloc, shelf, number as u32, names[number].as_str(), merge) {
@@ -62,15 +59,13 @@ fn add_entry<S: Shelf>(
     merge: &mut Merge,
 ) -> Result<(), Outcome>
     requires room { merge.old.entries < MAX_ENTRIES }
-    ensures held { IsTrue S.tells → S.held shelf.new ≡ S.held shelf.old }
+    ensures keeps { Keeps S.Shelf shelf.old shelf.new }
     ensures entry { IsTrue S.tells
         → AddsEntry merge.old number (S.held shelf.old name.now) result merge.new }
     ensures one { AddsOne merge.old result merge.new }
-    ensures writing { S.writing shelf.new ≡ S.writing shelf.old }
-    ensures unfinished { S.unfinished shelf.new ≡ S.unfinished shelf.old }
     ensures end { EndsEarly result }
-    ensures counts { (known : FileNames) → IsInputName known (input.Grid number) name.now → StageCounts (CountsShow known) result
-        (S.read_faults shelf.old) (S.write_faults shelf.old) (S.read_faults shelf.new) (S.write_faults shelf.new) }
+    ensures counts { (known : FileNames) → IsInputName known (input.Grid number) name.now
+        → StageCounts (CountsShow known) result S.Shelf shelf.old shelf.new }
 {
     let bytes = match fetch_input(alloc, shelf, Input::Grid(number), name) {
         Ok(bytes) => bytes,

@@ -4,16 +4,16 @@ ghost use Rattle.sgm_words.specs.Operands.{FileNames, of_merge, is_plain_word, I
 ghost use Rattle.sgm_words.specs.declared.files.Input.TheVariants.{Calibration};
 ghost use Rattle.sgm_app.specs.Ends.{StageCounts, ShownBy, NoneBefore};
 ghost use Rattle.sgm_app.specs.Stops.{fetch_outcome};
+ghost use Rattle.sgm_app.specs.Moments.{Keeps};
 ghost use Rattle.sgm_app.specs.Gather.{FetchesInput, FetchesCalib, AtHand, GridsAtHand, MergeAtHand};
 ghost use Rattle.sgm_app.specs.Gather.{HavePair, HaveGrids, StopCounts};
 ghost use Rattle.sgm_app.specs.Verdict.{Verdict, most_bytes, pair_fetched, grids_fetched, merge_fetched};
 
 use crate::Input;
 use crate::stops::FetchStop;
-use sgm_base::{MAX_CALIB_BYTES, MAX_IMAGE_BYTES};
+use sgm_base::{MAX_CALIB_BYTES, MAX_GRID_BYTES, MAX_IMAGE_BYTES, MAX_LIST_BYTES};
 use sgm_io::{FetchError, Shelf};
-use sgm_list::MAX_LIST_BYTES;
-use sgm_words::{ChangeWords, MAX_GRID_BYTES, MergeWords, OperandWords, is_plain};
+use sgm_words::{ChangeWords, MergeWords, OperandWords, is_plain};
 use std::alloc::Global;
 use std::marker::Model;
 
@@ -31,7 +31,11 @@ impl Model for Inputs {
 
     ghost Value = { InputBytes };
 
-    ghost view = { λ i. record { left = i.left.items; right = i.right.items; calib = option_map (λ b. b.items) i.calib } };
+    ghost view = { λ i. record {
+      left = i.left.items;
+      right = i.right.items;
+      calib = option_map (λ b. b.items) i.calib;
+    } };
 }
 
 /// The bytes of the grids of a change.
@@ -120,12 +124,10 @@ pub(crate) fn fetch_input<S: Shelf>(
     input: Input,
     name: &str,
 ) -> Result<Vec<u8>, FetchStop>
-    ensures held { IsTrue S.tells → S.held shelf.new ≡ S.held shelf.old }
+    ensures keeps { Keeps S.Shelf shelf.old shelf.new }
     ensures bytes { IsTrue S.tells → FetchesInput input (S.held shelf.old name.now) result }
-    ensures writing { S.writing shelf.new ≡ S.writing shelf.old }
-    ensures unfinished { S.unfinished shelf.new ≡ S.unfinished shelf.old }
-    ensures counts { (names : FileNames) → IsInputName names input name.now → StageCounts (StopCounts names) result
-        (S.read_faults shelf.old) (S.write_faults shelf.old) (S.read_faults shelf.new) (S.write_faults shelf.new) }
+    ensures counts { (names : FileNames) → IsInputName names input name.now
+        → StageCounts (StopCounts names) result S.Shelf shelf.old shelf.new }
 {
     let mut bytes = Vec::new(alloc);
     match shelf.fetch(name, most_bytes(input), &mut bytes) {
@@ -142,13 +144,12 @@ fn fetch_calib<S: Shelf>(
     shelf: &mut S,
     name: &str,
 ) -> Result<Option<Vec<u8>>, FetchStop>
-    ensures held { IsTrue S.tells → S.held shelf.new ≡ S.held shelf.old }
-    ensures bytes { IsTrue S.tells → FetchesCalib (is_plain_word name.now) (S.held shelf.old name.now) result }
-    ensures writing { S.writing shelf.new ≡ S.writing shelf.old }
-    ensures unfinished { S.unfinished shelf.new ≡ S.unfinished shelf.old }
-    ensures counts { (names : FileNames) → (is_plain_word name.now ≡ false → IsInputName names Calibration name.now)
-        → StageCounts (StopCounts names) result
-        (S.read_faults shelf.old) (S.write_faults shelf.old) (S.read_faults shelf.new) (S.write_faults shelf.new) }
+    ensures keeps { Keeps S.Shelf shelf.old shelf.new }
+    ensures bytes { IsTrue S.tells
+        → FetchesCalib (is_plain_word name.now) (S.held shelf.old name.now) result }
+    ensures counts { (names : FileNames)
+        → (is_plain_word name.now ≡ false → IsInputName names Calibration name.now)
+        → StageCounts (StopCounts names) result S.Shelf shelf.old shelf.new }
 {
     if is_plain(name) {
         return Ok(None);
@@ -166,15 +167,14 @@ pub fn gather<S: Shelf>(
     shelf: &mut S,
     operands: &OperandWords<'_>,
 ) -> Result<Inputs, FetchStop>
-    ensures held { IsTrue S.tells → S.held shelf.new ≡ S.held shelf.old }
-    ensures at_hand { IsTrue S.tells → IfOk result (λ inputs. AtHand operands.now (S.held shelf.old) inputs) }
+    ensures keeps { Keeps S.Shelf shelf.old shelf.new }
+    ensures at_hand { IsTrue S.tells
+        → IfOk result (λ inputs. AtHand operands.now (S.held shelf.old) inputs) }
     ensures verdict { IsTrue S.tells → (next : Verdict) → NoneBefore 4 next → MatchResult result
         (λ _. pair_fetched operands.now (S.held shelf.old) next ≡ next)
         (λ stop. ShownBy (pair_fetched operands.now (S.held shelf.old) next) (fetch_outcome stop)) }
-    ensures writing { S.writing shelf.new ≡ S.writing shelf.old }
-    ensures unfinished { S.unfinished shelf.new ≡ S.unfinished shelf.old }
-    ensures counts { (names : FileNames) → HavePair operands.now names → StageCounts (StopCounts names) result
-        (S.read_faults shelf.old) (S.write_faults shelf.old) (S.read_faults shelf.new) (S.write_faults shelf.new) }
+    ensures counts { (names : FileNames) → HavePair operands.now names
+        → StageCounts (StopCounts names) result S.Shelf shelf.old shelf.new }
 {
     match fetch_input(alloc, shelf, Input::Left, operands.left()) {
         Ok(left) => match fetch_input(alloc, shelf, Input::Right, operands.right()) {
@@ -194,15 +194,14 @@ pub fn gather_grids<S: Shelf>(
     shelf: &mut S,
     operands: &ChangeWords<'_>,
 ) -> Result<Grids, FetchStop>
-    ensures held { IsTrue S.tells → S.held shelf.new ≡ S.held shelf.old }
-    ensures at_hand { IsTrue S.tells → IfOk result (λ grids. GridsAtHand operands.now (S.held shelf.old) grids) }
+    ensures keeps { Keeps S.Shelf shelf.old shelf.new }
+    ensures at_hand { IsTrue S.tells
+        → IfOk result (λ grids. GridsAtHand operands.now (S.held shelf.old) grids) }
     ensures verdict { IsTrue S.tells → (next : Verdict) → NoneBefore 6 next → MatchResult result
         (λ _. grids_fetched operands.now (S.held shelf.old) next ≡ next)
         (λ stop. ShownBy (grids_fetched operands.now (S.held shelf.old) next) (fetch_outcome stop)) }
-    ensures writing { S.writing shelf.new ≡ S.writing shelf.old }
-    ensures unfinished { S.unfinished shelf.new ≡ S.unfinished shelf.old }
-    ensures counts { (names : FileNames) → HaveGrids operands.now names → StageCounts (StopCounts names) result
-        (S.read_faults shelf.old) (S.write_faults shelf.old) (S.read_faults shelf.new) (S.write_faults shelf.new) }
+    ensures counts { (names : FileNames) → HaveGrids operands.now names
+        → StageCounts (StopCounts names) result S.Shelf shelf.old shelf.new }
 {
     match fetch_input(alloc, shelf, Input::Earlier, operands.earlier()) {
         Ok(earlier) => match fetch_input(alloc, shelf, Input::Later, operands.later()) {
@@ -219,15 +218,14 @@ pub fn gather_merge<S: Shelf>(
     shelf: &mut S,
     operands: &MergeWords<'_>,
 ) -> Result<MergeInputs, FetchStop>
-    ensures held { IsTrue S.tells → S.held shelf.new ≡ S.held shelf.old }
-    ensures at_hand { IsTrue S.tells → IfOk result (λ inputs. MergeAtHand operands.now (S.held shelf.old) inputs) }
+    ensures keeps { Keeps S.Shelf shelf.old shelf.new }
+    ensures at_hand { IsTrue S.tells
+        → IfOk result (λ inputs. MergeAtHand operands.now (S.held shelf.old) inputs) }
     ensures verdict { IsTrue S.tells → (next : Verdict) → NoneBefore 4 next → MatchResult result
         (λ _. merge_fetched operands.now (S.held shelf.old) next ≡ next)
         (λ stop. ShownBy (merge_fetched operands.now (S.held shelf.old) next) (fetch_outcome stop)) }
-    ensures writing { S.writing shelf.new ≡ S.writing shelf.old }
-    ensures unfinished { S.unfinished shelf.new ≡ S.unfinished shelf.old }
-    ensures counts { (listed : Option (List (List ℕ))) → StageCounts (StopCounts (of_merge operands.now listed)) result
-        (S.read_faults shelf.old) (S.write_faults shelf.old) (S.read_faults shelf.new) (S.write_faults shelf.new) }
+    ensures counts { (listed : Option (List (List ℕ)))
+        → StageCounts (StopCounts (of_merge operands.now listed)) result S.Shelf shelf.old shelf.new }
 {
     match fetch_input(alloc, shelf, Input::List, operands.list()) {
         Ok(list) => match fetch_calib(alloc, shelf, operands.calib()) {

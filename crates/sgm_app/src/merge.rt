@@ -1,17 +1,13 @@
 //! A merge of many grids, from the words to what is written.
-ghost use Rattle.std.specs.Prelude.{◌≡◌, ◌≤◌, ℕ, List, length, slice_get, Some, Option, IsTrue, option_map};
+ghost use Rattle.std.specs.Prelude.{◌≡◌, ◌≤◌, length, Some, IsTrue, option_map};
 ghost use Rattle.sgm_merge.specs.declared.limits.TheConstants.{MAX_ENTRIES};
-ghost use Rattle.sgm_words.specs.Operands.{FileNames, IsInputName, bytes_of, of_merge};
-ghost use Rattle.sgm_words.specs.declared.files.Input.TheVariants as input;
-ghost use Rattle.sgm_outcome.specs.declared.outcome.Outcome.TheVariants.{Done};
+ghost use Rattle.sgm_words.specs.Operands.{FileNames, bytes_of, of_merge};
 ghost use Rattle.sgm_app.specs.Calls.{MergeCallsFor};
-ghost use Rattle.sgm_app.specs.Deliver.{FilesPut};
-ghost use Rattle.sgm_app.specs.Ends.{ShownBy, OutStands, OutUntouched, WritingStands, StageCounts};
-ghost use Rattle.sgm_app.specs.Ends.{CountsShow, faults, names_listed, told_by};
-ghost use Rattle.sgm_app.specs.Entries.{EndsEarly, MakesTexts};
+ghost use Rattle.sgm_app.specs.Ends.{CountsShow, StageCounts, names_listed, told_by};
+ghost use Rattle.sgm_app.specs.Entries.{EndsEarly, HaveEntries, MakesTexts};
 ghost use Rattle.sgm_app.specs.Made.{plan_in};
-ghost use Rattle.sgm_app.specs.Unfinished.{AreFinished, UnfinishedStands};
-ghost use Rattle.sgm_app.specs.Verdict.{Verdict, outputs_of};
+ghost use Rattle.sgm_app.specs.Moments.{Keeps, moment};
+ghost use Rattle.sgm_app.specs.RunEnds.{RunEnds};
 
 use crate::Outcome;
 use crate::delivery::deliver;
@@ -32,21 +28,10 @@ pub fn run_merge<S: Shelf, O: Sink>(
     shelf: &mut S,
     out: &mut O,
 ) -> Outcome
-    ensures cause { IsTrue S.tells → (v : Verdict) → MergeCallsFor operands.now (S.held shelf.old) v → ShownBy v result }
-    ensures files { IsTrue S.tells → (v : Verdict) → MergeCallsFor operands.now (S.held shelf.old) v
-        → FilesPut result v (S.held shelf.old) (S.held shelf.new) }
-    ensures out { IsTrue S.tells → IsTrue O.tells → (v : Verdict) → MergeCallsFor operands.now (S.held shelf.old) v
-        → OutStands result v (O.written out.old) (O.written out.new) }
-    ensures untouched { IsTrue O.tells → OutUntouched result (O.written out.old) (O.written out.new) }
-    ensures writing { WritingStands result (S.writing shelf.old) (S.writing shelf.new) }
-    ensures unfinished { (listed : Option (List (List ℕ))) → UnfinishedStands (of_merge operands.now listed) result
-        (S.unfinished shelf.old) (S.unfinished shelf.new) }
-    ensures finished { IsTrue S.tells → (v : Verdict) → MergeCallsFor operands.now (S.held shelf.old) v
-        → result ≡ Done → AreFinished (outputs_of v) (S.unfinished shelf.new) }
-    ensures counts { CountsShow
-        (of_merge operands.now (option_map (names_listed operands.now) (told_by S.tells (S.held shelf.old)))) result
-        (faults (S.read_faults shelf.old) (S.write_faults shelf.old) (O.faults out.old))
-        (faults (S.read_faults shelf.new) (S.write_faults shelf.new) (O.faults out.new)) }
+    ensures { RunEnds
+        (of_merge operands.now (option_map (names_listed operands.now) (told_by S.tells (S.held shelf.old))))
+        (MergeCallsFor operands.now) result
+        (moment S.Shelf O.Sink shelf.old out.old) (moment S.Shelf O.Sink shelf.new out.new) }
 {
     let inputs = match gather_merge(alloc, shelf, operands) {
         Ok(inputs) => inputs,
@@ -70,15 +55,11 @@ pub fn run_merge<S: Shelf, O: Sink>(
 fn merge_entries<S: Shelf>(alloc: Global, shelf: &mut S, plan: &Plan) -> Result<MergeTexts, Outcome>
     requires few { length plan.now.names.items ≤ MAX_ENTRIES }
     requires grid { plan.now.calib.grid ≡ Some plan.now.spec }
-    ensures held { IsTrue S.tells → S.held shelf.new ≡ S.held shelf.old }
+    ensures keeps { Keeps S.Shelf shelf.old shelf.new }
     ensures texts { IsTrue S.tells → MakesTexts (plan_in plan.now) (S.held shelf.old) result }
-    ensures writing { S.writing shelf.new ≡ S.writing shelf.old }
-    ensures unfinished { S.unfinished shelf.new ≡ S.unfinished shelf.old }
     ensures end { EndsEarly result }
-    ensures counts { (known : FileNames)
-        → ((k : ℕ) (name : List ℕ) → slice_get (bytes_of plan.now.names.items) k ≡ Some name → IsInputName known (input.Grid k) name)
-        → StageCounts (CountsShow known) result
-        (S.read_faults shelf.old) (S.write_faults shelf.old) (S.read_faults shelf.new) (S.write_faults shelf.new) }
+    ensures counts { (known : FileNames) → HaveEntries (bytes_of plan.now.names.items) known
+        → StageCounts (CountsShow known) result S.Shelf shelf.old shelf.new }
 {
     // Known from here on: that the ranges of its grid are kept.
     let _spec = plan.calib.grid();

@@ -5,13 +5,14 @@ ghost use Rattle.sgm_words.specs.Words.{read_of};
 ghost use Rattle.sgm_words.specs.declared.usage.UsageFault.{UsageFault};
 ghost use Rattle.sgm_outcome.specs.Lines.{line_of, TakesLine};
 ghost use Rattle.sgm_outcome.specs.declared.outcome.Outcome.TheVariants.{Done, Usage};
-ghost use Rattle.sgm_app.specs.Verdict.{Verdict, outputs_of};
 ghost use Rattle.sgm_app.specs.Calls.{CallsFor, MatchCallsFor};
-ghost use Rattle.sgm_app.specs.Ends.{ShownBy, FilesStand, OutStands, OutUntouched, WritingStands, RunWriting};
-ghost use Rattle.sgm_app.specs.Ends.{CountsShow, RunCounts, faults, told_by};
-ghost use Rattle.sgm_app.specs.Unfinished.{AreFinished, UnfinishedStands, RunUnfinished};
 ghost use Rattle.sgm_app.specs.Complete.{RunComplete, IsNoFileFault, NoneRose};
-ghost use Rattle.sgm_app.specs.Deliver.{FilesPut};
+ghost use Rattle.sgm_app.specs.Ends.{ShownBy, FilesStand, OutStands, OutUntouched, RunWriting};
+ghost use Rattle.sgm_app.specs.Ends.{RunCounts, faults_at, told_by};
+ghost use Rattle.sgm_app.specs.Moments.{moment};
+ghost use Rattle.sgm_app.specs.RunEnds.{RunEnds, WordsEnd};
+ghost use Rattle.sgm_app.specs.Unfinished.{AreFinished, RunUnfinished};
+ghost use Rattle.sgm_app.specs.Verdict.{Verdict, outputs_of};
 
 use crate::change::run_change;
 use crate::delivery::deliver;
@@ -43,19 +44,8 @@ fn run_match<R: Threads + Sync, S: Shelf, O: Sink, G: Gate + Sync>(
 ) -> Outcome
     requires strips { IsStrips strips }
     requires workers { IsWorkers workers }
-    ensures cause { IsTrue S.tells → (v : Verdict) → MatchCallsFor operands.now refine (S.held shelf.old) v → ShownBy v result }
-    ensures files { IsTrue S.tells → (v : Verdict) → MatchCallsFor operands.now refine (S.held shelf.old) v
-        → FilesPut result v (S.held shelf.old) (S.held shelf.new) }
-    ensures out { IsTrue S.tells → IsTrue O.tells → (v : Verdict) → MatchCallsFor operands.now refine (S.held shelf.old) v
-        → OutStands result v (O.written out.old) (O.written out.new) }
-    ensures untouched { IsTrue O.tells → OutUntouched result (O.written out.old) (O.written out.new) }
-    ensures writing { WritingStands result (S.writing shelf.old) (S.writing shelf.new) }
-    ensures unfinished { UnfinishedStands (of_match operands.now) result (S.unfinished shelf.old) (S.unfinished shelf.new) }
-    ensures finished { IsTrue S.tells → (v : Verdict) → MatchCallsFor operands.now refine (S.held shelf.old) v
-        → result ≡ Done → AreFinished (outputs_of v) (S.unfinished shelf.new) }
-    ensures counts { CountsShow (of_match operands.now) result
-        (faults (S.read_faults shelf.old) (S.write_faults shelf.old) (O.faults out.old))
-        (faults (S.read_faults shelf.new) (S.write_faults shelf.new) (O.faults out.new)) }
+    ensures { RunEnds (of_match operands.now) (MatchCallsFor operands.now refine) result
+        (moment S.Shelf O.Sink shelf.old out.old) (moment S.Shelf O.Sink shelf.new out.new) }
 {
     let inputs = match gather(alloc, shelf, operands) {
         Ok(inputs) => inputs,
@@ -89,21 +79,8 @@ fn carry_out<R: Threads + Sync, S: Shelf, O: Sink, G: Gate + Sync>(
     out: &mut O,
     gate: &G,
 ) -> Outcome
-    ensures cause { IsTrue S.tells → (v : Verdict) → CallsFor (bytes_of words.now) (S.held shelf.old) v → ShownBy v result }
-    ensures files { IsTrue S.tells → (v : Verdict) → CallsFor (bytes_of words.now) (S.held shelf.old) v
-        → FilesPut result v (S.held shelf.old) (S.held shelf.new) }
-    ensures out { IsTrue S.tells → IsTrue O.tells → (v : Verdict) → CallsFor (bytes_of words.now) (S.held shelf.old) v
-        → OutStands result v (O.written out.old) (O.written out.new) }
-    ensures untouched { IsTrue O.tells → OutUntouched result (O.written out.old) (O.written out.new) }
-    ensures writing { RunWriting (read_of (bytes_of words.now)) result (S.writing shelf.old) (S.writing shelf.new) }
-    ensures unfinished { RunUnfinished (read_of (bytes_of words.now)) (bytes_of words.now) result
-        (S.unfinished shelf.old) (S.unfinished shelf.new) }
-    ensures finished { IsTrue S.tells → (v : Verdict) → CallsFor (bytes_of words.now) (S.held shelf.old) v
-        → result ≡ Done → AreFinished (outputs_of v) (S.unfinished shelf.new) }
-    ensures counts { RunCounts (read_of (bytes_of words.now)) (bytes_of words.now)
-        (told_by S.tells (S.held shelf.old)) result
-        (faults (S.read_faults shelf.old) (S.write_faults shelf.old) (O.faults out.old))
-        (faults (S.read_faults shelf.new) (S.write_faults shelf.new) (O.faults out.new)) }
+    ensures { WordsEnd (read_of (bytes_of words.now)) (bytes_of words.now) result
+        (moment S.Shelf O.Sink shelf.old out.old) (moment S.Shelf O.Sink shelf.new out.new) }
 {
     // A match in a match: one pattern for both that binds `refine` gets no proof.
     match read_words(words) {
@@ -154,46 +131,52 @@ pub fn run<R: Threads + Sync, S: Shelf, O: Sink, E: Sink, G: Gate + Sync>(
     gate: &G,
 ) -> Outcome
     // What the words call for over the held files shows why the run ended so.
-    ensures cause { IsTrue S.tells → (v : Verdict) → CallsFor (bytes_of words.now) (S.held shelf.old) v
-        → ShownBy v result }
+    ensures cause { IsTrue S.tells → (v : Verdict)
+        → CallsFor (bytes_of words.now) (S.held shelf.old) v → ShownBy v result }
 
     // What is held afterwards, and which name is being written.
-    ensures files { IsTrue S.tells → (v : Verdict) → CallsFor (bytes_of words.now) (S.held shelf.old) v
+    ensures files { IsTrue S.tells → (v : Verdict)
+        → CallsFor (bytes_of words.now) (S.held shelf.old) v
         → FilesStand result v (S.held shelf.old) (S.held shelf.new) }
-    ensures writing { RunWriting (read_of (bytes_of words.now)) result (S.writing shelf.old) (S.writing shelf.new) }
+    ensures writing { RunWriting (read_of (bytes_of words.now)) (bytes_of words.now) result
+        (S.writing shelf.old) (S.writing shelf.new) }
 
-    // No name is left begun, but that of an output whose writing stopped; after Done each output is finished.
+    // No name is left begun, but that of an output whose writing stopped; after Done each output is
+    // finished.
     ensures unfinished { RunUnfinished (read_of (bytes_of words.now)) (bytes_of words.now) result
         (S.unfinished shelf.old) (S.unfinished shelf.new) }
-    ensures finished { IsTrue S.tells → (v : Verdict) → CallsFor (bytes_of words.now) (S.held shelf.old) v
+    ensures finished { IsTrue S.tells → (v : Verdict)
+        → CallsFor (bytes_of words.now) (S.held shelf.old) v
         → result ≡ Done → AreFinished (outputs_of v) (S.unfinished shelf.new) }
 
     // What `out` has received.
-    ensures out { IsTrue S.tells → IsTrue O.tells → (v : Verdict) → CallsFor (bytes_of words.now) (S.held shelf.old) v
+    ensures out { IsTrue S.tells → IsTrue O.tells → (v : Verdict)
+        → CallsFor (bytes_of words.now) (S.held shelf.old) v
         → OutStands result v (O.written out.old) (O.written out.new) }
     ensures untouched { IsTrue O.tells → OutUntouched result (O.written out.old) (O.written out.new) }
 
     // A fault of reading or writing comes only where its count rose; without one no count changed.
     ensures counts { RunCounts (read_of (bytes_of words.now)) (bytes_of words.now)
         (told_by S.tells (S.held shelf.old)) result
-        (faults (S.read_faults shelf.old) (S.write_faults shelf.old) (O.faults out.old))
-        (faults (S.read_faults shelf.new) (S.write_faults shelf.new) (O.faults out.new)) }
+        (faults_at S.Shelf O.Sink shelf.old out.old) (faults_at S.Shelf O.Sink shelf.new out.new) }
 
     // A fault of the words is the outcome exactly where the words have it.
-    ensures usage { (fault : UsageFault) → (result ≡ Usage fault) ↔ (read_of (bytes_of words.now) ≡ Err fault) }
+    ensures usage { (fault : UsageFault)
+        → (result ≡ Usage fault) ↔ (read_of (bytes_of words.now) ≡ Err fault) }
 
-    // Where no count stands in the way, the outcome is the one that is called for, or there was no memory.
-    ensures complete { IsTrue S.tells → (v : Verdict) → CallsFor (bytes_of words.now) (S.held shelf.old) v
+    // Where no count stands in the way, the outcome is the one that is called for, or there was no
+    // memory.
+    ensures complete { IsTrue S.tells → (v : Verdict)
+        → CallsFor (bytes_of words.now) (S.held shelf.old) v
         → RunComplete (read_of (bytes_of words.now)) (bytes_of words.now)
         (told_by S.tells (S.held shelf.old)) v result
-        (faults (S.read_faults shelf.old) (S.write_faults shelf.old) (O.faults out.old))
-        (faults (S.read_faults shelf.new) (S.write_faults shelf.new) (O.faults out.new)) }
+        (faults_at S.Shelf O.Sink shelf.old out.old) (faults_at S.Shelf O.Sink shelf.new out.new) }
     ensures sure { NoneRose (S.read_faults shelf.old) (S.read_faults shelf.new)
         → NoneRose (S.write_faults shelf.old) (S.write_faults shelf.new) → IsNoFileFault result }
 
     // `err` has received the outcome's line, or, where its count rose, the beginning of it.
-    ensures line { IsTrue E.tells
-        → TakesLine (line_of result) (E.faults err.old) (E.faults err.new) (E.written err.old) (E.written err.new) }
+    ensures line { IsTrue E.tells → TakesLine (line_of result)
+        (E.faults err.old) (E.faults err.new) (E.written err.old) (E.written err.new) }
     ensures err_faults { E.faults err.old ≤ E.faults err.new }
 {
     let outcome = carry_out(rt, alloc, words, shelf, out, gate);

@@ -1,9 +1,8 @@
 //! The certificate of an index at a pixel, from the words to what is written.
-ghost use Rattle.std.specs.Prelude.{◌≡◌, IsTrue};
 ghost use Rattle.sgm_words.specs.Operands.{of_trace};
 ghost use Rattle.sgm_app.specs.Calls.{TraceCallsFor};
-ghost use Rattle.sgm_app.specs.Ends.{ShownBy, OutStands, OutUntouched, CountsShow, faults};
-ghost use Rattle.sgm_app.specs.Verdict.{Verdict};
+ghost use Rattle.sgm_app.specs.Moments.{Keeps, moment};
+ghost use Rattle.sgm_app.specs.RunEnds.{RunEnds};
 
 use crate::Outcome;
 use crate::certificate::certificate;
@@ -25,16 +24,9 @@ pub fn run_trace<S: Shelf, O: Sink>(
     shelf: &mut S,
     out: &mut O,
 ) -> Outcome
-    ensures cause { IsTrue S.tells → (v : Verdict) → TraceCallsFor operands.now dir x y d (S.held shelf.old) v → ShownBy v result }
-    ensures held { IsTrue S.tells → S.held shelf.new ≡ S.held shelf.old }
-    ensures out { IsTrue S.tells → IsTrue O.tells → (v : Verdict) → TraceCallsFor operands.now dir x y d (S.held shelf.old) v
-        → OutStands result v (O.written out.old) (O.written out.new) }
-    ensures untouched { IsTrue O.tells → OutUntouched result (O.written out.old) (O.written out.new) }
-    ensures writing { S.writing shelf.new ≡ S.writing shelf.old }
-    ensures unfinished { S.unfinished shelf.new ≡ S.unfinished shelf.old }
-    ensures counts { CountsShow (of_trace operands.now) result
-        (faults (S.read_faults shelf.old) (S.write_faults shelf.old) (O.faults out.old))
-        (faults (S.read_faults shelf.new) (S.write_faults shelf.new) (O.faults out.new)) }
+    ensures ends { RunEnds (of_trace operands.now) (TraceCallsFor operands.now dir x y d) result
+        (moment S.Shelf O.Sink shelf.old out.old) (moment S.Shelf O.Sink shelf.new out.new) }
+    ensures keeps { Keeps S.Shelf shelf.old shelf.new }
 {
     let inputs = match gather(alloc, shelf, operands) {
         Ok(inputs) => inputs,

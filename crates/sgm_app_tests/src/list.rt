@@ -1,6 +1,7 @@
 //! Lists and their first faults.
 
-use sgm_list::{Entry, ListError, ListFault, MAX_LIST_BYTES, fault_line, read_list};
+use sgm_base::MAX_LIST_BYTES;
+use sgm_list::{Entry, ListError, ListFault, fault_line, read_list};
 use std::alloc::{AllocError, Global};
 use std::test::Fail;
 

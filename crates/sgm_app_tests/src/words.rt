@@ -1,8 +1,9 @@
 //! The words, one check after the other. More are stored cases of `sgm_cases`.
 
 use crate::tests::fixtures::words_of;
-use sgm_list::{MAX_ENTRIES, MAX_LIST_BYTES};
-use sgm_words::{MAX_GRID_BYTES, OperandWords, UsageFault, read_words};
+use sgm_base::{MAX_GRID_BYTES, MAX_LIST_BYTES};
+use sgm_list::MAX_ENTRIES;
+use sgm_words::{OperandWords, UsageFault, read_words};
 use std::alloc::{AllocError, Global};
 use std::test::Fail;
 

@@ -57,6 +57,12 @@ pub const MAX_IMAGE_BYTES: usize = 67_108_864;
 /// The greatest length of a calibration file, in bytes.
 pub const MAX_CALIB_BYTES: usize = 16_777_216;
 
+/// The greatest length of a grid's file, in bytes.
+pub const MAX_GRID_BYTES: usize = 268_435_456;
+
+/// The greatest length of a list, in bytes.
+pub const MAX_LIST_BYTES: usize = 1_048_576;
+
 const _: () = prove!(MAX_COST as u32 == MAX_WINDOW_WIDTH * MAX_WINDOW_HEIGHT - 1);
 
 const _: () = prove!(MAX_PATH_VALUE == MAX_COST as u16 + MAX_PENALTY);

@@ -6,7 +6,7 @@ use denote.Param.Send.{IsSend, IsSync, sendable}
 use Rattle.sgm_app.specs.contracts.made.MadeTexts as made
 use Rattle.sgm_app.specs.contracts.stops.TextsError as error
 use Rattle.sgm_draws.proofs.Crossing.{draws_sync}
-use Rattle.sgm_line.proofs.Crossing.{line_sync}
+use Rattle.sgm_queue.proofs.Crossing.{queue_sync}
 use Rattle.sgm_app.specs.contracts.gathering.Inputs as inputs
 use Rattle.sgm_batch.specs.contracts.piece.Piece as piece
 use Rattle.sgm_batch.specs.contracts.worker.Worker as worker
@@ -28,4 +28,4 @@ pub worker_send : IsSend worker.the_row
 worker_send = search (seat.the_send, piece_send, sendable, crosses) depth 40
 
 pub job_sync : (a : NamedLft) → IsSync (job.the_row a)
-job_sync a = search (inputs_sync, piece_send, draws_sync, line_sync, sendable, crosses) depth 20
+job_sync a = search (inputs_sync, piece_send, draws_sync, queue_sync, sendable, crosses) depth 20

@@ -12,9 +12,9 @@ use Rattle.sgm_draws.specs.Tickets.{AreNew, HasAll, IsTicketOf, TicketParts, cou
 use Rattle.sgm_draws.specs.declared.draws.Draws.{Draws}
 use Rattle.sgm_draws.specs.declared.ticket.Ticket.{Ticket}
 use Rattle.sgm_draws.proofs.Numbers.{once_yes, times_append, times_own}
-use Rattle.sgm_line.specs.Lines.{HasBoth, IsLinePassOf, log_of}
-use Rattle.sgm_line.specs.Logs.{joined as joined_log}
-use Rattle.sgm_line.specs.declared.log.Log.{Log}
+use Rattle.sgm_queue.specs.Queues.{HasBoth, IsQueuePassOf, log_of}
+use Rattle.sgm_queue.specs.Logs.{joined as joined_log}
+use Rattle.sgm_queue.specs.declared.log.Log.{Log}
 use Rattle.sgm_batch.specs.Pieces.{IsPieceOf, PieceParts}
 use Rattle.sgm_batch.specs.Batches.{AreAllOf, CanWork, HasEach, HasPiece, IsDone, IsJob, IsJoined, IsSameWorker, chosen, is_of, shares_of, times_gathered}
 use Rattle.sgm_batch.specs.declared.worker.Worker.{Worker}
@@ -43,7 +43,7 @@ none_kept n place piece at = let same : Some piece ≡ None = same_kept n place 
 module _ (job : Job) where
   -- a worker that has made no step may work
   pub fresh : (worker : Worker) (number : ℕ) → IsJob job → 0 < length job.inputs.now → IsTicketOf job.draws.now worker.ticket
-      → parts_of worker.ticket ≡ new_ticket number → IsLinePassOf job.line.now worker.pass → (log_of worker.pass).pushed ≡ []
+      → parts_of worker.ticket ≡ new_ticket number → IsQueuePassOf job.queue.now worker.pass → (log_of worker.pass).pushed ≡ []
       → (log_of worker.pass).popped ≡ [] → worker.kept.items ≡ replicate (length job.inputs.now) None → CanWork job worker
   fresh worker number is_job some ticket new pass pushed popped kept = record {
     at_work = record {
@@ -140,7 +140,7 @@ module _ (job : Job) (whole other now : Worker) (done : IsDone job whole) (other
     (own : IsTicketOf job.draws.now now.ticket) (ticket : parts_of now.ticket ≡ joined (parts_of whole.ticket) (parts_of other.ticket))
     (all : HasAll (tickets_of job.draws.now) (parts_of now.ticket) → count_of job.draws.now ≤ (parts_of now.ticket).seen
     → IsEachOnce (count_of job.draws.now) (parts_of now.ticket).drawn)
-    (pass : IsLinePassOf job.line.now now.pass) (log : log_of now.pass ≡ joined_log (log_of whole.pass) (log_of other.pass))
+    (pass : IsQueuePassOf job.queue.now now.pass) (log : log_of now.pass ≡ joined_log (log_of whole.pass) (log_of other.pass))
     (count : length now.kept.items ≡ length whole.kept.items)
     (kept : (place : ℕ) → slice_get now.kept.items place ≡ chosen (slice_get other.kept.items place) (slice_get whole.kept.items place)) where
   pushed_both : (number : ℕ) → count_by (is_of number) (log_of now.pass).pushed

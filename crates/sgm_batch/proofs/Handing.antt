@@ -7,9 +7,9 @@ use Rattle.std.proofs.lemmas.List.Elements.{All-append}
 use Rattle.std.proofs.lemmas.Option.{slice_get-get_or, slice_get_within, get_or_from_slice_get}
 use Rattle.sgm_work.proofs.Lists.{get_set}
 use Rattle.sgm_draws.specs.Tickets.{IsTicketOf}
-use Rattle.sgm_line.specs.Lines.{IsLinePassOf, log_of}
-use Rattle.sgm_line.specs.Logs.{after_push}
-use Rattle.sgm_line.specs.declared.log.Log.{Log}
+use Rattle.sgm_queue.specs.Queues.{IsQueuePassOf, log_of}
+use Rattle.sgm_queue.specs.Logs.{after_push}
+use Rattle.sgm_queue.specs.declared.log.Log.{Log}
 use Rattle.sgm_app.specs.Inputs.{InputBytes}
 use Rattle.sgm_batch.specs.Pieces.{IsPieceOf, PieceParts}
 use Rattle.sgm_batch.specs.Batches.{ArePlaced, Covers, HasPiece, IsAtWork, is_of}
@@ -50,7 +50,7 @@ placed batch places piece of_batch all place other at =
     ]
 
 module _ (job : Job) (old now : Worker) (piece : PieceParts) (at_work : IsAtWork job old) (of_batch : IsPieceOf job.inputs.now piece)
-    (same_ticket : now.ticket ≡ old.ticket) (own : IsLinePassOf job.line.now now.pass) where
+    (same_ticket : now.ticket ≡ old.ticket) (own : IsQueuePassOf job.queue.now now.pass) where
   -- it pushed a piece
   pub pushed_more : log_of now.pass ≡ after_push (log_of old.pass) piece → now.kept.items ≡ old.kept.items → IsAtWork job now
   pushed_more pushed same = record {

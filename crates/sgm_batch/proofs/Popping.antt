@@ -7,9 +7,9 @@ use Rattle.std.proofs.lemmas.List.{length-set}
 use Rattle.std.proofs.lemmas.List.Elements.{All-contains}
 use Rattle.std.proofs.lemmas.List.Sums.{sum_by-append, sum_by-cons}
 use Rattle.std.proofs.lemmas.Option.{slice_get-map, slice_get_past, slice_get_read, slice_get_within}
-use Rattle.sgm_line.specs.Lines.{HasBoth, IsLinePassOf, log_of}
-use Rattle.sgm_line.specs.Logs.{after_pop}
-use Rattle.sgm_line.specs.declared.log.Log.{Log}
+use Rattle.sgm_queue.specs.Queues.{HasBoth, IsQueuePassOf, log_of}
+use Rattle.sgm_queue.specs.Logs.{after_pop}
+use Rattle.sgm_queue.specs.declared.log.Log.{Log}
 use Rattle.sgm_app.specs.Inputs.{InputBytes}
 use Rattle.sgm_batch.specs.Pieces.{IsPieceOf, PieceParts}
 use Rattle.sgm_batch.specs.Batches.{AreAll, ArePlaced, HasEach, IsAtWork, chosen, is_of}
@@ -89,7 +89,7 @@ module _ (place : ℕ) (own_first theirs_first own theirs : List (Option PiecePa
 
 -- A worker that pops: all that it popped, and all that was kept at first, is placed.
 pub record IsPopping (job : Job) (first now : Worker) : Type 0 where
-  pub pass : IsLinePassOf job.line.now now.pass
+  pub pass : IsQueuePassOf job.queue.now now.pass
   pub both : HasBoth (log_of now.pass)
   pub pushed : (log_of now.pass).pushed ≡ (log_of first.pass).pushed
   pub count : length now.kept.items ≡ length job.inputs.now
@@ -134,7 +134,7 @@ not_of number piece other = grind arith
 
 -- it stands there then
 module _ (job : Job) (first old now : Worker) (piece : PieceParts) (at_work : IsAtWork job first) (pops : IsPopping job first old)
-    (has : Contains (log_of old.pass).pushed piece) (own : IsLinePassOf job.line.now now.pass)
+    (has : Contains (log_of old.pass).pushed piece) (own : IsQueuePassOf job.queue.now now.pass)
     (log : log_of now.pass ≡ after_pop (log_of old.pass) piece) (kept : now.kept.items ≡ set old.kept.items piece.entry (Some piece)) where
   stands : (number : ℕ) (any : PieceParts) → slice_get old.kept.items number ≡ Some (Some any)
       → (any : PieceParts) × (slice_get now.kept.items number ≡ Some (Some any))

@@ -5,7 +5,7 @@ use Rattle.sgm_draws.specs.Numbers.{times}
 use Rattle.sgm_draws.specs.Tickets.{TicketParts, after_draw, count_of, parts_of}
 use Rattle.sgm_draws.specs.declared.ticket.Ticket.{Ticket}
 use Rattle.sgm_draws.proofs.Numbers.{times_append, times_cons}
-use Rattle.sgm_line.specs.Lines.{log_of}
+use Rattle.sgm_queue.specs.Queues.{log_of}
 use Rattle.sgm_batch.specs.Batches.{CanWork, Covers, HasPiece, IsAtWork, IsSameWorker}
 use Rattle.sgm_batch.specs.declared.worker.Worker.{Worker}
 use Rattle.sgm_batch.specs.declared.worker.Job.{Job}

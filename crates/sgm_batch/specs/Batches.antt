@@ -3,7 +3,7 @@ use Rattle.std.specs.Prelude.{◌≡◌, ◌⊎◌, ◌+◌, ℕ, ◌==◌, ◌<
 use Rattle.std.specs.List.{sum_by}
 use Rattle.sgm_draws.specs.Numbers.{IsEachOnce, times}
 use Rattle.sgm_draws.specs.Tickets.{HasAll, IsTicketOf, count_of, parts_of, tickets_of}
-use Rattle.sgm_line.specs.Lines.{IsLinePassOf, log_of}
+use Rattle.sgm_queue.specs.Queues.{IsQueuePassOf, log_of}
 use Rattle.sgm_app.specs.Inputs.{InputBytes}
 use Rattle.sgm_batch.specs.Pieces.{IsPieceOf, PieceParts}
 use Rattle.sgm_batch.specs.declared.worker.Worker.{Worker}
@@ -39,7 +39,7 @@ HasItsPieces worker = (number : ℕ) → 1 ≤ times (parts_of worker.ticket).dr
 -- each kept one at the place of its entry
 pub record IsAtWork (job : Job) (worker : Worker) : Type 0 where
   pub ticket : IsTicketOf job.draws.now worker.ticket
-  pub pass : IsLinePassOf job.line.now worker.pass
+  pub pass : IsQueuePassOf job.queue.now worker.pass
   pub unpopped : (log_of worker.pass).popped ≡ []
   pub pushed : All (IsPieceOf job.inputs.now) (log_of worker.pass).pushed
   pub places : length worker.kept.items ≡ length job.inputs.now
@@ -59,7 +59,7 @@ pub record IsDone (job : Job) (worker : Worker) : Type 0 where
   -- a ticket that has gathered all, as where there is no other worker, has drawn all
   pub all : HasAll (tickets_of job.draws.now) (parts_of worker.ticket) → IsEachOnce (count_of job.draws.now) (parts_of worker.ticket).drawn
 
--- what work doesn't change of a worker: its shares in the line, and the numbers of tickets that it has gathered
+-- what work doesn't change of a worker: its shares in the queue, and the numbers of tickets that it has gathered
 pub record IsSameWorker (old now : Worker) : Type 0 where
   pub shares : (log_of now.pass).shares ≡ (log_of old.pass).shares
   pub gathered : (parts_of now.ticket).gathered ≡ (parts_of old.ticket).gathered
@@ -72,14 +72,14 @@ AreAll places = (place : ℕ) → place < length places → (piece : PieceParts)
 abbrev pub HasEach : Job → Worker → Type 0
 HasEach job worker = (number : ℕ) → number < length job.inputs.now → HasPiece worker number
 
--- the worker's shares in the line, and how often it gathered a ticket's number
+-- the worker's shares in the queue, and how often it gathered a ticket's number
 abbrev pub shares_of : Worker → ℕ
 shares_of worker = (log_of worker.pass).shares
 
 abbrev pub times_gathered : ℕ → Worker → ℕ
 times_gathered number worker = times (parts_of worker.ticket).gathered number
 
--- these workers are all of the job: together they have both shares in its line and the numbers of all its tickets
+-- these workers are all of the job: together they have both shares in its queue and the numbers of all its tickets
 pub record AreAllOf (job : Job) (crew : List Worker) : Type 0 where
   pub shares : sum_by shares_of crew ≡ 2
   pub tickets : (number : ℕ) → number < tickets_of job.draws.now → 1 ≤ sum_by (times_gathered number) crew

@@ -3,8 +3,8 @@ ghost use Rattle.std.specs.Prelude.{◌≡◌, ◌≤◌, ◌<◌, ℕ, [], map,
 ghost use Rattle.std.specs.Prelude.{All, length, slice_get, slice_index_or, replicate, vec_capacity, vec_len};
 ghost use Rattle.sgm_draws.specs.Tickets.{AreNew, IsTicketOf, new_ticket, parts_of, tickets_of};
 ghost use Rattle.sgm_draws.specs.declared.limits.TheConstants.{MAX_NUMBERS, MAX_TICKETS};
-ghost use Rattle.sgm_line.specs.Lines.{HasBoth, IsLinePassOf, log_of};
-ghost use Rattle.sgm_line.specs.Logs.{first, log};
+ghost use Rattle.sgm_queue.specs.Queues.{HasBoth, IsQueuePassOf, log_of};
+ghost use Rattle.sgm_queue.specs.Logs.{first, log};
 ghost use Rattle.sgm_batch.specs.Pieces.{PieceParts, IsPieceOf};
 ghost use Rattle.sgm_batch.specs.Batches.{AreAll, AreAllOf, ArePlaced, CanWork, HasEach, IsAtWork};
 ghost use Rattle.sgm_batch.specs.Batches.{IsDone, IsJob, IsJoined, IsSameWorker, chosen};
@@ -14,7 +14,7 @@ use crate::piece::Piece;
 use crate::worker::{Job, Worker, work};
 use sgm_app::Inputs;
 use sgm_draws::{Draws, Ticket};
-use sgm_line::{Line, LinePass};
+use sgm_queue::{Queue, QueuePass};
 use sgm_work::Gate;
 use std::alloc::{AllocError, Global};
 use std::sync::Wait;
@@ -36,11 +36,11 @@ fn worker_of(
     alloc: Global,
     job: &Job<'_>,
     ticket: Ticket,
-    pass: LinePass<Piece>,
+    pass: QueuePass<Piece>,
 ) -> Result<Worker, AllocError>
     requires job { IsJob job.now × (0 < length job.now.inputs.now) }
     requires ticket { IsTicketOf job.now.draws.now ticket × (parts_of ticket ≡ new_ticket (parts_of ticket).number) }
-    requires pass { IsLinePassOf job.now.line.now pass × (log_of pass ≡ log (log_of pass).shares [] []) }
+    requires pass { IsQueuePassOf job.now.queue.now pass × (log_of pass ≡ log (log_of pass).shares [] []) }
     ensures can_work { IfOk result (CanWork job.now) }
     ensures shares { IfOk result (λ worker. (log_of worker.pass).shares ≡ (log_of pass).shares) }
     ensures gathered { IfOk result (λ worker. (parts_of worker.ticket).gathered ≡ (parts_of ticket).gathered) }
@@ -54,11 +54,11 @@ fn one_worker(
     alloc: Global,
     job: &Job<'_>,
     ticket: Ticket,
-    pass: LinePass<Piece>,
+    pass: QueuePass<Piece>,
 ) -> Result<Vec<Worker>, AllocError>
     requires job { IsJob job.now × (0 < length job.now.inputs.now) × (tickets_of job.now.draws.now ≡ 1) }
     requires ticket { IsTicketOf job.now.draws.now ticket × (parts_of ticket ≡ new_ticket 0) }
-    requires pass { IsLinePassOf job.now.line.now pass × (log_of pass ≡ first) }
+    requires pass { IsQueuePassOf job.now.queue.now pass × (log_of pass ≡ first) }
     ensures can_work { IfOk result (λ crew. All (CanWork job.now) crew.items) }
     ensures all { IfOk result (λ crew. AreAllOf job.now crew.items) }
     ensures some { IfOk result (λ crew. 0 < vec_len crew) }
@@ -69,23 +69,23 @@ fn one_worker(
     Ok(crew)
 }
 
-/// Two workers, each with one share of the line.
+/// Two workers, each with one share of the queue.
 fn two_workers(
     alloc: Global,
     job: &Job<'_>,
     one: Ticket,
     other: Ticket,
-    mut pass: LinePass<Piece>,
+    mut pass: QueuePass<Piece>,
 ) -> Result<Vec<Worker>, AllocError>
     requires job { IsJob job.now × (0 < length job.now.inputs.now) × (tickets_of job.now.draws.now ≡ 2) }
     requires one { IsTicketOf job.now.draws.now one × (parts_of one ≡ new_ticket 0) }
     requires other { IsTicketOf job.now.draws.now other × (parts_of other ≡ new_ticket 1) }
-    requires pass { IsLinePassOf job.now.line.now pass × (log_of pass ≡ first) }
+    requires pass { IsQueuePassOf job.now.queue.now pass × (log_of pass ≡ first) }
     ensures can_work { IfOk result (λ crew. All (CanWork job.now) crew.items) }
     ensures all { IfOk result (λ crew. AreAllOf job.now crew.items) }
     ensures some { IfOk result (λ crew. 0 < vec_len crew) }
 {
-    let share = job.line.share(&mut pass);
+    let share = job.queue.share(&mut pass);
     let one = worker_of(alloc, job, one, pass)?;
     let other = worker_of(alloc, job, other, share)?;
     let mut crew = Vec::with_capacity(alloc, 2)?;
@@ -99,12 +99,12 @@ fn crew_of(
     alloc: Global,
     job: &Job<'_>,
     mut tickets: Vec<Ticket>,
-    pass: LinePass<Piece>,
+    pass: QueuePass<Piece>,
 ) -> Result<Vec<Worker>, AllocError>
     requires job { IsJob job.now × (0 < length job.now.inputs.now) }
     requires count { (vec_len tickets ≡ tickets_of job.now.draws.now) × (1 ≤ vec_len tickets) × (vec_len tickets ≤ MAX_TICKETS) }
     requires tickets { AreNew job.now.draws.now tickets.items }
-    requires pass { IsLinePassOf job.now.line.now pass × (log_of pass ≡ first) }
+    requires pass { IsQueuePassOf job.now.queue.now pass × (log_of pass ≡ first) }
     ensures can_work { IfOk result (λ crew. All (CanWork job.now) crew.items) }
     ensures all { IfOk result (λ crew. AreAllOf job.now crew.items) }
     ensures some { IfOk result (λ crew. 0 < vec_len crew) }
@@ -167,7 +167,7 @@ fn join(job: &Job<'_>, whole: &mut Worker, other: Worker)
 {
     let Worker { ticket, pass, kept } = other;
     job.draws.join(&mut whole.ticket, ticket);
-    job.line.join(&mut whole.pass, pass);
+    job.queue.join(&mut whole.pass, pass);
     take_over(whole.kept.as_mut_slice(), kept);
 }
 
@@ -200,7 +200,7 @@ fn pop_all<R: Wait>(rt: &R, job: &Job<'_>, worker: &mut Worker)
     ensures all { AreAll worker.new.kept.items }
 {
     for _ in rt.forever() {
-        let Some(piece) = job.line.pop(rt, &mut worker.pass) else {
+        let Some(piece) = job.queue.pop(rt, &mut worker.pass) else {
             return;
         };
         let place = piece.entry() as usize;
@@ -242,11 +242,11 @@ pub fn work_batch<R: Threads + Wait + Sync, G: Gate + Sync>(
     let count = inputs.len();
     let pieces = Vec::with_capacity(alloc, count)?;
     let (draws, tickets) = Draws::start(alloc, count as u32, workers)?;
-    let (line, pass) = Line::start(alloc, count)?;
+    let (queue, pass) = Queue::start(alloc, count)?;
     let job = Job {
         inputs,
         draws: &draws,
-        line: &line,
+        queue: &queue,
     };
     let mut crew = crew_of(alloc, &job, tickets, pass)?;
     run_all(rt, alloc, &job, crew.as_mut_slice(), gate);

@@ -1,33 +1,33 @@
 //! What a worker does.
 ghost use Rattle.std.specs.Prelude.{◌≡◌, ◌<◌, length};
 ghost use Rattle.sgm_draws.specs.Tickets.{parts_of};
-ghost use Rattle.sgm_line.specs.Lines.{log_of};
+ghost use Rattle.sgm_queue.specs.Queues.{log_of};
 ghost use Rattle.sgm_batch.specs.Batches.{CanWork, Covers, HasPiece, IsAtWork, IsDone, IsJob, IsSameWorker};
 
 use crate::piece::Piece;
 use sgm_app::Inputs;
 use sgm_draws::{Draws, Ticket};
-use sgm_line::{Line, LinePass};
+use sgm_queue::{Queue, QueuePass};
 use sgm_work::{Came, Gate, come};
 use std::alloc::Global;
 use std::sync::Wait;
 use std::thread::Threads;
 
 /// A worker's own place: what it draws with, whose number is the worker's, what it pushes with, and by entry
-/// the pieces that the line didn't take.
+/// the pieces that the queue didn't take.
 #[derive(Drop)]
 pub struct Worker {
     pub ticket: Ticket,
-    pub pass: LinePass<Piece>,
+    pub pass: QueuePass<Piece>,
     pub kept: Vec<Option<Piece>>,
 }
 
-/// What all workers share: the inputs, the numbers of the entries, and the line for the pieces.
+/// What all workers share: the inputs, the numbers of the entries, and the queue for the pieces.
 #[derive(Clone, Copy)]
 pub struct Job<'a> {
     pub inputs: &'a [Inputs],
     pub draws: &'a Draws,
-    pub line: &'a Line<Piece>,
+    pub queue: &'a Queue<Piece>,
 }
 
 /// Makes the piece of the entry with which the worker came to the gate, and pushes or keeps it.
@@ -49,7 +49,7 @@ fn hand_on<R: Threads + Wait + Sync, G>(
 {
     let entry = came.task() as usize;
     let piece = Piece::make(rt, alloc, &job.inputs[entry], came);
-    if let Err(piece) = job.line.push(rt, &mut worker.pass, piece) {
+    if let Err(piece) = job.queue.push(rt, &mut worker.pass, piece) {
         worker.kept[entry] = Some(piece);
     }
 }

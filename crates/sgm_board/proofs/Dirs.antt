@@ -1,7 +1,8 @@
 -- The words of directions, and the positions of strips.
-use Rattle.std.proofs.Common.{◌≡◌, ◌≢◌, ℕ, ◌-◌, ◌<◌, Bool, true, false, arith, cond, refl, sym, ap, ◌∙◌, Some, None}
+use Rattle.std.proofs.Common.{◌≡◌, ◌≢◌, ℕ, zero, suc, ◌-◌, ◌<◌, Bool, true, false, arith, cond, get_or, refl, sym, ap, ◌∙◌, Some, None}
 use Rattle.sgm_energy.specs.declared.dir.Dir.{Dir}
 use Rattle.sgm_energy.specs.declared.dir.Dir.TheVariants.{Right, Left, Down, DownRight, DownLeft, Up, UpRight, UpLeft}
+use Rattle.sgm_energy.specs.declared.dir.TheConstants.Dir.{FRONTS}
 use Rattle.sgm_energy.specs.Dirs.{number_of, is_level, goes_down, position_of, strip_at, front_of, dir_of_front}
 use Rattle.sgm_energy.proofs.DirLemmas.{same_number}
 use Rattle.sgm_handover.proofs.Dirs.{front_lt, same_front, front_is}
@@ -58,3 +59,13 @@ dir_of_front-front_of DownLeft place e = at_place 2 place e
 dir_of_front-front_of Up place e = at_place 3 place e
 dir_of_front-front_of UpRight place e = at_place 4 place e
 dir_of_front-front_of UpLeft place e = at_place 5 place e
+
+-- the direction that is listed at a place has its front there
+pub listed : (place : ℕ) (dir : Dir) → place < 6 → dir ≡ get_or FRONTS place dir → (front_of dir ≡ Some place) × (is_level dir ≡ false)
+listed zero dir h e = (ap front_of e, ap is_level e)
+listed (suc zero) dir h e = (ap front_of e, ap is_level e)
+listed (suc (suc zero)) dir h e = (ap front_of e, ap is_level e)
+listed (suc (suc (suc zero))) dir h e = (ap front_of e, ap is_level e)
+listed (suc (suc (suc (suc zero)))) dir h e = (ap front_of e, ap is_level e)
+listed (suc (suc (suc (suc (suc zero))))) dir h e = (ap front_of e, ap is_level e)
+listed (suc (suc (suc (suc (suc (suc k)))))) dir h e = absurd (omega (arith, h))

@@ -1,13 +1,12 @@
--- The texts of rows of differences, and of fields with a comma between each two.
-use Rattle.std.proofs.Common.{◌≡◌, ℕ, ◌<◌, List, [], ◌∷◌, ◌++◌, map, length, drop, get_or, ℤ, Option, None, sym, ap, ◌∙◌, arith, flat_map, ◌+◌, append-nil, append_assoc, take, ◌-◌, ◌≤◌, Result, Ok, Err, is_ok, OnOk, OnErr, if◌then◌else◌, subst, codes, decimal}
+-- The texts of rows of differences.
+use Rattle.std.proofs.Common.{◌≡◌, ℕ, ◌<◌, List, [], ◌∷◌, ◌++◌, map, length, drop, get_or, ℤ, Option, None, sym, ap, ◌∙◌, arith, flat_map, ◌+◌, append-nil, append_assoc, take, ◌-◌, ◌≤◌, Result, Ok, Err, is_ok, OnOk, OnErr, if◌then◌else◌, subst}
 use Rattle.std.proofs.lemmas.List.{take_all, length-drop, flat_map_more}
 use Rattle.std.proofs.lemmas.List.FromFn.{map-range_with_len_more}
 use Rattle.std.specs.List.{join_with_byte, range_with_len, zip}
+use Rattle.sgm_text.specs.Texts.{StartsAs, line}
+use Rattle.sgm_text.proofs.Beginnings.{starts_more, starts_with}
 use Rattle.sgm_grid.specs.Cells.{Cells, row_of}
-use Rattle.sgm_grid.specs.Text.{StartsAs, line}
-use Rattle.sgm_grid.proofs.Rows.{starts_append, starts_more, starts_on, starts_with}
-use Rattle.sgm_change.specs.declared.compare.Changed.{Changed}
-use Rattle.sgm_change.specs.Texts.{after_spaces, both_row, cell_text, difference_text, row_text, rows_text, volumes_of, volumes_text}
+use Rattle.sgm_change.specs.Texts.{after_spaces, both_row, cell_text, difference_text, row_text, rows_text}
 
 -- texts with a space between each two are the first, and each other after a space
 joined_is : (x : Option ℤ × Option ℤ) (xs : List (Option ℤ × Option ℤ)) → join_with_byte 32 (map cell_text (x ∷ xs)) ≡ cell_text x ++ after_spaces xs
@@ -78,44 +77,3 @@ rows_more earlier later n first old new xs ys is1 is2 before now =
     ∙ ap (λ (t : List (Option ℤ)). (first ++ flat_map row_text rows) ++ row_text (zip (row_of earlier n) t)) is2
     ∙ flat_map_more row_text first rows (both_row earlier later n)
     ∙ ap (λ (t : List (List (Option ℤ × Option ℤ))). first ++ flat_map row_text t) (sym (map-range_with_len_more (both_row earlier later) 0 n n (omega arith)))
-
--- two numbers, a comma between them, and what follows them
-abbrev pub two_text : ℕ → ℕ → ℕ → List ℕ
-two_text first second end = decimal first ++ (44 ∷ (decimal second ++ (end ∷ [])))
-
--- a text that was added piece by piece
-four_pieces : (old names first second new a b c d : List ℕ) → names ≡ old ++ a → first ≡ names ++ b → second ≡ first ++ c → new ≡ second ++ d
-    → new ≡ old ++ (a ++ (b ++ (c ++ d)))
-four_pieces old names first second new a b c d p q r s =
-    s ∙ ap (λ (t : List ℕ). t ++ d) (r ∙ ap (λ (t : List ℕ). t ++ c) (q ∙ ap (λ (t : List ℕ). t ++ b) p))
-    ∙ append_assoc ((old ++ a) ++ b) c d ∙ append_assoc (old ++ a) b (c ++ d) ∙ append_assoc old a (b ++ (c ++ d))
-
-two_then : (first second end : ℕ) (more : List ℕ) → two_text first second end ++ more ≡ decimal first ++ (44 ∷ (decimal second ++ (end ∷ more)))
-two_then first second end more =
-    append_assoc (decimal first) (44 ∷ (decimal second ++ (end ∷ []))) more
-    ∙ ap (λ (t : List ℕ). decimal first ++ (44 ∷ t)) (append_assoc (decimal second) (end ∷ []) more)
-
-numbers_line : (changed : Changed) → two_text changed.both changed.come 44 ++ (two_text changed.gone changed.empty 44 ++ two_text changed.fill changed.cut 10)
-    ≡ line (join_with_byte 44 (map decimal (volumes_of changed)))
-numbers_line changed =
-    two_then changed.both changed.come 44 (two_text changed.gone changed.empty 44 ++ two_text changed.fill changed.cut 10)
-    ∙ ap (λ (t : List ℕ). decimal changed.both ++ (44 ∷ (decimal changed.come ++ (44 ∷ t)))) (two_then changed.gone changed.empty 44 (two_text changed.fill changed.cut 10))
-    ∙ sym (simp append_assoc)
-
-pub volumes_end : {E : Type 0} (r : Result (Unit {0}) E) (changed : Changed) (old names first second new : List ℕ)
-    → names ≡ old ++ line (codes "both,come,gone,empty,fill,cut")
-    → first ≡ names ++ two_text changed.both changed.come 44
-    → second ≡ first ++ two_text changed.gone changed.empty 44
-    → OnOk r (new ≡ second ++ two_text changed.fill changed.cut 10)
-    → OnOk r (new ≡ old ++ volumes_text changed)
-volumes_end (Err e) changed old names first second new p q s t = tt
-volumes_end (Ok u) changed old names first second new p q s t =
-    four_pieces old names first second new (line (codes "both,come,gone,empty,fill,cut")) (two_text changed.both changed.come 44) (two_text changed.gone changed.empty 44)
-    (two_text changed.fill changed.cut 10) p q s t
-    ∙ ap (λ (text : List ℕ). old ++ (line (codes "both,come,gone,empty,fill,cut") ++ text)) (numbers_line changed)
-
-pub volumes_starts : {E : Type 0} (r : Result (Unit {0}) E) (old names first second new a b c : List ℕ) → names ≡ old ++ a → first ≡ names ++ b → second ≡ first ++ c
-    → OnErr r (StartsAs second new) → OnErr r (StartsAs old new)
-volumes_starts (Ok u) old names first second new a b c p q s t = tt
-volumes_starts (Err e) old names first second new a b c p q s t =
-    starts_on old second new (starts_more old first second c (starts_more old names first b (subst (λ (text : List ℕ). StartsAs old text) (sym p) (starts_append old a)) q) s) t

@@ -3,7 +3,9 @@ use Rattle.std.specs.Prelude.{ℕ, ℤ, ◌-ℤ◌, List, [], ◌∷◌, ◌++�
 use Rattle.std.specs.Fmt.{signed_decimal}
 use Rattle.std.specs.List.{join_with_byte, range_with_len, zip}
 use Rattle.sgm_grid.specs.Cells.{Cells, row_of}
-use Rattle.sgm_grid.specs.Text.{head_text, line}
+use Rattle.sgm_text.specs.Texts.{line}
+use Rattle.sgm_grid.specs.Text.{head_text}
+use Rattle.sgm_report.specs.Table.{fields_line}
 use Rattle.sgm_change.specs.declared.compare.Changed.{Changed}
 
 -- the later height less the earlier one, or what stands for a cell that hasn't both
@@ -41,4 +43,4 @@ volumes_of changed = changed.both ∷ changed.come ∷ changed.gone ∷ changed.
 
 -- the line of their names, and the line of their numbers
 abbrev pub volumes_text : Changed → List ℕ
-volumes_text changed = line (codes "both,come,gone,empty,fill,cut") ++ line (join_with_byte 44 (map decimal (volumes_of changed)))
+volumes_text changed = line (codes "both,come,gone,empty,fill,cut") ++ fields_line (map decimal (volumes_of changed))

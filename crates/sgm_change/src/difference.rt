@@ -2,7 +2,7 @@ ghost use Rattle.std.specs.Prelude.{◌≡◌, ◌++◌, ◌<◌, OnOk, OnErr, A
 ghost use Rattle.std.specs.List.{zip};
 ghost use Rattle.std.specs.Option.{ForSome};
 ghost use Rattle.sgm_grid.specs.Cells.{IsHeight};
-ghost use Rattle.sgm_grid.specs.Text.{StartsAs};
+ghost use Rattle.sgm_text.specs.Texts.{StartsAs};
 ghost use Rattle.sgm_change.specs.Texts.{after_spaces, difference_text, grids_text, row_text, rows_text};
 
 use itoa::Buffer;
@@ -48,7 +48,7 @@ fn append_text(earlier: &Grid, later: &Grid, into: &mut Vec<u8>) -> Result<(), A
 }
 
 /// Adds the lines of the rows, from the north.
-#[tactic(auto, using(sgm_grid::proofs::Rows::starts_on, sgm_grid::proofs::Rows::starts_append))]
+#[tactic(auto, using(sgm_text::proofs::Beginnings::starts_on, sgm_text::proofs::Beginnings::starts_append))]
 fn append_rows(earlier: &Grid, later: &Grid, into: &mut Vec<u8>) -> Result<(), AllocError>
     requires { earlier.now.spec ≡ later.now.spec }
     ensures ok { OnOk result
@@ -80,7 +80,7 @@ fn append_row(
 }
 
 /// Adds each difference after a space.
-#[tactic(auto, using(sgm_grid::proofs::Rows::starts_on, sgm_grid::proofs::Rows::starts_append))]
+#[tactic(auto, using(sgm_text::proofs::Beginnings::starts_on, sgm_text::proofs::Beginnings::starts_append))]
 fn append_rest(
     earlier: &[Option<i32>],
     later: &[Option<i32>],

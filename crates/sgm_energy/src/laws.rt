@@ -1,21 +1,23 @@
 //! What follows from the definitions alone. Each function is a law: its clauses speak of every
 //! problem, and its body is empty.
 
-ghost use Rattle.std.specs.Prelude.{◌≡◌, ◌≢◌, ◌↔◌, ℕ, ◌+◌, ◌*◌, ◌<◌, ◌≤◌, Bool, true, false, List, ◌++◌, ◌∷◌, [], All, Contains, length};
+ghost use Rattle.std.specs.Prelude.{◌≡◌, ◌≢◌, ◌↔◌, ℕ, ◌+◌, ◌*◌, ◌<◌, ◌≤◌, Bool, true, false, List, ◌++◌, ◌∷◌, [], All, Contains, length, slice_get};
 ghost use Rattle.sgm_base.specs.Values.{Values};
 ghost use Rattle.sgm_terms.specs.Step.{IsStepped};
 ghost use Rattle.sgm_energy.specs.declared.dir.Dir.{Dir};
+ghost use Rattle.sgm_energy.specs.declared.dir.TheConstants.Dir.{FRONTS};
 ghost use Rattle.sgm_energy.specs.Dirs.{number_of, is_level, front_of, dir_of_front, position_of, strip_at};
 ghost use Rattle.sgm_energy.specs.Pens.{Penalties};
 ghost use Rattle.sgm_energy.specs.Rays.{Pixel, Problem, IsInside, IsRay, guided_problem, predecessor, ray, before};
 ghost use Rattle.sgm_energy.specs.Energies.{sequences, jump, energy, least_of_all, least_ending, path_value, least_value, sum_done, path_sum, IsWithin};
 
 /// No two directions have one number. A direction that is not level has a front, and no other has
-/// the same.
+/// the same: [`crate::Dir::FRONTS`] lists them by its number.
 pub fn directions()
     ensures numbers { (a b : Dir) → number_of a ≡ number_of b → a ≡ b }
     ensures level { (dir : Dir) → (front_of dir ≡ None) ↔ (is_level dir ≡ true) }
     ensures fronts { (dir : Dir) (front : ℕ) → (front_of dir ≡ Some front) ↔ (dir_of_front front ≡ Some dir) }
+    ensures listed { (front : ℕ) → slice_get FRONTS front ≡ dir_of_front front }
     ensures six { (dir : Dir) (front : ℕ) → front_of dir ≡ Some front → front < 6 }
 {}
 

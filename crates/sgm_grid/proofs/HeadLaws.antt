@@ -15,7 +15,7 @@ use Rattle.sgm_grid.specs.declared.grid_spec.GridSpec.{GridSpec}
 use Rattle.sgm_grid.specs.declared.head.Numbers.{Numbers}
 use Rattle.sgm_grid.specs.Asc.{Place, named, number, head, first_failing, first_of, grid_of, is_in_range, is_kind, is_from_to, number_at, spec_in, told_by}
 use Rattle.sgm_grid.specs.Cells.{Cells}
-use Rattle.sgm_grid.specs.Words.{number_of}
+use Rattle.sgm_grid.specs.Numbers.{number_of}
 use Rattle.sgm_grid.specs.Head.{HasLine, HasNumbers, IsRangeFault, IsWordFault, LacksAt, LacksNumber, LacksLine, first_out, out_of, spec_told}
 
 -- over a line

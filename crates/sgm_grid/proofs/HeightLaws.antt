@@ -17,7 +17,7 @@ use Rattle.sgm_grid.specs.Capped.{capped}
 use Rattle.sgm_grid.specs.Cells.{Cells, IsHeight, cells_of}
 use Rattle.sgm_grid.proofs.HeadLaws.{capped_fits, from_to, test_true}
 use Rattle.sgm_grid.specs.Leading.{leading, prepend}
-use Rattle.sgm_grid.specs.Words.{number_of}
+use Rattle.sgm_grid.specs.Numbers.{number_of}
 
 abbrev Heights : Type 0
 Heights = Result (List (Option ℤ)) AscFault

@@ -6,10 +6,10 @@ pub mod HeightLaws
 pub mod Kept
 pub mod Means
 pub mod Neighbours
+pub mod NumberLaws
 pub mod Placing
 pub mod Room
 pub mod Rows
 pub mod Spans
 pub mod Summed
-pub mod WordLaws
 pub mod WrittenLaws

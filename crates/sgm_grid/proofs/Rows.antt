@@ -1,25 +1,12 @@
 -- The texts of rows.
-use Rattle.std.proofs.Common.{◌≡◌, ℕ, ◌<◌, List, [], ◌∷◌, ◌++◌, map, length, drop, get_or, ℤ, Option, None, sym, ap, ◌∙◌, arith, flat_map, ◌+◌, append-nil, append_assoc, take, subst, ◌-◌, ◌≤◌, Result, Ok, Err, is_ok, OnOk, OnErr, if◌then◌else◌}
-use Rattle.std.proofs.lemmas.List.{take-append-drop, take_all, take_more, length-drop}
-use Rattle.std.proofs.Math.Seq.{take-append_seam}
+use Rattle.std.proofs.Common.{◌≡◌, ℕ, ◌<◌, List, [], ◌∷◌, ◌++◌, map, length, drop, get_or, ℤ, Option, None, sym, ap, ◌∙◌, arith, flat_map, ◌+◌, append-nil, append_assoc, take, ◌-◌, ◌≤◌, Result, Ok, Err, is_ok, OnOk, if◌then◌else◌}
+use Rattle.std.proofs.lemmas.List.{take_all, take_more, length-drop}
 use Rattle.std.proofs.lemmas.List.{flat_map_more}
 use Rattle.std.proofs.lemmas.List.FromFn.{map-range_with_len_more}
 use Rattle.std.specs.List.{join_with_byte}
+use Rattle.sgm_text.specs.Texts.{line}
 use Rattle.sgm_grid.specs.Cells.{Cells, row_of}
-use Rattle.sgm_grid.specs.Text.{StartsAs, after_spaces, first_rows, height_text, line, row_text}
-
--- what is added at the end leaves what stood before
-pub starts_append : (xs ys : List ℕ) → StartsAs xs (xs ++ ys)
-starts_append xs ys = take-append_seam xs ys
-
--- and so on
-pub starts_on : (xs ys zs : List ℕ) → StartsAs xs ys → StartsAs ys zs → StartsAs xs zs
-starts_on xs ys zs p q =
-    let second : ys ≡ xs ++ drop (length xs) ys = sym (take-append-drop (length xs) ys) ∙ ap (λ (t : List ℕ). t ++ drop (length xs) ys) p in
-    let third : zs ≡ ys ++ drop (length ys) zs = sym (take-append-drop (length ys) zs) ∙ ap (λ (t : List ℕ). t ++ drop (length ys) zs) q in
-    let whole : zs ≡ xs ++ (drop (length xs) ys ++ drop (length ys) zs) =
-    third ∙ ap (λ (t : List ℕ). t ++ drop (length ys) zs) second ∙ append_assoc xs (drop (length xs) ys) (drop (length ys) zs) in
-    subst (λ (t : List ℕ). StartsAs xs t) (sym whole) (starts_append xs _)
+use Rattle.sgm_grid.specs.Text.{after_spaces, first_rows, height_text, row_text}
 
 -- texts with a space between each two are the first, and each other after a space
 joined_is : (x : Option ℤ) (xs : List (Option ℤ)) → join_with_byte 32 (map height_text (x ∷ xs)) ≡ height_text x ++ after_spaces xs
@@ -60,11 +47,6 @@ two_lines (Ok x) old first new word value word2 value2 text text2 p t u s =
     ∙ ap (λ (b : List ℕ). b ++ line (word2 ++ text2)) (p ∙ ap (λ (b : List ℕ). old ++ line (word ++ b)) t)
     ∙ append_assoc old (line (word ++ text)) (line (word2 ++ text2))
 
--- two parts, one after the other
-pub two_parts : {E : Type 0} (r : Result (Unit {0}) E) (old first new a b : List ℕ) → first ≡ old ++ a → OnOk r (new ≡ first ++ b) → OnOk r (new ≡ old ++ (a ++ b))
-two_parts (Err e) old first new a b p q = tt
-two_parts (Ok u) old first new a b p q = q ∙ ap (λ (t : List ℕ). t ++ b) p ∙ append_assoc old a b
-
 -- the texts of the first rows, and that of the next
 pub rows_more : (grid : Cells) (n : ℕ) (first old new : List ℕ) (heights : List (Option ℤ)) → heights ≡ row_of grid n
     → old ≡ first ++ flat_map row_text (first_rows grid n) → new ≡ old ++ row_text heights → new ≡ first ++ flat_map row_text (first_rows grid (n + 1))
@@ -73,14 +55,6 @@ rows_more grid n first old new heights is before now =
     ∙ ap (λ (h : List (Option ℤ)). (first ++ flat_map row_text (first_rows grid n)) ++ row_text h) is
     ∙ flat_map_more row_text first (first_rows grid n) (row_of grid n)
     ∙ ap (λ (rows : List (List (Option ℤ))). first ++ flat_map row_text rows) (sym (map-range_with_len_more (row_of grid) 0 n n (omega arith)))
-
--- what was added at the end of a text leaves what stood before
-pub starts_more : (xs ys zs added : List ℕ) → StartsAs xs ys → zs ≡ ys ++ added → StartsAs xs zs
-starts_more xs ys zs added p is = starts_on xs ys zs p (subst (λ (t : List ℕ). StartsAs ys t) (sym is) (starts_append ys added))
-
--- a text with more at its end begins as before
-pub starts_with : (first now added : List ℕ) → now ≡ first ++ added → StartsAs first now
-starts_with first now added is = subst (λ (t : List ℕ). StartsAs first t) (sym is) (starts_append first added)
 
 -- the heights so far, each after a space, and the next
 pub heights_more : (heights : List (Option ℤ)) (n : ℕ) (first old spaced new : List ℕ) → n < length heights
@@ -94,16 +68,3 @@ heights_more heights n first old spaced new inside before space now =
     ∙ ap (λ (t : List ℕ). t ++ each height) before
     ∙ flat_map_more each first (take n heights) height
     ∙ ap (λ (t : List (Option ℤ)). first ++ after_spaces t) (sym (take_more heights n None inside))
-
-pub on_err : {E P : Type 0} (r : Result (Unit {0}) E) → P → OnErr r P
-on_err (Ok u) p = tt
-on_err (Err e) p = p
-
--- a part that was added, then one of which a piece may have been added
-pub err_after : {E : Type 0} (r : Result (Unit {0}) E) (old first new added : List ℕ)
-    → first ≡ old ++ added → OnErr r (StartsAs first new) → OnErr r (StartsAs old new)
-err_after (Ok u) old first new added p q = tt
-err_after (Err e) old first new added p q = starts_on old first new (starts_with old first added p) q
-
-pub starts_same : (xs ys : List ℕ) → ys ≡ xs → StartsAs xs ys
-starts_same xs ys same = ap (take (length xs)) same ∙ take_all (length xs) xs (omega arith)

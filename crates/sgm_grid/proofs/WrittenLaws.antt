@@ -28,9 +28,11 @@ use Rattle.sgm_grid.proofs.HeadLaws.{out_past, test_true, told}
 use Rattle.sgm_grid.proofs.HeightLaws.{enough}
 use Rattle.sgm_grid.specs.declared.grid_spec.GridSpec.{GridSpec}
 use Rattle.sgm_grid.specs.Cells.{Cells, IsCells, IsGridSpec, IsHeight, row_of}
-use Rattle.sgm_grid.specs.Text.{grid_text, head_text, height_text, line, row_text, rows_text}
-use Rattle.sgm_grid.specs.Words.{digits_of, has_bytes, is_space, number_of, words_of}
-use Rattle.sgm_grid.proofs.WordLaws.{word_before}
+use Rattle.sgm_grid.specs.Text.{grid_text, head_text, height_text, row_text, rows_text}
+use Rattle.sgm_text.specs.Texts.{line}
+use Rattle.sgm_text.specs.Words.{has_bytes, is_space, words_of}
+use Rattle.sgm_grid.specs.Numbers.{digits_of, number_of}
+use Rattle.sgm_text.proofs.WordLaws.{word_before}
 
 own : IsNumeralModel (λ ds. all_ascii_digits ds ≡ true) (digits_value 10)
 own = numerals_by_value (λ ds. all_ascii_digits ds ≡ true) tells_all_ascii_digits

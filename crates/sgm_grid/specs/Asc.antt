@@ -4,6 +4,7 @@ use Rattle.std.specs.Option.{option_and_then}
 use Rattle.std.specs.Ordering.{int_eq}
 use Rattle.std.specs.Str.{str_eq_ignore_ascii_case}
 use Rattle.sgm_base.specs.declared.limits.TheConstants.{MAX_GRID_LINES}
+use Rattle.sgm_text.specs.Words.{words_of}
 use Rattle.sgm_grid.specs.declared.asc_fault.AscError.{AscError}
 use Rattle.sgm_grid.specs.declared.asc_fault.AscError.TheVariants.{Fault, NoMemory}
 use Rattle.sgm_grid.specs.declared.asc_fault.AscFault.{AscFault}
@@ -11,7 +12,7 @@ use Rattle.sgm_grid.specs.declared.asc_fault.AscFault.TheVariants.{Word, Range, 
 use Rattle.sgm_grid.specs.declared.grid_spec.GridSpec.{GridSpec}
 use Rattle.sgm_grid.specs.declared.limits.TheConstants.{MAX_PLACE, MAX_CELL, MAX_HEIGHT, NO_HEIGHT}
 use Rattle.sgm_grid.specs.Cells.{Cells, cells_of}
-use Rattle.sgm_grid.specs.Words.{number_of, words_of}
+use Rattle.sgm_grid.specs.Numbers.{number_of}
 
 -- what a word of the head has to be: that name in any case of its letters, or a number from the one
 -- to the other

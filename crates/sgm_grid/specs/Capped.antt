@@ -1,7 +1,7 @@
 -- Words of the reader's own functions. No public clause cites them.
 use Rattle.std.specs.Prelude.{ℕ, min, ℤ, pos, neg_ℤ}
 use Rattle.std.specs.Int.{int_max, int_min}
-use Rattle.sgm_grid.specs.declared.words.TheConstants.{TOO_GREAT}
+use Rattle.sgm_grid.specs.declared.numbers.TheConstants.{TOO_GREAT}
 
 -- all that are greater as one
 abbrev pub capped_size : ℕ → ℕ

@@ -9,7 +9,7 @@ use Rattle.sgm_grid.specs.declared.head.Numbers.{Numbers}
 use Rattle.sgm_grid.specs.declared.limits.TheConstants.{MAX_PLACE, MAX_CELL, NO_HEIGHT}
 use Rattle.sgm_grid.specs.Asc.{Place, named, number, head, first_failing, is_kind, is_from_to}
 use Rattle.sgm_grid.specs.Capped.{capped}
-use Rattle.sgm_grid.specs.Words.{number_of}
+use Rattle.sgm_grid.specs.Numbers.{number_of}
 
 -- a number, what stands for it, and the words behind it
 pub record HasNumber (words : List (List ℕ)) (value : ℤ) (rest : List (List ℕ)) : Type 0 where

@@ -8,8 +8,8 @@ pub mod Head
 pub mod Holding
 pub mod Keeping
 pub mod Leading
+pub mod Numbers
 pub mod Placing
 pub mod Points
 pub mod Summing
 pub mod Text
-pub mod Words

@@ -1,13 +1,10 @@
 -- The text of a grid of heights.
-use Rattle.std.specs.Prelude.{◌≡◌, ℕ, ℤ, List, [], ◌∷◌, ◌++◌, map, flat_map, codes, take, length, decimal, Option, Some, None}
+use Rattle.std.specs.Prelude.{ℕ, ℤ, List, ◌∷◌, ◌++◌, map, flat_map, codes, decimal, Option, Some, None}
 use Rattle.std.specs.Fmt.{signed_decimal}
 use Rattle.std.specs.List.{join_with_byte, range_with_len}
+use Rattle.sgm_text.specs.Texts.{line}
 use Rattle.sgm_grid.specs.declared.grid_spec.GridSpec.{GridSpec}
 use Rattle.sgm_grid.specs.Cells.{Cells, row_of}
-
--- a line: its bytes and a line feed
-abbrev pub line : List ℕ → List ℕ
-line bytes = bytes ++ (10 ∷ [])
 
 -- the lines with the numbers of columns and rows
 abbrev pub size_text : GridSpec → List ℕ
@@ -52,7 +49,3 @@ rows_text grid = flat_map row_text (first_rows grid grid.spec.rows)
 
 abbrev pub grid_text : Cells → List ℕ
 grid_text grid = head_text grid.spec (height_text None) ++ rows_text grid
-
--- what was there before still stands in front
-abbrev pub StartsAs : List ℕ → List ℕ → Type 0
-StartsAs before now = take (length before) now ≡ before

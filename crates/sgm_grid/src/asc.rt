@@ -4,11 +4,12 @@ ghost use Rattle.std.specs.Prelude.{◌≡◌, ◌+◌, ◌<◌, ◌≤◌, ℕ,
 ghost use Rattle.sgm_grid.specs.Asc.{asc_reading, cell_in, cell_told, grid_of, Gives};
 ghost use Rattle.sgm_grid.specs.Cells.{IsGridSpec};
 ghost use Rattle.sgm_grid.specs.Leading.{leading};
-ghost use Rattle.sgm_grid.specs.Words.{words_of};
+ghost use Rattle.sgm_text.specs.Words.{words_of};
 
 use crate::head::{spec_of, split_head};
-use crate::words::{count_words, number, split_word};
+use crate::numbers::number;
 use crate::{AscError, AscFault, Grid, GridSpec, MAX_HEIGHT, NO_HEIGHT};
+use sgm_text::{count_words, split_word_bytes};
 use std::alloc::{AllocError, Global};
 
 /// The grid of which a text tells, or its first fault. Words are the longest runs of bytes other
@@ -77,7 +78,7 @@ fn split_height(text: &[u8]) -> Option<(Option<i32>, &[u8])>
         × (cell_in word ≡ Some split.0)) }
     ensures shorter { IfSome result (λ split. length split.1.now < length text.now) }
 {
-    let Some((word, rest)) = split_word(text) else {
+    let Some((word, rest)) = split_word_bytes(text) else {
         return None;
     };
     let Some(height) = height(word) else {

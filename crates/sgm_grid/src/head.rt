@@ -6,11 +6,12 @@ ghost use Rattle.sgm_grid.specs.declared.asc_fault.AscFault.TheVariants.{Range};
 ghost use Rattle.sgm_grid.specs.Asc.{is_from_to};
 ghost use Rattle.sgm_grid.specs.Cells.{IsGridSpec};
 ghost use Rattle.sgm_grid.specs.Head.{HasLine, HasNumber, HasNumbers, IsRangeFault, IsWordFault, LacksLine, LacksNumber, first_out, spec_told};
-ghost use Rattle.sgm_grid.specs.Words.{words_of};
+ghost use Rattle.sgm_text.specs.Words.{words_of};
 
-use crate::words::{number, split_word};
+use crate::numbers::number;
 use crate::{AscFault, GridSpec, MAX_CELL, MAX_PLACE, NO_HEIGHT};
 use sgm_base::MAX_GRID_LINES;
+use sgm_text::split_word_bytes;
 
 /// The six numbers of a head, each `TOO_GREAT` or its negative where it is further from 0.
 #[derive(Clone, Copy)]
@@ -54,7 +55,7 @@ fn split_line<'a>(text: &'a [u8], name: &[u8], at: usize) -> Result<(i64, &'a [u
         HasLine name.now (words_of text.now) split.0 (words_of split.1.now)) }
     ensures err { IfErr result (λ fault. LacksLine name.now at (words_of text.now) fault) }
 {
-    let Some((word, text)) = split_word(text) else {
+    let Some((word, text)) = split_word_bytes(text) else {
         return Err(AscFault::Word { at });
     };
     if !word.eq_ignore_ascii_case(name) {
@@ -69,7 +70,7 @@ fn split_number(text: &[u8], at: usize) -> Result<(i64, &[u8]), AscFault>
         (words_of split.1.now)) }
     ensures err { IfErr result (λ fault. LacksNumber at (words_of text.now) fault) }
 {
-    let Some((word, text)) = split_word(text) else {
+    let Some((word, text)) = split_word_bytes(text) else {
         return Err(AscFault::Word { at });
     };
     let Some(value) = number(word) else {

@@ -11,9 +11,9 @@ mod head;
 mod keep;
 pub mod laws;
 mod limits;
+mod numbers;
 mod placed;
 mod text;
-mod words;
 
 pub use asc::read_asc;
 pub use asc_fault::{AscError, AscFault};

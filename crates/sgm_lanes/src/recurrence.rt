@@ -1,5 +1,5 @@
 // One step of the recurrence of path values: whole chunks, then the rest index by index.
-ghost use Rattle.std.specs.Prelude.{◌≡◌, ℕ, ◌+◌, ◌-◌, ◌*◌, ◌/◌, ◌^◌, ◌<◌, ◌≤◌, length, slice_index, EachIndex, All, Contains, nat_lt, if◌then◌else◌};
+ghost use Rattle.std.specs.Prelude.{◌≡◌, ℕ, ◌+◌, ◌-◌, ◌*◌, ◌/◌, ◌^◌, ◌<◌, ◌≤◌, ◌⊎◌, length, slice_index, EachIndex, All, Contains, IsTrue, nat_lt, if◌then◌else◌};
 ghost use Rattle.sgm_terms.specs.Step.{IsStepped};
 ghost use Rattle.sgm_lanes.specs.Steps.{CanStep, StepsTo};
 
@@ -14,17 +14,30 @@ use std::simd::prelude::*;
 /// Stands for a neighbour that is not there: no step is carried from a value so great.
 const ABSENT: u16 = MAX_PATH_VALUE + MAX_PENALTY;
 
-/// The left neighbours of the values from `at` on, where `behind` ends in that of the first.
+/// What one step is made from: the values of the pixel before, of which `floor` is the least or less,
+/// the costs at the same indices, and the penalties.
+#[derive(Clone, Copy)]
+struct Terms<'a> {
+    prev: &'a [u16],
+    floor: u16,
+    cost: &'a [u8],
+    p1: u16,
+    p2: u16,
+    ghost can: { CanStep prev.now floor cost.now p1 p2 },
+}
+
+/// The left neighbours of the values from `at` on.
 #[inline(always)]
-fn lefts(prev: &[u16], at: usize, behind: u16x16) -> u16x16
+fn lefts(prev: &[u16], at: usize) -> u16x16
     requires inside { at + LANES ≤ length prev.now }
-    requires len { length behind ≡ LANES }
-    requires behind { slice_index behind 15 ≡ (if nat_lt 0 at then slice_index prev.now (at - 1) else ABSENT) }
     ensures len { length result ≡ LANES }
     ensures each { (i : ℕ) → i < LANES → slice_index result i
         ≡ (if nat_lt 0 (at + i) then slice_index prev.now (at + i - 1) else ABSENT) }
 {
-    neighbours_left(behind, load(prev, at))
+    if 0 < at {
+        return load(prev, at - 1);
+    }
+    neighbours_left(repeated(ABSENT), load(prev, at))
 }
 
 /// The right neighbours of the values from `at` on.
@@ -46,157 +59,150 @@ fn rights(prev: &[u16], at: usize) -> u16x16
 /// values there.
 #[inline(always)]
 #[tactic(auto, unfolding(sgm_terms::specs::Step::carried))]
-fn chunk(
-    prev: &[u16],
-    floor: u16,
-    cost: &[u8],
-    p1: u16,
-    p2: u16,
-    at: usize,
-    left: u16x16,
-    right: u16x16,
-) -> u16x16
-    requires can { CanStep prev.now floor cost.now p1 p2 }
-    requires inside { at + LANES ≤ length prev.now }
+fn chunk(terms: &Terms, at: usize, left: u16x16, right: u16x16) -> u16x16
+    requires inside { at + LANES ≤ length terms.now.prev.now }
     requires left_len { length left ≡ LANES }
-    requires left { (i : ℕ) → i < LANES → slice_index left i
-        ≡ (if nat_lt 0 (at + i) then slice_index prev.now (at + i - 1) else ABSENT) }
+    requires left { let prev = terms.now.prev.now in (i : ℕ) → i < LANES → slice_index left i
+        ≡ (if nat_lt 0 (at + i) then slice_index prev (at + i - 1) else ABSENT) }
     requires right_len { length right ≡ LANES }
-    requires right { (i : ℕ) → i < LANES → slice_index right i
-        ≡ (if nat_lt (at + i + 1) (length prev.now) then slice_index prev.now (at + i + 1) else ABSENT) }
+    requires right { let prev = terms.now.prev.now in (i : ℕ) → i < LANES → slice_index right i
+        ≡ (if nat_lt (at + i + 1) (length prev) then slice_index prev (at + i + 1) else ABSENT) }
     ensures len { length result ≡ LANES }
-    ensures each { (i : ℕ) → i < LANES → StepsTo prev.now floor cost.now p1 p2 (at + i) (slice_index result i) }
+    ensures each { let t = terms.now in (i : ℕ) → i < LANES
+        → StepsTo t.prev.now t.floor t.cost.now t.p1 t.p2 (at + i) (slice_index result i) }
 {
-    let beside = plus(lesser(left, right), repeated(p1));
-    let lowest = lesser(lesser(load(prev, at), repeated(floor + p2)), beside);
-    minus(plus(load_bytes(cost, at), lowest), repeated(floor))
+    let far = repeated(terms.floor + terms.p2);
+    let beside = plus(lesser(left, right), repeated(terms.p1));
+    let lowest = lesser(lesser(load(terms.prev, at), far), beside);
+    let value = plus(load_bytes(terms.cost, at), lowest);
+    minus(value, repeated(terms.floor))
 }
 
-/// The step at the indices of the whole chunks.
+/// Writes the lanes from `at` on, and where `ADD` says so adds them to the sums at their places.
 #[inline(always)]
-fn step_chunks(prev: &[u16], floor: u16, cost: &[u8], p1: u16, p2: u16, into: &mut [u16])
-    requires can { CanStep prev.now floor cost.now p1 p2 }
-    requires prev_length { length prev.now ≡ length into.old }
-    ensures { (d : ℕ) → d < LANES * (length prev.now / LANES) → StepsTo prev.now floor cost.now p1 p2 d (slice_index into.new d) }
+fn put<const ADD: bool>(lanes: u16x16, at: usize, into: &mut [u16], sums: &mut [u16])
+    requires lanes { length lanes ≡ LANES }
+    requires inside { at + LANES ≤ length into.old }
+    requires sums_inside { IsTrue ADD → at + LANES ≤ length sums.old }
+    requires fits { IsTrue ADD → (i : ℕ) → i < LANES
+        → slice_index sums.old (at + i) + slice_index lanes i < 2 ^ 16 }
+    ensures inside { (i : ℕ) → i < LANES → slice_index into.new (at + i) ≡ slice_index lanes i }
+    ensures outside { (k : ℕ) → (k < at) ⊎ (at + LANES ≤ k)
+        → slice_index into.new k ≡ slice_index into.old k }
+    ensures added { IsTrue ADD → (i : ℕ) → i < LANES
+        → slice_index sums.new (at + i) ≡ slice_index sums.old (at + i) + slice_index lanes i }
+    ensures others { (k : ℕ) → (k < at) ⊎ (at + LANES ≤ k)
+        → slice_index sums.new k ≡ slice_index sums.old k }
 {
-    let chunks = prev.len() / LANES;
-    if chunks == 0 {
-        return;
-    }
-    let mut behind = repeated(ABSENT);
-    // The last chunk is apart so that nothing branches in here.
-    for number in 0..chunks - 1 {
-        let at = LANES * number;
-        let left = lefts(prev, at, behind);
-        let lanes = chunk(prev, floor, cost, p1, p2, at, left, load(prev, at + 1));
-        store(lanes, at, into);
-        behind = load(prev, at);
-    }
-    let at = LANES * (chunks - 1);
-    let left = lefts(prev, at, behind);
-    let lanes = chunk(prev, floor, cost, p1, p2, at, left, rights(prev, at));
     store(lanes, at, into);
+    if ADD {
+        increase(lanes, at, sums);
+    }
 }
 
-/// The step at the indices of the whole chunks, each value added to the sum at its place.
+/// The step at the indices of the whole chunks. The first and the last are apart so that nothing
+/// branches between them.
 #[inline(always)]
-fn add_step_chunks(
-    prev: &[u16],
-    floor: u16,
-    cost: &[u8],
-    p1: u16,
-    p2: u16,
-    into: &mut [u16],
-    sums: &mut [u16],
-)
-    requires can { CanStep prev.now floor cost.now p1 p2 }
-    requires prev_length { length prev.now ≡ length into.old }
-    requires sums_length { length sums.old ≡ length into.old }
-    requires room { EachIndex sums.old (λ k. slice_index sums.old k + MAX_PATH_VALUE < 2 ^ 16) }
-    ensures steps { (d : ℕ) → d < LANES * (length prev.now / LANES) → StepsTo prev.now floor cost.now p1 p2 d (slice_index into.new d) }
-    ensures added { (d : ℕ) → d < LANES * (length prev.now / LANES) → slice_index sums.new d ≡ slice_index sums.old d + slice_index into.new d }
-    ensures rest { (k : ℕ) → LANES * (length prev.now / LANES) ≤ k → slice_index sums.new k ≡ slice_index sums.old k }
+fn step_chunks<const ADD: bool>(terms: &Terms, into: &mut [u16], sums: &mut [u16])
+    requires same_length { length terms.now.prev.now ≡ length into.old }
+    requires sums_length { IsTrue ADD → length sums.old ≡ length into.old }
+    requires room { IsTrue ADD → EachIndex sums.old (λ k. slice_index sums.old k + MAX_PATH_VALUE < 2 ^ 16) }
+    ensures steps { let t = terms.now in (d : ℕ) → d < LANES * (length t.prev.now / LANES)
+        → StepsTo t.prev.now t.floor t.cost.now t.p1 t.p2 d (slice_index into.new d) }
+    ensures added { IsTrue ADD → (d : ℕ) → d < LANES * (length terms.now.prev.now / LANES)
+        → slice_index sums.new d ≡ slice_index sums.old d + slice_index into.new d }
+    ensures rest { IsTrue ADD → (k : ℕ) → LANES * (length terms.now.prev.now / LANES) ≤ k
+        → slice_index sums.new k ≡ slice_index sums.old k }
 {
+    let prev = terms.prev;
     let chunks = prev.len() / LANES;
     if chunks == 0 {
         return;
     }
-    let mut last = repeated(ABSENT);
-    // As in `step_chunks`.
-    for number in 0..chunks - 1 {
+    let first = chunk(terms, 0, lefts(prev, 0), rights(prev, 0));
+    put::<ADD>(first, 0, into, sums);
+    for number in 1..chunks - 1 {
         let at = LANES * number;
-        let left = lefts(prev, at, last);
-        let right = load(prev, at + 1);
-        let lanes = chunk(prev, floor, cost, p1, p2, at, left, right);
-        store(lanes, at, into);
-        increase(lanes, at, sums);
-        last = load(prev, at);
+        let inner = chunk(terms, at, load(prev, at - 1), load(prev, at + 1));
+        put::<ADD>(inner, at, into, sums);
     }
-    let at = LANES * (chunks - 1);
-    let left = lefts(prev, at, last);
-    let end = chunk(prev, floor, cost, p1, p2, at, left, rights(prev, at));
-    store(end, at, into);
-    increase(end, at, sums);
+    if 1 < chunks {
+        let at = LANES * (chunks - 1);
+        let last = chunk(terms, at, load(prev, at - 1), rights(prev, at));
+        put::<ADD>(last, at, into, sums);
+    }
 }
 
 /// One step's value at the index `d`, which may be the first or the last.
 #[inline(always)]
 #[tactic(auto, unfolding(sgm_terms::specs::Step::carried))]
-fn end_cell(prev: &[u16], floor: u16, cost: &[u8], p1: u16, p2: u16, d: usize) -> u16
-    requires can { CanStep prev.now floor cost.now p1 p2 }
-    requires inside { d < length prev.now }
-    ensures { StepsTo prev.now floor cost.now p1 p2 d result }
+fn end_cell(terms: &Terms, d: usize) -> u16
+    requires inside { d < length terms.now.prev.now }
+    ensures { let t = terms.now in StepsTo t.prev.now t.floor t.cost.now t.p1 t.p2 d result }
 {
-    let mut lowest = prev[d].min(floor + p2);
+    let prev = terms.prev;
+    let mut lowest = prev[d].min(terms.floor + terms.p2);
     if d + 1 < prev.len() {
-        lowest = lowest.min(prev[d + 1] + p1);
+        lowest = lowest.min(prev[d + 1] + terms.p1);
     }
     if 0 < d {
-        lowest = lowest.min(prev[d - 1] + p1);
+        lowest = lowest.min(prev[d - 1] + terms.p1);
     }
-    u16::from(cost[d]) + (lowest - floor)
+    u16::from(terms.cost[d]) + (lowest - terms.floor)
 }
 
 /// One step's value at an index with another on each side.
 #[inline(always)]
 #[tactic(auto, unfolding(sgm_terms::specs::Step::carried))]
-fn inner_cell(prev: &[u16], floor: u16, cost: &[u8], p1: u16, p2: u16, d: usize) -> u16
-    requires can { CanStep prev.now floor cost.now p1 p2 }
+fn inner_cell(terms: &Terms, d: usize) -> u16
     requires after_first { 0 < d }
-    requires before_last { d + 1 < length prev.now }
-    ensures { StepsTo prev.now floor cost.now p1 p2 d result }
+    requires before_last { d + 1 < length terms.now.prev.now }
+    ensures { let t = terms.now in StepsTo t.prev.now t.floor t.cost.now t.p1 t.p2 d result }
 {
-    let beside = prev[d - 1].min(prev[d + 1]) + p1;
-    let lowest = prev[d].min(floor + p2).min(beside);
-    u16::from(cost[d]) + (lowest - floor)
+    let prev = terms.prev;
+    let beside = prev[d - 1].min(prev[d + 1]) + terms.p1;
+    let lowest = prev[d].min(terms.floor + terms.p2).min(beside);
+    u16::from(terms.cost[d]) + (lowest - terms.floor)
 }
 
 /// The step at the indices from `start` on.
 #[inline(always)]
-fn step_rest(
-    prev: &[u16],
-    floor: u16,
-    cost: &[u8],
-    p1: u16,
-    p2: u16,
-    start: usize,
-    into: &mut [u16],
-)
-    requires can { CanStep prev.now floor cost.now p1 p2 }
-    requires prev_length { length prev.now ≡ length into.old }
+fn step_rest(terms: &Terms, start: usize, into: &mut [u16])
+    requires same_length { length terms.now.prev.now ≡ length into.old }
     ensures before { (d : ℕ) → d < start → slice_index into.new d ≡ slice_index into.old d }
-    ensures each { (d : ℕ) → start ≤ d → d < length prev.now → StepsTo prev.now floor cost.now p1 p2 d (slice_index into.new d) }
+    ensures each { let t = terms.now in (d : ℕ) → start ≤ d → d < length t.prev.now
+        → StepsTo t.prev.now t.floor t.cost.now t.p1 t.p2 d (slice_index into.new d) }
 {
     if start >= into.len() {
         return;
     }
     let last = into.len() - 1;
-    into[start] = end_cell(prev, floor, cost, p1, p2, start);
+    into[start] = end_cell(terms, start);
     // The ends are apart so that nothing branches in here.
     for d in start + 1..last {
-        into[d] = inner_cell(prev, floor, cost, p1, p2, d);
+        into[d] = inner_cell(terms, d);
     }
-    into[last] = end_cell(prev, floor, cost, p1, p2, last);
+    into[last] = end_cell(terms, last);
+}
+
+/// The step at all indices, and where `ADD` says so each value is added to the sum at its place while it
+/// is at hand.
+#[inline(always)]
+fn advance<const ADD: bool>(terms: &Terms, into: &mut [u16], sums: &mut [u16])
+    requires same_length { length terms.now.prev.now ≡ length into.old }
+    requires sums_length { IsTrue ADD → length sums.old ≡ length into.old }
+    requires room { IsTrue ADD → EachIndex sums.old (λ k. slice_index sums.old k + MAX_PATH_VALUE < 2 ^ 16) }
+    ensures steps { let t = terms.now in EachIndex into.new
+        (λ d. StepsTo t.prev.now t.floor t.cost.now t.p1 t.p2 d (slice_index into.new d)) }
+    ensures added { IsTrue ADD
+        → EachIndex sums.new (λ k. slice_index sums.new k ≡ slice_index sums.old k + slice_index into.new k) }
+{
+    step_chunks::<ADD>(terms, into, sums);
+    let rest = LANES * (terms.prev.len() / LANES);
+    step_rest(terms, rest, into);
+    if ADD {
+        add_rest(sums, into, rest);
+    }
 }
 
 /// One step of the recurrence: writes, for each index d, `cost[d]` plus the least of `prev[d]`,
@@ -214,16 +220,14 @@ pub fn step(prev: &[u16], floor: u16, cost: &[u8], p1: u16, p2: u16, into: &mut 
     requires costs { All (λ x. x ≤ MAX_COST) cost.now }
     ensures { EachIndex into.new (λ d. IsStepped (slice_index prev.now) (length prev.now) p1 p2 floor (slice_index cost.now d) d (slice_index into.new d)) }
 {
-    step_chunks(prev, floor, cost, p1, p2, into);
-    step_rest(
+    let terms = Terms {
         prev,
         floor,
         cost,
         p1,
         p2,
-        LANES * (prev.len() / LANES),
-        into,
-    );
+    };
+    advance::<false>(&terms, into, &mut []);
 }
 
 /// One step as [`step`] makes it, whose values are added to the sums at their places while they are at
@@ -251,8 +255,12 @@ pub fn add_step(
     ensures steps { EachIndex into.new (λ d. IsStepped (slice_index prev.now) (length prev.now) p1 p2 floor (slice_index cost.now d) d (slice_index into.new d)) }
     ensures added { EachIndex sums.new (λ k. slice_index sums.new k ≡ slice_index sums.old k + slice_index into.new k) }
 {
-    add_step_chunks(prev, floor, cost, p1, p2, into, sums);
-    let rest = LANES * (prev.len() / LANES);
-    step_rest(prev, floor, cost, p1, p2, rest, into);
-    add_rest(sums, into, rest);
+    let terms = Terms {
+        prev,
+        floor,
+        cost,
+        p1,
+        p2,
+    };
+    advance::<true>(&terms, into, sums);
 }

@@ -3,7 +3,7 @@ use Rattle.std.proofs.Common.{◌≡◌, ℕ, ◌+◌, ◌==◌, List, [], ◌�
 use Rattle.std.specs.Prelude.{filter_map}
 use Rattle.std.specs.List.{cons_option}
 use Rattle.std.proofs.lemmas.List.Recursion.{is_count_by}
-use Rattle.sgm_list.specs.Words.{lines_of, words_of}
+use Rattle.sgm_text.specs.Words.{lines_of, words_of}
 use Rattle.sgm_list.specs.Entries.{entries_of, entry_in}
 use Rattle.sgm_list.specs.Names.{name_in, names_in}
 

@@ -8,8 +8,9 @@ use Rattle.std.proofs.lemmas.Bool.{le-ltb, lt-ltb}
 use Rattle.std.proofs.lemmas.Str.{IsUtf8-from_is_utf8, is_utf8-from_IsUtf8}
 use Rattle.sgm_list.specs.declared.fault.ListFault.{ListFault}
 use Rattle.sgm_list.specs.declared.fault.ListFault.TheVariants.{TooLong, NotText, Line, TooMany, Clash}
-use Rattle.sgm_list.specs.declared.limits.TheConstants.{MAX_LIST_BYTES, MAX_ENTRIES}
-use Rattle.sgm_list.specs.Words.{lines_of}
+use Rattle.sgm_base.specs.declared.limits.TheConstants.{MAX_LIST_BYTES}
+use Rattle.sgm_list.specs.declared.limits.TheConstants.{MAX_ENTRIES}
+use Rattle.sgm_text.specs.Words.{lines_of}
 use Rattle.sgm_list.specs.Entries.{entries_of}
 use Rattle.sgm_list.specs.Clashes.{first_clash}
 use Rattle.sgm_list.specs.Faults.{clash_fault, count_fault, is_faulty, length_fault, line_fault, list_fault, text_fault}

@@ -1,5 +1,3 @@
-pub mod WordLaws
-pub mod LineLaws
 pub mod Joins
 pub mod Found
 pub mod ClashLaws

@@ -9,7 +9,7 @@ use Rattle.std.proofs.lemmas.Str.{IsUtf8-from_is_utf8, is_utf8-from_IsUtf8}
 use Rattle.sgm_list.specs.declared.names.NamesFault.{NamesFault}
 use Rattle.sgm_list.specs.declared.names.NamesFault.TheVariants.{NotText, Line, NoEntries, TooMany, Output}
 use Rattle.sgm_list.specs.declared.limits.TheConstants.{MAX_ENTRIES}
-use Rattle.sgm_list.specs.Words.{lines_of}
+use Rattle.sgm_text.specs.Words.{lines_of}
 use Rattle.sgm_list.specs.Faults.{is_faulty}
 use Rattle.sgm_list.specs.Names.{count_fault, fault_of_count, is_written, line_fault, names_fault, names_in, names_reading, output_fault, unless_fault}
 use Rattle.sgm_list.proofs.Joins.{is_false}

@@ -2,7 +2,7 @@
 use Rattle.std.specs.Prelude.{ℕ, List, [], ◌∷◌, codes, Option, None, Some, if◌then◌else◌}
 use Rattle.std.specs.List.{filter_map}
 use Rattle.std.specs.Str.{bytes_eq}
-use Rattle.sgm_list.specs.Words.{lines_of, words_of}
+use Rattle.sgm_text.specs.Words.{lines_of, words_of}
 
 -- the names of the images, of the calibration, none for the plain settings, and what the names of the outputs begin with
 pub record EntryNames : Type 0 where

@@ -7,8 +7,9 @@ use Rattle.sgm_list.specs.declared.fault.ListError.{ListError}
 use Rattle.sgm_list.specs.declared.fault.ListError.TheVariants.{Fault, NoMemory}
 use Rattle.sgm_list.specs.declared.fault.ListFault.{ListFault}
 use Rattle.sgm_list.specs.declared.fault.ListFault.TheVariants.{TooLong, NotText, Line, TooMany, Clash}
-use Rattle.sgm_list.specs.declared.limits.TheConstants.{MAX_LIST_BYTES, MAX_ENTRIES}
-use Rattle.sgm_list.specs.Words.{lines_of, words_of}
+use Rattle.sgm_base.specs.declared.limits.TheConstants.{MAX_LIST_BYTES}
+use Rattle.sgm_list.specs.declared.limits.TheConstants.{MAX_ENTRIES}
+use Rattle.sgm_text.specs.Words.{lines_of, words_of}
 use Rattle.sgm_list.specs.Entries.{entries_of}
 use Rattle.sgm_list.specs.Clashes.{first_clash}
 

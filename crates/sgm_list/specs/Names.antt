@@ -5,7 +5,7 @@ use Rattle.std.specs.Option.{option_map, option_or}
 use Rattle.std.specs.Str.{bytes_eq, is_utf8}
 use Rattle.std.specs.declared.alloc.Global.{Global}
 use Rattle.sgm_list.specs.Faults.{is_faulty}
-use Rattle.sgm_list.specs.Words.{lines_of, words_of}
+use Rattle.sgm_text.specs.Words.{lines_of, words_of}
 use Rattle.sgm_list.specs.declared.limits.TheConstants.{MAX_ENTRIES}
 use Rattle.sgm_list.specs.declared.names.NamesError.{NamesError}
 use Rattle.sgm_list.specs.declared.names.NamesError.TheVariants.{Fault, NoMemory}

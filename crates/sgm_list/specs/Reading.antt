@@ -1,18 +1,12 @@
 -- Words of the reader's own functions. No public clause cites them.
-use Rattle.std.specs.Prelude.{◌≡◌, ℕ, suc, List, [], length, Option, None, Some}
+use Rattle.std.specs.Prelude.{◌≡◌, ℕ, suc, List, length, Option, None, Some}
 use Rattle.std.specs.Borrow.{Bor}
 use Rattle.std.specs.BTreeMap.{BTreeMap, get_by}
 use Rattle.std.specs.Cmp.Lexicographic.{slice_cmp}
 use Rattle.std.specs.List.{position_from}
 use Rattle.std.specs.Ordering.{nat_cmp}
 use Rattle.std.specs.Str.{bytes_eq}
-use Rattle.sgm_list.specs.Words.{lines_of}
 use Rattle.sgm_list.specs.Entries.{EntryNames}
-
--- the lines of what is left of a text, none where its last line is done
-abbrev pub lines_left : Option (Bor (List ℕ)) → List (List ℕ)
-lines_left None = []
-lines_left (Some rest) = lines_of rest.now
 
 -- one more than its bytes, none where its last line is done
 abbrev pub size_left : Option (Bor (List ℕ)) → ℕ

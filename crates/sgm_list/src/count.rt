@@ -1,24 +1,10 @@
 //! Counting the entries, before memory is taken for them.
 ghost use Rattle.std.specs.Prelude.{◌≡◌, ◌≤◌, ◌<◌, ◌+◌, ◌==◌, length, count_by, None, Some, IfOk, IfErr};
 ghost use Rattle.std.specs.List.{position_from};
-ghost use Rattle.sgm_list.specs.Words.{lines_of, words_of};
+ghost use Rattle.sgm_text.specs.Words.{lines_of, words_of};
 ghost use Rattle.sgm_list.specs.Faults.{is_faulty};
 
-use crate::words::{split_line, split_word};
-
-/// The number of words of a line.
-fn count_words(line: &str) -> usize
-    ensures count { result ≡ length (words_of line.now) }
-    ensures within { result ≤ length line.now }
-{
-    let mut count = 0;
-    let mut rest = line;
-    while let Some((_word, behind)) = split_word(rest) {
-        count += 1;
-        rest = behind;
-    }
-    count
-}
+use sgm_text::{count_words, split_line};
 
 /// The number of lines of a text that have so many words; or the number of the first line, from 1,
 /// that has words, but not so many.
@@ -36,7 +22,7 @@ pub fn count_lines(text: &str, need: usize) -> Result<usize, usize>
     while let Some(rest) = left {
         let (line, behind) = split_line(rest);
         number += 1;
-        let words = count_words(line);
+        let words = count_words(line.as_bytes());
         if words == need {
             count += 1;
         } else if words != 0 {

@@ -6,7 +6,7 @@ use std::alloc::AllocError;
 /// What is wrong with a list. Of several faults the one that is listed first.
 #[derive(Clone, Copy, PartialEq, Eq)]
 pub enum ListFault {
-    /// More bytes than [`crate::MAX_LIST_BYTES`].
+    /// More bytes than [`sgm_base::MAX_LIST_BYTES`].
     TooLong,
     /// The bytes aren't UTF-8.
     NotText,

@@ -9,11 +9,10 @@ mod limits;
 mod line;
 mod names;
 mod read;
-mod words;
 
 pub use entry::Entry;
 pub use fault::{ListError, ListFault};
-pub use limits::{MAX_ENTRIES, MAX_LIST_BYTES};
-pub use line::{Line, MAX_DIGITS, MAX_LINE, fault_line};
+pub use limits::MAX_ENTRIES;
+pub use line::fault_line;
 pub use names::{NamesError, NamesFault, read_names};
 pub use read::read_list;

@@ -4,13 +4,13 @@ ghost use Rattle.std.specs.List.{position_from};
 ghost use Rattle.std.specs.Str.{bytes_eq};
 ghost use Rattle.sgm_list.specs.Names.{Gives, fault_of_count, is_written, name_in, names_in};
 ghost use Rattle.sgm_list.specs.Names.{names_reading};
-ghost use Rattle.sgm_list.specs.Words.{words_of};
+ghost use Rattle.sgm_text.specs.Words.{words_of};
 ghost use Rattle.sgm_list.specs.declared.names.NamesError.TheVariants.{NoMemory};
 
 use crate::MAX_ENTRIES;
 use crate::clash::is_joined;
 use crate::count::count_lines;
-use crate::words::{split_line, split_word};
+use sgm_text::{split_line, split_word};
 use std::alloc::{AllocError, Global};
 
 /// What is wrong with a list of names. Of several faults the one that is listed first.

@@ -1,13 +1,14 @@
 //! Reading a list.
 ghost use Rattle.std.specs.Prelude.{◌≡◌, ◌≤◌, None, Some, length, IfOk, IfErr, MatchOption};
-ghost use Rattle.sgm_list.specs.Words.{words_of};
+ghost use Rattle.sgm_text.specs.Words.{words_of};
 ghost use Rattle.sgm_list.specs.Entries.{entries_of, entry_in, entry_of};
 ghost use Rattle.sgm_list.specs.Faults.{list_fault, IsFault};
 
 use crate::clash::first_clash;
 use crate::count::count_lines;
-use crate::words::{split_line, split_word};
-use crate::{Entry, ListError, ListFault, MAX_ENTRIES, MAX_LIST_BYTES};
+use crate::{Entry, ListError, ListFault, MAX_ENTRIES};
+use sgm_base::MAX_LIST_BYTES;
+use sgm_text::{split_line, split_word};
 use std::alloc::{AllocError, Global};
 
 /// The entries of a list of at most [`MAX_LIST_BYTES`] bytes, in order, or its first fault, which is never

@@ -1,7 +1,6 @@
 //! How a run ended: its outcome, the program's status, and the line of the outcome.
 #![tactic(auto)]
 
-mod line;
 mod outcome;
 mod refusals;
 mod write;

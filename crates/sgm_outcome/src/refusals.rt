@@ -7,13 +7,13 @@ ghost use Rattle.sgm_outcome.specs.Lines.{input_line, asc_line, list_line, refus
 ghost use Rattle.sgm_words.specs.Files.{input_name};
 
 use crate::Refusal;
-use crate::line::{Line, MAX_LINE};
 use sgm_base::{MAX_VOLUME, Side, Size};
 use sgm_calib::{CalibFault, Key};
 use sgm_grid::AscFault;
 use sgm_list::NamesFault;
 use sgm_pgm::PgmFault;
 use sgm_rectify::WarpFault;
+use sgm_text::Line;
 use sgm_words::Input;
 
 fn side_word(side: Side) -> &'static str

@@ -4,9 +4,9 @@ ghost use Rattle.sgm_io.specs.Sink.{SinkFaults, WritesWhole};
 ghost use Rattle.sgm_outcome.specs.Lines.{word_line, usage_line, line_of, TakesLine};
 
 use crate::Outcome;
-use crate::line::Line;
 use crate::refusals::{refusal_line, with_input};
 use sgm_io::{Sink, SinkError, write_whole};
+use sgm_text::Line;
 use sgm_words::UsageFault;
 
 // What is wrong with the word at a position.

@@ -52,12 +52,6 @@ follows_same prev prev' count p1 far cost cost' d value value' h same ec ev f =
       ap (λ l. carried prev' count p1 far l d) low,
     )
 
--- what follows from a part of a row follows from the row
-pub follows_part : (prev : List ℕ) (prev' : ℕ → ℕ) (count p1 far cost cost' d value value' : ℕ) → length prev ≡ count → d < count → ((k : ℕ) → k < count → slice_index prev k ≡ prev' k) → cost ≡ cost' → value ≡ value' → Follows (slice_index prev) (length prev) p1 far cost d value → Follows prev' count p1 far cost' d value'
-follows_part prev prev' count p1 far cost cost' d value value' e h same ec ev f =
-    follows_same (slice_index prev) prev' count p1 far cost cost' d value value' h same ec ev
-    (subst (λ n. Follows (slice_index prev) n p1 far cost d value) e f)
-
 -- ---- a part of a list
 pub mid_at : (a v w : List ℕ) (n d : ℕ) → length a ≡ n → d < length v → slice_index (a ++ (v ++ w)) (n + d) ≡ slice_index v d
 mid_at a v w n d e h =
@@ -113,3 +107,15 @@ mid_was xs mid rest n count d em er h =
     ∙ get_or-take count rest d 0 h
     ∙ ap (λ l. slice_index l d) er
     ∙ get_or-drop n xs d 0
+
+-- what the kernel gives for a pixel of a row of costs follows from the pixel before
+pub pixel_follows : (prev costs : List ℕ) (count p1 p1' far low at n d value : ℕ) → length prev ≡ count → d < count → d < n
+    → p1' ≡ p1 → Contains prev low → All (λ x. low ≤ x) prev
+    → IsStepped (slice_index prev) (length prev) p1' far low (slice_index (take n (drop at costs)) d) d value
+    → Follows (slice_index prev) count p1 far (slice_index costs (at + d)) d value
+pixel_follows prev costs count p1 p1' far low at n d value el hd hn ep c h e =
+    let cost : ℕ = slice_index costs (at + d) in
+    let from = follows_from prev p1' far (slice_index (take n (drop at costs)) d) d value low c h e in
+    let counted = subst (λ m. Follows (slice_index prev) m p1' far (slice_index (take n (drop at costs)) d) d value) el from in
+    let costed = subst (λ m. Follows (slice_index prev) count p1' far m d value) (part_at costs at n d hn) counted in
+    subst (λ m. Follows (slice_index prev) count m far cost d value) ep costed

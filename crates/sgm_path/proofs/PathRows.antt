@@ -15,10 +15,6 @@ use Rattle.sgm_energy.proofs.PathLaws.{first, next}
 use Rattle.sgm_path.specs.Paths.{far_between, Follows, HasFar, HoldsRowBefore, RowFollows, StepsAt, Suits}
 use Rattle.sgm_path.proofs.Follow.{follows_same}
 
--- a column ends within its row
-pub column_ends : (x count len : ℕ) → 0 < count → x < len / count → x * count + count ≤ len
-column_ends x count len h l = omega (arith, mul-le (x + 1) count (len / count) count (omega arith) (omega arith))
-
 -- no penalty between two rows is below p1
 pub between-ordered : (penalties : Penalties) (guide guide_before : List (Option ℕ)) → penalties.p1 ≤ penalties.p2 → (z x : ℕ) → penalties.p1 ≤ far_between penalties guide guide_before z x
 between-ordered penalties guide guide_before le z x = far-ordered penalties (slice_index_or guide x None) (slice_index_or guide_before z None) le
@@ -127,71 +123,7 @@ paths_level g dir y p1 count far costs into s hf le pos_count el l steps =
     (λ x d hx hd. level_within g dir y p1 count far costs into s hf le l (step_of g dir y p1 count far costs into into s pos_count el steps)
     (suc (room g dir (pixel_at x y))) x d (omega arith) hx hd)
 
--- ---- one more pixel of a row: what stands elsewhere in the row stays
-pub bound_more : (old new : List ℕ) (count x most : ℕ) → ((k : ℕ) → (k < x * count) ⊎ (x * count + count ≤ k) → slice_index new k ≡ slice_index old k)
-    → ((k : ℕ) → k < x * count → slice_index old k ≤ most) → ((d : ℕ) → d < count → slice_index new (x * count + d) ≤ most)
-    → (k : ℕ) → k < (x + 1) * count → slice_index new k ≤ most
-bound_more old new count x most others left here k h = elim (cases_lt k (x * count)) [
-  | inl l ↦ omega (arith, others k (inl l), left k l)
-  | inr l ↦ (let d : ℕ = k - x * count in
-      let e : x * count + d ≡ k = omega arith in
-      omega (arith, ap (slice_index new) e, here d (omega arith)))
-]
-
-pub bound_down : (old new : List ℕ) (count x most : ℕ) → ((k : ℕ) → (k < x * count) ⊎ (x * count + count ≤ k) → slice_index new k ≡ slice_index old k)
-    → length new ≡ length old → ((k : ℕ) → (x + 1) * count ≤ k → k < length old → slice_index old k ≤ most) → ((d : ℕ) → d < count → slice_index new (x * count + d) ≤ most)
-    → (k : ℕ) → x * count ≤ k → k < length new → slice_index new k ≤ most
-bound_down old new count x most others same right here k h l = elim (cases_lt k (x * count + count)) [
-  | inl lt ↦ (let d : ℕ = k - x * count in
-      let e : x * count + d ≡ k = omega arith in
-      omega (arith, ap (slice_index new) e, here d (omega arith)))
-  | inr le ↦ omega (arith, others k (inr le), right k (omega arith) (omega arith))
-]
-
--- the same of sums to which the values of each pixel are added once they are there
-pub added_more : (first sums sums' old new : List ℕ) (count x : ℕ) → ((k : ℕ) → (k < x * count) ⊎ (x * count + count ≤ k) → slice_index new k ≡ slice_index old k)
-    → ((k : ℕ) → (k < x * count) ⊎ (x * count + count ≤ k) → slice_index sums' k ≡ slice_index sums k)
-    → ((d : ℕ) → d < count → slice_index sums' (x * count + d) ≡ slice_index sums (x * count + d) + slice_index new (x * count + d))
-    → ((k : ℕ) → k < x * count → slice_index sums k ≡ slice_index first k + slice_index old k) → ((k : ℕ) → x * count ≤ k → slice_index sums k ≡ slice_index first k)
-    → (k : ℕ) → k < (x + 1) * count → slice_index sums' k ≡ slice_index first k + slice_index new k
-added_more first sums sums' old new count x others others' here done left k h = elim (cases_lt k (x * count)) [
-  | inl l ↦ omega (arith, others k (inl l), others' k (inl l), done k l)
-  | inr l ↦ (let d : ℕ = k - x * count in
-      let e : x * count + d ≡ k = omega arith in
-      omega (arith, ap (slice_index sums') e, ap (slice_index sums) e, ap (slice_index new) e, here d (omega arith), left k l))
-]
-
-pub added_down : (first sums sums' old new : List ℕ) (count x : ℕ) → ((k : ℕ) → (k < x * count) ⊎ (x * count + count ≤ k) → slice_index new k ≡ slice_index old k)
-    → length new ≡ length old → ((k : ℕ) → (k < x * count) ⊎ (x * count + count ≤ k) → slice_index sums' k ≡ slice_index sums k)
-    → ((d : ℕ) → d < count → slice_index sums' (x * count + d) ≡ slice_index sums (x * count + d) + slice_index new (x * count + d))
-    → ((k : ℕ) → (x + 1) * count ≤ k → k < length old → slice_index sums k ≡ slice_index first k + slice_index old k) → ((k : ℕ) → k < (x + 1) * count → slice_index sums k ≡ slice_index first k)
-    → (k : ℕ) → x * count ≤ k → k < length new → slice_index sums' k ≡ slice_index first k + slice_index new k
-added_down first sums sums' old new count x others same others' here done left k h l = elim (cases_lt k (x * count + count)) [
-  | inl lt ↦ (let d : ℕ = k - x * count in
-      let e : x * count + d ≡ k = omega arith in
-      omega (arith, ap (slice_index sums') e, ap (slice_index sums) e, ap (slice_index new) e, here d (omega arith), left k (omega arith)))
-  | inr le ↦ omega (arith, others k (inr le), others' k (inr le), done k (omega arith) (omega arith))
-]
-
--- what holds of each entry so far holds with one more pixel
-pub row_keep : (P : ℕ → ℕ → ℕ → Type 0) (old new : List ℕ) (count x : ℕ) → ((k : ℕ) → (k < x * count) ⊎ (x * count + count ≤ k) → slice_index new k ≡ slice_index old k)
-    → ((z d : ℕ) → z < x → d < count → P z d (slice_index old (z * count + d))) → ((d : ℕ) → d < count → P x d (slice_index new (x * count + d)))
-    → (z d : ℕ) → z < x + 1 → d < count → P z d (slice_index new (z * count + d))
-row_keep P old new count x others left here z d hz hd = elim (cases_eq z x) [
-  | inl e ↦ subst (λ w. P w d (slice_index new (w * count + d))) (sym e) (here d hd)
-  | inr n ↦ (let lt : z < x = omega arith in
-      subst (P z d) (sym (others (z * count + d) (inl (omega (arith, mul-add-lt z count d x lt hd))))) (left z d lt hd))
-]
-
-pub row_keep_down : (P : ℕ → ℕ → ℕ → Type 0) (old new : List ℕ) (count x n : ℕ) → ((k : ℕ) → (k < x * count) ⊎ (x * count + count ≤ k) → slice_index new k ≡ slice_index old k)
-    → ((z d : ℕ) → x + 1 ≤ z → z < n → d < count → P z d (slice_index old (z * count + d))) → ((d : ℕ) → d < count → P x d (slice_index new (x * count + d)))
-    → (z d : ℕ) → x ≤ z → z < n → d < count → P z d (slice_index new (z * count + d))
-row_keep_down P old new count x n others right here z d hz hn hd = elim (cases_eq z x) [
-  | inl e ↦ subst (λ w. P w d (slice_index new (w * count + d))) (sym e) (here d hd)
-  | inr ne ↦ (let lt : x + 1 ≤ z = omega arith in
-      subst (P z d) (sym (others (z * count + d) (inr (omega (arith, mul-le (x + 1) count z count lt (omega arith)))))) (right z d lt hn hd))
-]
-
+-- ---- what an entry follows from
 -- an entry that follows from a row follows from each row that has the same values where it comes from
 steps_in : (count p1 : ℕ) (far : ℕ → ℕ → ℕ) (old new costs : List ℕ) (x d value : ℕ) → d < count → (o : Option ℕ)
     → ((z a : ℕ) → o ≡ Some z → a < count → slice_index old (z * count + a) ≡ slice_index new (z * count + a))
@@ -207,85 +139,3 @@ pub steps_same : (dir : Dir) (width count p1 : ℕ) (far : ℕ → ℕ → ℕ) 
     → StepsAt dir width count p1 far old costs x d value → StepsAt dir width count p1 far new costs x d value
 steps_same dir width count p1 far old new costs x d value hd same step =
     steps_in count p1 far old new costs x d value hd (column_before dir width x) same step
-
--- ---- one more entry of a row that runs to the right
-product_before : (x count : ℕ) → 0 < x → (x - 1) * count + count ≡ x * count
-product_before x count h =
-    let z : ℕ = x - 1 in
-    let e : z + 1 ≡ x = omega arith in
-    omega (arith, ap (λ n. n * count) e)
-
-pub begins_right : (width count p1 : ℕ) (far : ℕ → ℕ → ℕ) (row costs : List ℕ) (x d value : ℕ) → x ≡ 0 → value ≡ slice_index costs (x * count + d) → StepsAt Right width count p1 far row costs x d value
-begins_right width count p1 far row costs x d value e v =
-    subst (λ o. MatchOption o (value ≡ slice_index costs (x * count + d)) (λ z. Follows (λ a. slice_index row (z * count + a)) count p1 (far z x) (slice_index costs (x * count + d)) d value))
-    (sym (minus_one_none width x e)) v
-
-pub follows_left : (width count p1 far' p1' : ℕ) (far : ℕ → ℕ → ℕ) (old new costs : List ℕ) (x d value : ℕ) → p1' ≡ p1 → far' ≡ far (x - 1) x → 0 < x → x < width → d < count
-    → ((k : ℕ) → (k < x * count) ⊎ (x * count + count ≤ k) → slice_index new k ≡ slice_index old k)
-    → Follows (λ a. slice_index old (x * count - count + a)) count p1' far' (slice_index costs (x * count + d)) d value → StepsAt Right width count p1 far new costs x d value
-follows_left width count p1 far' p1' far old new costs x d value en ef hx hw hd others f =
-    let cost : ℕ = slice_index costs (x * count + d) in
-    let same = follows_same (λ a. slice_index old (x * count - count + a)) (λ a. slice_index new ((x - 1) * count + a)) count p1' far' cost cost d value value hd
-    (λ a ha. let i : x * count - count + a ≡ (x - 1) * count + a = omega (arith, product_before x count hx) in
-    ap (slice_index old) i ∙ sym (others ((x - 1) * count + a) (inl (omega (arith, product_before x count hx))))) refl refl f in
-    let a = subst (λ n. Follows (λ a. slice_index new ((x - 1) * count + a)) count n far' cost d value) en same in
-    let b = subst (λ n. Follows (λ a. slice_index new ((x - 1) * count + a)) count p1 n cost d value) ef a in
-    subst (λ o. MatchOption o (value ≡ cost) (λ z. Follows (λ a. slice_index new (z * count + a)) count p1 (far z x) cost d value))
-    (sym (minus_one width x hx (omega arith))) b
-
-pub right_more : (width count p1 : ℕ) (far : ℕ → ℕ → ℕ) (old new costs : List ℕ) (x : ℕ) → ((k : ℕ) → (k < x * count) ⊎ (x * count + count ≤ k) → slice_index new k ≡ slice_index old k)
-    → ((z d : ℕ) → z < x → d < count → StepsAt Right width count p1 far old costs z d (slice_index old (z * count + d)))
-    → ((d : ℕ) → d < count → StepsAt Right width count p1 far new costs x d (slice_index new (x * count + d)))
-    → (z d : ℕ) → z < x + 1 → d < count → StepsAt Right width count p1 far new costs z d (slice_index new (z * count + d))
-right_more width count p1 far old new costs x others left here =
-    row_keep (λ z d v. StepsAt Right width count p1 far new costs z d v) old new count x others
-    (λ z d hz hd. steps_same Right width count p1 far old new costs z d (slice_index old (z * count + d)) hd
-    (λ w a e ha. let lt : w < x = omega (arith, (minus_pos width z 1 w e).0) in sym (others (w * count + a) (inl (omega (arith, mul-add-lt w count a x lt ha)))))
-    (left z d hz hd))
-    here
-
--- ---- and of one that runs to the left
-pub begins_left : (width count p1 : ℕ) (far : ℕ → ℕ → ℕ) (row costs : List ℕ) (x d value : ℕ) → x + 1 ≡ width → value ≡ slice_index costs (x * count + d) → StepsAt Left width count p1 far row costs x d value
-begins_left width count p1 far row costs x d value e v =
-    subst (λ o. MatchOption o (value ≡ slice_index costs (x * count + d)) (λ z. Follows (λ a. slice_index row (z * count + a)) count p1 (far z x) (slice_index costs (x * count + d)) d value))
-    (sym (minus_up_none width x (omega arith))) v
-
-pub follows_right : (width count p1 far' p1' : ℕ) (far : ℕ → ℕ → ℕ) (old new costs : List ℕ) (x d value : ℕ) → p1' ≡ p1 → far' ≡ far (x + 1) x → x + 1 < width → d < count
-    → ((k : ℕ) → (k < x * count) ⊎ (x * count + count ≤ k) → slice_index new k ≡ slice_index old k)
-    → Follows (λ a. slice_index old (x * count + count + a)) count p1' far' (slice_index costs (x * count + d)) d value → StepsAt Left width count p1 far new costs x d value
-follows_right width count p1 far' p1' far old new costs x d value en ef hw hd others f =
-    let cost : ℕ = slice_index costs (x * count + d) in
-    let same = follows_same (λ a. slice_index old (x * count + count + a)) (λ a. slice_index new ((x + 1) * count + a)) count p1' far' cost cost d value value hd
-    (λ a ha. let i : x * count + count + a ≡ (x + 1) * count + a = omega arith in
-    ap (slice_index old) i ∙ sym (others ((x + 1) * count + a) (inr (omega arith)))) refl refl f in
-    let a = subst (λ n. Follows (λ a. slice_index new ((x + 1) * count + a)) count n far' cost d value) en same in
-    let b = subst (λ n. Follows (λ a. slice_index new ((x + 1) * count + a)) count p1 n cost d value) ef a in
-    subst (λ o. MatchOption o (value ≡ cost) (λ z. Follows (λ a. slice_index new (z * count + a)) count p1 (far z x) cost d value))
-    (sym (minus_up width x hw)) b
-
-pub left_more : (width count p1 : ℕ) (far : ℕ → ℕ → ℕ) (old new costs : List ℕ) (x : ℕ) → ((k : ℕ) → (k < x * count) ⊎ (x * count + count ≤ k) → slice_index new k ≡ slice_index old k)
-    → ((z d : ℕ) → x + 1 ≤ z → z < width → d < count → StepsAt Left width count p1 far old costs z d (slice_index old (z * count + d)))
-    → ((d : ℕ) → d < count → StepsAt Left width count p1 far new costs x d (slice_index new (x * count + d)))
-    → (z d : ℕ) → x ≤ z → z < width → d < count → StepsAt Left width count p1 far new costs z d (slice_index new (z * count + d))
-left_more width count p1 far old new costs x others right here =
-    row_keep_down (λ z d v. StepsAt Left width count p1 far new costs z d v) old new count x width others
-    (λ z d hz hn hd. steps_same Left width count p1 far old new costs z d (slice_index old (z * count + d)) hd
-    (λ w a e ha. sym (others (w * count + a) (inr (omega (arith, mul-le (x + 1) count w count (omega (arith, (minus_negsuc width z 0 w e).0)) (omega arith))))))
-    (right z d hz hn hd))
-    here
-
--- ---- an entry of a row that comes after another
-pub begins_from : (dir : Dir) (width count p1 : ℕ) (far : ℕ → ℕ → ℕ) (before costs : List ℕ) (x d value : ℕ) → None ≡ column_before dir width x → value ≡ slice_index costs (x * count + d) → StepsAt dir width count p1 far before costs x d value
-begins_from dir width count p1 far before costs x d value e v =
-    subst (λ o. MatchOption o (value ≡ slice_index costs (x * count + d)) (λ z. Follows (λ a. slice_index before (z * count + a)) count p1 (far z x) (slice_index costs (x * count + d)) d value)) e v
-
-pub follows_row : (dir : Dir) (width count p1 far' p1' : ℕ) (far : ℕ → ℕ → ℕ) (prev before costs : List ℕ) (x z d value : ℕ) → p1' ≡ p1 → far' ≡ far z x → d < count
-    → Some z ≡ column_before dir width x → ((a : ℕ) → a < count → slice_index prev a ≡ slice_index before (z * count + a))
-    → Follows (slice_index prev) count p1' far' (slice_index costs (x * count + d)) d value → StepsAt dir width count p1 far before costs x d value
-follows_row dir width count p1 far' p1' far prev before costs x z d value en ef hd e same f =
-    let cost : ℕ = slice_index costs (x * count + d) in
-    let row : ℕ → ℕ = λ a. slice_index before (z * count + a) in
-    let a = follows_same (slice_index prev) row count p1' far' cost cost d value value hd same refl refl f in
-    let b = subst (λ n. Follows row count n far' cost d value) en a in
-    let c = subst (λ n. Follows row count p1 n cost d value) ef b in
-    subst (λ o. MatchOption o (value ≡ cost) (λ z. Follows (λ a. slice_index before (z * count + a)) count p1 (far z x) cost d value)) e c

@@ -1,11 +1,14 @@
 -- What rows of costs and of path values say of a problem.
-use Rattle.std.specs.Prelude.{◌≡◌, ℕ, ◌+◌, ◌*◌, ◌/◌, ◌<◌, List, length, map, slice_index, slice_index_or, Option, Some, None, MatchOption}
+use Rattle.std.specs.Prelude.{◌≡◌, ℕ, ◌+◌, ◌-◌, ◌*◌, ◌/◌, ◌<◌, ◌≤◌, ◌⊎◌, Bool, true, false, List, length, map, slice_index, slice_index_or, Option, Some, None, MatchOption, if◌then◌else◌}
 use Rattle.sgm_terms.specs.Step.{IsStepped}
 use Rattle.sgm_energy.specs.declared.dir.Dir.{Dir}
-use Rattle.sgm_energy.specs.Pens.{Penalties, far_of}
+use Rattle.sgm_energy.specs.declared.dir.Dir.TheVariants.{Left, DownRight, UpRight}
+use Rattle.sgm_energy.specs.Dirs.{is_level}
+use Rattle.sgm_energy.specs.Pens.{Penalties, far_of, penalties_of}
 use Rattle.sgm_energy.specs.Rays.{pixel_at, Problem, column_before, row_before}
 use Rattle.sgm_energy.specs.Energies.{least, below, path_value}
 use Rattle.sgm_energy.specs.Rows.{HoldsRow}
+use Rattle.sgm_path.specs.declared.row_pass.RowPass.{RowPass}
 
 -- value is what the recurrence gives at the index d, from the values prev of the pixel before and d's cost
 abbrev pub Follows : (ℕ → ℕ) → ℕ → ℕ → ℕ → ℕ → ℕ → ℕ → Type 0
@@ -48,3 +51,52 @@ pub record HoldsRowBefore (g : Problem) (dir : Dir) (y : ℕ) (far : ℕ → ℕ
   pub comes_from : row_before dir g.height y ≡ Some row
   pub has_far : HasFar g row y far
   pub holds : HoldsRow g row (path_value g dir) before
+
+-- what contracts see of one direction's pass over a row
+pub record RowTerms : Type 0 where
+  pub dir : Dir
+  pub penalties : Penalties
+  pub costs : List ℕ
+  pub guide : List (Option ℕ)
+  pub guide_before : List (Option ℕ)
+  pub count : ℕ
+
+abbrev pub terms_of : RowPass → RowTerms
+terms_of row = record {
+  dir = row.dir;
+  penalties = penalties_of row.pen;
+  costs = row.costs.now;
+  guide = row.guide.now;
+  guide_before = row.guide_before.now;
+  count = row.count;
+}
+
+-- the penalty of a change by more than one from the column z of the row before to the column x of the row
+abbrev pub far_in : RowTerms → ℕ → ℕ → ℕ
+far_in t = far_between t.penalties t.guide t.guide_before
+
+-- value is that of the column x and the index d of the row that comes after the row before
+abbrev pub EntryFollows : RowTerms → List ℕ → ℕ → ℕ → ℕ → Type 0
+EntryFollows t before x d value =
+    StepsAt t.dir (length t.guide) t.count t.penalties.p1 (far_in t) before t.costs x d value
+
+-- Whether a row is gone through from its right end, so that it can take the place of the row that it comes from: each
+-- value is written once no other needs the one that it replaces.
+abbrev pub starts_right : Dir → Bool
+starts_right Left = true
+starts_right DownRight = true
+starts_right UpRight = true
+starts_right _ = false
+
+-- the column that is the i-th to be gone through
+abbrev pub column_at : Dir → ℕ → ℕ → ℕ
+column_at dir width i = if starts_right dir then width - 1 - i else i
+
+-- the row that each entry comes from: in a level direction the row itself
+abbrev pub row_from : Dir → List ℕ → List ℕ → List ℕ
+row_from dir old new = if is_level dir then new else old
+
+-- all entries stay but those of the pixel whose entries begin at this place
+abbrev pub OthersStay : ℕ → ℕ → List ℕ → List ℕ → Type 0
+OthersStay at count old new =
+    (k : ℕ) → (k < at) ⊎ (at + count ≤ k) → slice_index new k ≡ slice_index old k

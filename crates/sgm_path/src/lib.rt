@@ -4,8 +4,11 @@
 #![tactic(auto)]
 
 mod pixel;
+mod row_pass;
 mod run;
 mod step;
+mod sweep;
 
+pub use row_pass::RowPass;
 pub use run::{level_sums, run_row};
-pub use step::{add_step_row, step_row};
+pub use step::{begin_row, pass_row, step_row};

@@ -1,13 +1,13 @@
 -- Chains of linked pixels: what a number of links reaches, and that as many links as there are pixels reach all.
-use Rattle.std.proofs.Common.{◌≡◌, ℕ, ◌+◌, ◌/◌, ◌<◌, ◌≤◌, zero, suc, Bool, true, false, cond, eqb, leb, ◌||◌, ◌&&◌, List, [], ◌∷◌, length, Option, Some, None, refl, sym, ap, ◌∙◌, subst, inl, inr, ◌⊎◌, ◌↔◌, arith, zero-add, get_or}
-use Rattle.std.specs.List.{Contains, filter, count_by, list_any, range_with_len}
-use Rattle.std.proofs.lemmas.Bool.{cases_eq, cases_lt, cases_Bool, eq-eqb, eqb-true, or_cases, or_left, or_right, and_parts, and_from}
+use Rattle.std.proofs.Common.{◌≡◌, ℕ, ◌+◌, ◌/◌, ◌<◌, ◌≤◌, zero, suc, Bool, true, false, cond, eqb, leb, ◌&&◌, List, [], ◌∷◌, length, Option, Some, None, refl, sym, ap, ◌∙◌, subst, inl, inr, ◌⊎◌, ◌↔◌, arith, zero-add}
+use Rattle.std.specs.List.{Contains, count_by, list_any, range_with_len}
+use Rattle.std.proofs.lemmas.Bool.{cases_eq, cases_lt, eq-eqb, eqb-true, or_cases, or_left, or_right, and_parts, and_from}
 use Rattle.std.proofs.lemmas.List.{get_or_past}
 use Rattle.std.proofs.lemmas.List.Elements.{filter_agree}
 use Rattle.std.proofs.lemmas.List.Folds.{list_any_at}
 use Rattle.std.proofs.lemmas.List.FromFn.{length-range_with_len, get_or-range_with_len}
 use Rattle.std.proofs.lemmas.List.Sums.{count_by-le-length, sum_by-cons}
-use Rattle.sgm_energy.proofs.Members.{in_cases, in_below, from_below, in_filter, from_filter}
+use Rattle.sgm_energy.proofs.Members.{in_cases, in_below, in_filter, from_filter}
 use Rattle.sgm_refine.specs.declared.segments.TheConstants.{LINK_DISTANCE}
 use Rattle.sgm_refine.specs.Segments.{places, value_of, comes_after, are_neighbours, are_close, is_linked, IsChain, goes, segment}
 

@@ -6,6 +6,7 @@ use Rattle.sgm_base.specs.Values.{Values}
 use Rattle.sgm_energy.specs.declared.dir.Dir.{Dir}
 use Rattle.sgm_energy.specs.declared.dir.Dir.TheVariants.{Right}
 use Rattle.sgm_energy.specs.Rays.{pixel_at}
+use Rattle.sgm_refine.specs.declared.met.TheConstants.{LEVEL, DOWNWARDS, UPWARDS}
 use Rattle.sgm_refine.specs.Filling.{met_from, filled_value, is_mismatched}
 
 -- what is met at a column of the row before: its value, or else what is met from there
@@ -29,6 +30,16 @@ HoldMetUpwards disparities dirs n rows =
     (k x : ℕ) → k < n → x < disparities.width
     → slice_index_or rows (k * disparities.width + x) None
     ≡ met_from disparities (pixel_at x (disparities.height - 1 - k / 3)) (slice_index_or dirs (k % 3) Right)
+
+-- three lists have what is met from each pixel of the row y: on the row itself, from above, and from below
+pub record IsMetRow (disparities : Values) (y : ℕ) (level down up : List (Option ℕ)) : Type 0 where
+  pub inside : y < disparities.height
+  pub level_length : length level ≡ 2 * disparities.width
+  pub down_length : length down ≡ 3 * disparities.width
+  pub up_length : length up ≡ 3 * disparities.width
+  pub level_met : HoldAllMet disparities LEVEL y level
+  pub down_met : HoldAllMet disparities DOWNWARDS y down
+  pub up_met : HoldAllMet disparities UPWARDS y up
 
 -- the column of the left image that the match of the column q of a row of the right one gives
 abbrev pub matched_column : ℕ → ℤ → List (Option ℕ) → ℕ → Option ℕ

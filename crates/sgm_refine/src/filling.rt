@@ -10,7 +10,7 @@ ghost use Rattle.sgm_base.specs.Values.{Values, AtMost};
 ghost use Rattle.sgm_energy.specs.Rays.{pixel_at};
 ghost use Rattle.sgm_refine.specs.declared.met.TheConstants.{LEVEL, DOWNWARDS, UPWARDS};
 ghost use Rattle.sgm_refine.specs.Filling.{AreIndices, entry_taken, filled, filled_value, is_mismatched};
-ghost use Rattle.sgm_refine.specs.Met.{HoldAllMet, HoldRows, AreMarks, filled_at};
+ghost use Rattle.sgm_refine.specs.Met.{HoldMetUpwards, HoldRows, IsMetRow, AreMarks, filled_at};
 
 use crate::met::{carry_down, meet_level, meet_upwards, met_at};
 use arrayvec::ArrayVec;
@@ -93,146 +93,116 @@ fn mark_row(matched: &DispMap, y: u32, span: Span, into: &mut [bool])
     }
 }
 
-/// The value of the pixel of the column `x` and the row `y`, or that with which it is filled.
-fn value_at(
-    map: &DispMap,
-    left: &Plane,
-    x: usize,
+/// What a map is filled from: the map, the right picture's matches in sixteenths, the left picture, all of
+/// one size, and the span.
+#[derive(Clone, Copy)]
+struct Sources<'a> {
+    map: &'a DispMap,
+    matched: &'a DispMap,
+    left: &'a Plane,
+    span: Span,
+    ghost matched_width: { matched.now.width ≡ map.now.width },
+    ghost matched_height: { matched.now.height ≡ map.now.height },
+    ghost left_width: { left.now.width ≡ map.now.width },
+    ghost left_height: { left.now.height ≡ map.now.height },
+}
+
+/// What is met from the pixels of the row `y`: on the row itself, from above, and from below.
+#[derive(Clone, Copy)]
+struct MetRow<'a> {
     y: u32,
-    mismatched: bool,
-    level: &[Option<u16>],
-    down: &[Option<u16>],
-    up: &[Option<u16>],
-) -> Option<u16>
-    requires column { x < map.now.width }
-    requires row { y < map.now.height }
-    requires left_width { left.now.width ≡ map.now.width }
-    requires left_height { left.now.height ≡ map.now.height }
-    requires level_length { length level.now ≡ 2 * map.now.width }
-    requires down_length { length down.now ≡ 3 * map.now.width }
-    requires up_length { length up.now ≡ 3 * map.now.width }
-    requires level { HoldAllMet map.now LEVEL y level.now }
-    requires down { HoldAllMet map.now DOWNWARDS y down.now }
-    requires up { HoldAllMet map.now UPWARDS y up.now }
-    ensures { result ≡ filled_value map.now left.now mismatched (pixel_at x y) }
+    level: &'a [Option<u16>],
+    down: &'a [Option<u16>],
+    up: &'a [Option<u16>],
+}
+
+/// The value of the pixel of the column `x` of a row, or that with which it is filled.
+fn value_at(from: &Sources, met: &MetRow, x: usize, mismatched: bool) -> Option<u16>
+    requires column { x < from.now.map.now.width }
+    requires met { IsMetRow from.now.map.now met.now.y met.now.level.now met.now.down.now met.now.up.now }
+    ensures { result ≡ filled_value from.now.map.now from.now.left.now mismatched (pixel_at x met.now.y) }
 {
-    let own = map.row(y)[x];
+    let own = from.map.row(met.y)[x];
     if own.is_some() {
         return own;
     }
-    match left.row(y)[x] {
+    match from.left.row(met.y)[x] {
         None => None,
         Some(_) => {
-            let met = met_at(level, down, up, x, map.size().width as usize);
-            taken(sorted(&met).as_slice(), mismatched)
+            let width = from.map.size().width as usize;
+            let values = met_at(met.level, met.down, met.up, x, width);
+            taken(sorted(&values).as_slice(), mismatched)
         }
     }
 }
 
-/// Writes the values of the row `y`, filled.
-fn fill_row(
-    map: &DispMap,
-    left: &Plane,
-    y: u32,
-    marks: &[bool],
-    level: &[Option<u16>],
-    down: &[Option<u16>],
-    up: &[Option<u16>],
-    into: &mut [Option<u16>],
-)
-    requires row { y < map.now.height }
-    requires left_width { left.now.width ≡ map.now.width }
-    requires left_height { left.now.height ≡ map.now.height }
-    requires marks_length { length marks.now ≡ map.now.width }
-    requires level_length { length level.now ≡ 2 * map.now.width }
-    requires down_length { length down.now ≡ 3 * map.now.width }
-    requires up_length { length up.now ≡ 3 * map.now.width }
-    requires into_length { length into.old ≡ map.now.width }
-    requires level { HoldAllMet map.now LEVEL y level.now }
-    requires down { HoldAllMet map.now DOWNWARDS y down.now }
-    requires up { HoldAllMet map.now UPWARDS y up.now }
-    ensures { EachIndex into.new (λ x. slice_index_or into.new x None ≡ filled_value map.now left.now (slice_index_or marks.now x false) (pixel_at x y)) }
+/// Writes the values of a row, filled.
+fn fill_row(from: &Sources, met: &MetRow, marks: &[bool], into: &mut [Option<u16>])
+    requires met { IsMetRow from.now.map.now met.now.y met.now.level.now met.now.down.now met.now.up.now }
+    requires marks_length { length marks.now ≡ from.now.map.now.width }
+    requires into_length { length into.old ≡ from.now.map.now.width }
+    ensures { EachIndex into.new (λ x. slice_index_or into.new x None
+        ≡ filled_value from.now.map.now from.now.left.now (slice_index_or marks.now x false) (pixel_at x met.now.y)) }
 {
     for x in 0..into.len() {
-        into[x] = value_at(map, left, x, y, marks[x], level, down, up);
+        into[x] = value_at(from, met, x, marks[x]);
     }
 }
 
-/// Writes the values of the row `y`, filled, to their place among those of the map. What `marks` and
-/// `level` hold before does not matter.
-fn fill_row_at(
-    map: &DispMap,
-    matched: &DispMap,
-    left: &Plane,
-    span: Span,
-    y: u32,
-    marks: &mut [bool],
-    level: &mut [Option<u16>],
-    down: &[Option<u16>],
-    up: &[Option<u16>],
-    into: &mut [Option<u16>],
-)
-    requires row { y < map.now.height }
-    requires matched_width { matched.now.width ≡ map.now.width }
-    requires matched_height { matched.now.height ≡ map.now.height }
-    requires left_width { left.now.width ≡ map.now.width }
-    requires left_height { left.now.height ≡ map.now.height }
-    requires indices { AreIndices span.count matched.now.entries }
-    requires marks_length { length marks.old ≡ map.now.width }
-    requires level_length { length level.old ≡ 2 * map.now.width }
-    requires down_length { length down.now ≡ 3 * map.now.width }
-    requires up_length { length up.now ≡ 3 * map.now.width }
-    requires into_length { length into.old ≡ map.now.width * map.now.height }
-    requires down { HoldAllMet map.now DOWNWARDS y down.now }
-    requires up { HoldAllMet map.now UPWARDS y up.now }
-    ensures { HoldRows map.now.width (filled_at map.now matched.now left.now span.first span.count) y into.old
-        → HoldRows map.now.width (filled_at map.now matched.now left.now span.first span.count) (y + 1) into.new }
+/// Writes the values of a row, filled, to their place among those of the map. What `marks` holds before
+/// does not matter.
+fn fill_row_at(from: &Sources, met: &MetRow, marks: &mut [bool], into: &mut [Option<u16>])
+    requires met { IsMetRow from.now.map.now met.now.y met.now.level.now met.now.down.now met.now.up.now }
+    requires indices { AreIndices from.now.span.count from.now.matched.now.entries }
+    requires marks_length { length marks.old ≡ from.now.map.now.width }
+    requires into_length { length into.old ≡ from.now.map.now.width * from.now.map.now.height }
+    ensures { let f = filled_at from.now.map.now from.now.matched.now from.now.left.now from.now.span.first from.now.span.count in
+        HoldRows from.now.map.now.width f met.now.y into.old → HoldRows from.now.map.now.width f (met.now.y + 1) into.new }
 {
-    let width = map.size().width as usize;
-    meet_level(map, y, level);
-    mark_row(matched, y, span, marks);
-    let (_, rest) = into.split_at_mut(y as usize * width);
+    let width = from.map.size().width as usize;
+    mark_row(from.matched, met.y, from.span, marks);
+    let (_, rest) = into.split_at_mut(met.y as usize * width);
     let (here, _) = rest.split_at_mut(width);
-    fill_row(map, left, y, marks, level, down, up, here);
+    fill_row(from, met, marks, here);
 }
 
-/// Writes the values of all rows, filled. The rest is room: what it holds before does not matter, but that
-/// nothing is met from above the first row or from below the last one.
+/// Writes the values of all rows, filled. `up` has what is met from below each row, the lowest row's
+/// first. The rest is room: what it holds before does not matter, but that nothing is met from above the
+/// first row.
 fn fill_rows(
-    map: &DispMap,
-    matched: &DispMap,
-    left: &Plane,
-    span: Span,
+    from: &Sources,
+    up: &[Option<u16>],
     marks: &mut [bool],
     level: &mut [Option<u16>],
     down: &mut [Option<u16>],
     next: &mut [Option<u16>],
-    up: &mut [Option<u16>],
     into: &mut [Option<u16>],
 )
-    requires matched_width { matched.now.width ≡ map.now.width }
-    requires matched_height { matched.now.height ≡ map.now.height }
-    requires left_width { left.now.width ≡ map.now.width }
-    requires left_height { left.now.height ≡ map.now.height }
-    requires indices { AreIndices span.count matched.now.entries }
-    requires marks_length { length marks.old ≡ map.now.width }
-    requires level_length { length level.old ≡ 2 * map.now.width }
-    requires down_length { length down.old ≡ 3 * map.now.width }
-    requires next_length { length next.old ≡ 3 * map.now.width }
-    requires up_length { length up.old ≡ 3 * map.now.height * map.now.width }
-    requires into_length { length into.old ≡ map.now.width * map.now.height }
+    requires up_length { length up.now ≡ 3 * from.now.map.now.height * from.now.map.now.width }
+    requires up { HoldMetUpwards from.now.map.now UPWARDS (3 * from.now.map.now.height) up.now }
+    requires indices { AreIndices from.now.span.count from.now.matched.now.entries }
+    requires marks_length { length marks.old ≡ from.now.map.now.width }
+    requires level_length { length level.old ≡ 2 * from.now.map.now.width }
+    requires down_length { length down.old ≡ 3 * from.now.map.now.width }
+    requires next_length { length next.old ≡ 3 * from.now.map.now.width }
+    requires into_length { length into.old ≡ from.now.map.now.width * from.now.map.now.height }
     requires down { EachIndex down.old (λ k. slice_index_or down.old k None ≡ None) }
-    requires up { EachIndex up.old (λ k. slice_index_or up.old k None ≡ None) }
-    ensures { HoldRows map.now.width (filled_at map.now matched.now left.now span.first span.count) map.now.height into.new }
+    ensures { let f = filled_at from.now.map.now from.now.matched.now from.now.left.now from.now.span.first from.now.span.count in
+        HoldRows from.now.map.now.width f from.now.map.now.height into.new }
 {
-    meet_upwards(map, up);
-    let size = map.size();
+    let size = from.map.size();
     let width = size.width as usize;
     for y in 0..size.height {
+        meet_level(from.map, y, level);
         let at = 3 * width * (size.height - 1 - y) as usize;
-        let up = &up[at..at + 3 * width];
-        fill_row_at(map, matched, left, span, y, marks, level, down, up, into);
-        carry_down(map, y, down, next);
+        let met = MetRow {
+            y,
+            level,
+            down,
+            up: &up[at..at + 3 * width],
+        };
+        fill_row_at(from, &met, marks, into);
+        carry_down(from.map, y, down, next);
         down.copy_from_slice(next);
     }
 }
@@ -265,16 +235,20 @@ pub fn fill(
     let mut next = vec![in alloc; None; 3 * width]?;
     let mut up = vec![in alloc; None; 3 * size.height as usize * width]?;
     let mut entries = vec![in alloc; None; size.pixels()]?;
-    fill_rows(
+    meet_upwards(map, up.as_mut_slice());
+    let from = Sources {
         map,
         matched,
         left,
         span,
+    };
+    fill_rows(
+        &from,
+        &up,
         marks.as_mut_slice(),
         level.as_mut_slice(),
         down.as_mut_slice(),
         next.as_mut_slice(),
-        up.as_mut_slice(),
         entries.as_mut_slice(),
     );
     let Some(map) = DispMap::make(size, entries) else {

@@ -21,27 +21,13 @@ pub const DOWNWARDS: [Dir; 3] = [Dir::Down, Dir::DownRight, Dir::DownLeft];
 /// Those that come from the row below.
 pub const UPWARDS: [Dir; 3] = [Dir::Up, Dir::UpRight, Dir::UpLeft];
 
-/// The column that a direction comes from, where it lies in a row so wide.
-fn column_before(dir: Dir, width: usize, x: usize) -> Option<usize>
-    requires { x < width }
-    ensures value { result ≡ column_before dir width x }
-    ensures inside { IfSome result (λ q. q < width) }
-{
-    match dir {
-        Dir::Down | Dir::Up => Some(x),
-        Dir::Right | Dir::DownRight | Dir::UpRight if 0 < x => Some(x - 1),
-        Dir::Left | Dir::DownLeft | Dir::UpLeft if x + 1 < width => Some(x + 1),
-        _ => None,
-    }
-}
-
 /// What is met at the column that the direction comes from: its value, or what is met from there.
 fn carried_at(dir: Dir, values: &[Option<u16>], carried: &[Option<u16>], x: usize) -> Option<u16>
     requires column { x < length values.now }
     requires same_length { length carried.now ≡ length values.now }
     ensures { result ≡ carried_from values.now carried.now (column_before dir (length values.now) x) }
 {
-    let q = column_before(dir, values.len(), x)?;
+    let q = dir.column_before(values.len(), x)?;
     values[q].or(carried[q])
 }
 

@@ -4,7 +4,7 @@ use Rattle.std.specs.Prelude.{decimal}
 use Rattle.std.specs.Char.{is_ascii_alphanumeric}
 use Rattle.std.specs.Fmt.{signed_decimal}
 use Rattle.std.specs.Int.{IsInRange, is_in_range}
-use Rattle.std.specs.List.{list_all, join_with_byte}
+use Rattle.std.specs.List.{AllByRecursion, list_all, join_with_byte}
 use Rattle.std.specs.Str.Parse.{AllDigits}
 use Rattle.std.proofs.lemmas.Bool.{and_from, and_parts, eqb-true, false_from_ne_true, le-leb, or_from, or_left}
 use Rattle.std.proofs.Math.Facts.{Fits-lt-pow}
@@ -93,6 +93,29 @@ line_is : (field : List ℕ) (fields : List (List ℕ)) → field ++ rest_text f
 line_is field [] = refl
 line_is field (next ∷ fields) =
     ap (λ (t : List ℕ). field ++ 44 ∷ t) (line_is next fields) ∙ sym (append_assoc field (44 ∷ join_with_byte 44 (next ∷ fields)) (10 ∷ []))
+
+behind_is : (fields : List (List ℕ)) → AllByRecursion IsPlain fields
+    → fields_text default_writer fields ++ 10 ∷ [] ≡ rest_text fields
+unfolding fields_text
+behind_is [] plain = refl
+behind_is (field ∷ fields) plain =
+    let rest = fields_text default_writer fields in
+    ap (λ (t : List ℕ). 44 ∷ t)
+    (append_assoc (field_text default_writer field) rest (10 ∷ [])
+    ∙ ap (λ (t : List ℕ). t ++ (rest ++ 10 ∷ [])) (field_is field plain.0)
+    ∙ ap (λ (t : List ℕ). field ++ t) (behind_is fields plain.1))
+
+-- what the writer adds for a row of two such fields or more
+pub row_is : (field next : List ℕ) (fields : List (List ℕ))
+    → AllByRecursion IsPlain (field ∷ next ∷ fields)
+    → row_text default_writer (field ∷ next ∷ fields) ≡ fields_line (field ∷ next ∷ fields)
+unfolding is_blank
+row_is field next fields plain =
+    let rest = fields_text default_writer (next ∷ fields) in
+    append_assoc (field_text default_writer field) rest (10 ∷ [])
+    ∙ ap (λ (t : List ℕ). t ++ (rest ++ 10 ∷ [])) (field_is field plain.0)
+    ∙ ap (λ (t : List ℕ). field ++ t) (behind_is (next ∷ fields) plain.1)
+    ∙ line_is field (next ∷ fields)
 
 rest_more : (more fields : List (List ℕ)) → later_fields more ++ rest_text fields ≡ rest_text (more ++ fields)
 rest_more [] fields = refl

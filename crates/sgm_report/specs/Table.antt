@@ -2,7 +2,7 @@
 use Rattle.std.specs.Prelude.{ℕ, ◌==◌, ℤ, List, [], ◌∷◌, ◌++◌, codes, decimal, flat_map, zip, Option, Some, None, if◌then◌else◌}
 use Rattle.std.specs.Fmt.{signed_decimal}
 use Rattle.std.specs.List.{join_with_byte}
-use Rattle.sgm_grid.specs.Text.{line}
+use Rattle.sgm_text.specs.Texts.{line}
 use Rattle.sgm_report.specs.Areas.{Area}
 use Rattle.sgm_report.specs.declared.table.Columns.{Columns}
 use Rattle.sgm_report.specs.declared.table.Columns.TheVariants.{Plain, Bridged}

@@ -11,7 +11,8 @@ use Rattle.sgm_list.specs.declared.fault.ListError.{ListError}
 use Rattle.sgm_list.specs.declared.fault.ListError.TheVariants as list_error
 use Rattle.sgm_list.specs.declared.fault.ListFault.{ListFault}
 use Rattle.sgm_list.specs.declared.fault.ListFault.TheVariants.{TooLong, TooMany}
-use Rattle.sgm_list.specs.declared.limits.TheConstants.{MAX_LIST_BYTES, MAX_ENTRIES}
+use Rattle.sgm_base.specs.declared.limits.TheConstants.{MAX_LIST_BYTES}
+use Rattle.sgm_list.specs.declared.limits.TheConstants.{MAX_ENTRIES}
 use Rattle.sgm_list.specs.Entries.{entries_of}
 use Rattle.sgm_list.specs.Faults.{IsFault, clash_fault, count_fault, length_fault, line_fault, list_fault, text_fault}
 use Rattle.sgm_app.specs.Ends.{Faults, SameFaults, faults}

@@ -17,7 +17,7 @@ use Rattle.sgm_words.specs.declared.options.Options.{Options}
 use Rattle.sgm_words.specs.declared.options.Options.TheVariants as options
 use Rattle.sgm_words.specs.declared.usage.UsageFault.{UsageFault}
 use Rattle.sgm_words.specs.declared.usage.UsageFault.TheVariants.{EmptyName, OutputIsInput}
-use Rattle.sgm_list.specs.Words.{has_bytes, words_of, lines_of, is_space}
+use Rattle.sgm_text.specs.Words.{has_bytes, words_of, lines_of, is_space}
 use Rattle.sgm_list.specs.Entries.{EntryNames, calib_named, entry_of, entry_in, entries_of}
 use Rattle.sgm_list.specs.Faults.{list_fault}
 use Rattle.sgm_list.specs.Clashes.{is_output_of}

@@ -5,7 +5,8 @@ ghost use Rattle.sgm_series.specs.Lines.{usage_line, entry_line, series_line};
 
 use crate::{SeriesOutcome, SeriesUsage};
 use sgm_io::{Sink, SinkError, write_whole};
-use sgm_list::{Line, fault_line};
+use sgm_list::fault_line;
+use sgm_text::Line;
 
 fn usage_line(fault: SeriesUsage) -> Line
     ensures { result ≡ usage_line fault }

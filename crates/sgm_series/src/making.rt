@@ -86,8 +86,7 @@ fn fetch_entry<S: Shelf>(
     ensures held { IsTrue S.tells → S.held shelf.new ≡ S.held shelf.old }
     ensures writing { S.writing shelf.new ≡ S.writing shelf.old }
     ensures unfinished { S.unfinished shelf.new ≡ S.unfinished shelf.old }
-    ensures counts { StageCounts (PlaceCounts place entry.now) result
-        (S.read_faults shelf.old) (S.write_faults shelf.old) (S.read_faults shelf.new) (S.write_faults shelf.new) }
+    ensures counts { StageCounts (PlaceCounts place entry.now) result S.Shelf shelf.old shelf.new }
 {
     match gather(alloc, shelf, &operands_of(entry)) {
         Ok(inputs) => Ok(Ok(inputs)),
@@ -131,8 +130,7 @@ fn fetch_batch<S: Shelf>(
     ensures held { IsTrue S.tells → S.held shelf.new ≡ S.held shelf.old }
     ensures writing { S.writing shelf.new ≡ S.writing shelf.old }
     ensures unfinished { S.unfinished shelf.new ≡ S.unfinished shelf.old }
-    ensures counts { StageCounts (BatchCounts entries.now) result
-        (S.read_faults shelf.old) (S.write_faults shelf.old) (S.read_faults shelf.new) (S.write_faults shelf.new) }
+    ensures counts { StageCounts (BatchCounts entries.now) result S.Shelf shelf.old shelf.new }
 {
     let mut batch = Batch {
         places: Vec::new(alloc),
@@ -214,8 +212,7 @@ pub fn make_batch<R: Threads + Wait + Sync, S: Shelf, G: Gate + Sync>(
     ensures held { IsTrue S.tells → S.held shelf.new ≡ S.held shelf.old }
     ensures writing { S.writing shelf.new ≡ S.writing shelf.old }
     ensures unfinished { S.unfinished shelf.new ≡ S.unfinished shelf.old }
-    ensures counts { StageCounts (BatchCounts entries.now) result
-        (S.read_faults shelf.old) (S.write_faults shelf.old) (S.read_faults shelf.new) (S.write_faults shelf.new) }
+    ensures counts { StageCounts (BatchCounts entries.now) result S.Shelf shelf.old shelf.new }
 {
     match fetch_batch(alloc, shelf, entries) {
         Ok(batch) => match make_pieces(rt, alloc, batch, workers, gate) {

@@ -38,9 +38,6 @@ rows_more g top rows f y old new h ey a =
 pub row_ends : (xs : List ℕ) (n r : ℕ) → r < length xs / n → r * n + n ≤ length xs
 row_ends xs n r h = omega (arith, row_fits r n (length xs / n) n h (omega arith), div-add-mod' (length xs) n)
 
-pub row_long : (xs : List ℕ) (n r : ℕ) → r < length xs / n → length (slice_range xs (r * n) (r * n + n)) ≡ n
-row_long xs n r h = omega (arith, length-take (r * n + n - r * n) (drop (r * n) xs), length-drop (r * n) xs, row_ends xs n r h)
-
 -- one of them
 pub row_holds : (g : Problem) (top rows : ℕ) (f : Pixel → ℕ → ℕ) (volume : List ℕ) (n r : ℕ) → g.width * g.count ≡ n → HoldsRows g top rows f volume → r < rows
     → HoldsRow g (top + r) f (slice_range volume (r * n) (r * n + n))

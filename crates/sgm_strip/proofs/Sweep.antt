@@ -181,3 +181,7 @@ finished g dir top rows penalties guide count row n i begun costs start last old
     let e : length costs / n ≡ rows = rows_are g top rows penalties guide count n costs s' some in
     let w = h (subst (λ r. SuitsRows g top r penalties guide count n costs) (sym e) s') (subst (λ r. ComesBefore g dir (top + visited dir r 0) begun start) (sym e) c) in
     (s', subst (λ r. Done g dir top r rows n start last old new) e (subst (λ j. Done g dir top (length costs / n) j n start last old new) (ei ∙ e) w))
+
+-- a row of some pixels and some indices has entries
+pub some_entries : (width count n : ℕ) → 0 < width → 0 < count → n ≡ width * count → 0 < n
+some_entries width count n hw hc e = omega (arith, e, mul-le 1 1 width count (omega (arith, hw)) (omega (arith, hc)))

@@ -5,12 +5,12 @@ ghost use Rattle.sgm_strip.specs.Parcels.{IsParcel, is_done, parcel_of, with_don
 ghost use Rattle.sgm_strip.specs.Fronts.{IsFront, front_parts, visit_of};
 
 use crate::parcel::place;
-use crate::sweeping::pass_rows;
+use crate::sweeping::{StripCosts, pass_rows};
 use crate::{Front, Parcel, Row, Visit};
 
 /// Passes a front on through a strip: adds the path values of its direction to the sums of the parcel.
-/// The strip is the one that comes next for the front, and the direction is not done in it. What `spare`,
-/// which has room for a row, holds does not matter. Takes no memory.
+/// The strip is the one that comes next for the front, and the direction is not done in it. The front's row
+/// is rewritten in place; what `spare`, which has room for a row, holds does not matter. Takes no memory.
 pub fn pass(parcel: &mut Parcel, front: &mut Front, spare: &mut Row, worker: u32)
     requires scene { front.old.scene ≡ parcel.old.scene }
     requires cut { front.old.cut ≡ parcel.old.cut }
@@ -32,17 +32,19 @@ pub fn pass(parcel: &mut Parcel, front: &mut Front, spare: &mut Row, worker: u32
 {
     let dir = front.dir;
     let (cut, span) = (parcel.cut, parcel.span());
-    let top = cut.first(parcel.strip);
+    let strip = StripCosts {
+        pen: parcel.pen,
+        guide: &parcel.guide,
+        costs: &parcel.costs,
+        top: cut.first(parcel.strip),
+        count: span.count as usize,
+    };
     pass_rows(
         dir,
-        parcel.pen,
-        &parcel.guide,
-        &parcel.costs,
-        top,
-        span.count as usize,
+        &strip,
         !front.visits.is_empty(),
-        &mut front.row,
-        &mut spare.values,
+        front.row.as_mut_slice(),
+        spare.values.as_mut_slice(),
         parcel.sums.as_mut_slice(),
     );
     parcel.done[place(dir)] = true;

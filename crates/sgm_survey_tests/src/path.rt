@@ -7,7 +7,7 @@ ghost use Rattle.sgm_energy.specs.Dirs.{is_level};
 
 use sgm_base::{MAX_COST, MAX_COUNT, MAX_PATH_VALUE};
 use sgm_energy::{Dir, Pen};
-use sgm_path::{add_step_row, level_sums, run_row, step_row};
+use sgm_path::{RowPass, begin_row, level_sums, pass_row, run_row, step_row};
 
 type Row = (
     (u16, u16),
@@ -216,18 +216,27 @@ fn penalties_that_follow_two_rows(rt: HostRuntime) {
 fn added_penalties_that_follow_two_rows(rt: HostRuntime) {
     let pen = Pen::adaptive(1, 6).expect(&rt, "in range");
     let (guide, guide_below) = ([Some(12), Some(13)], [Some(10), None]);
-    let (mut values, mut sums) = ([0; 6], [5; 6]);
-    add_step_row(
-        Dir::Up,
-        pen,
-        &COSTS,
-        Some(&BELOW),
-        &guide,
-        &guide_below,
-        3,
-        &mut values,
-        &mut sums,
-    );
+    let row = RowPass::make(Dir::Up, pen, &COSTS, &guide, &guide_below, 3);
+    let (mut values, mut spare, mut sums) = (BELOW, [0; 3], [5; 6]);
+    pass_row(&row, &mut values, &mut spare, &mut sums);
     assert!(rt; values == [9, 10, 3, 9, 10, 6]);
     assert!(rt; are_sums(&sums, &[5; 6], &values));
+}
+
+#[test]
+fn a_row_takes_the_place_of_the_one_before(rt: HostRuntime) {
+    // Each column from the column beside it: the first and the last alone keep their costs.
+    let pen = Pen::make(1, 3).expect(&rt, "in range");
+    let guide = [None; 3];
+    let (mut values, mut spare, mut sums) = ([9; 6], [0; 2], [0; 6]);
+    let costs = [0, 5, 9, 9, 7, 0];
+    let right = RowPass::make(Dir::DownRight, pen, &costs, &guide, &guide, 2);
+    begin_row(&right, &mut values, &mut sums);
+    assert!(rt; values == [0, 5, 9, 9, 7, 0]);
+    pass_row(&right, &mut values, &mut spare, &mut sums);
+    assert!(rt; values == [0, 5, 9, 10, 7, 0]);
+    let left = RowPass::make(Dir::DownLeft, pen, &costs, &guide, &guide, 2);
+    pass_row(&left, &mut values, &mut spare, &mut sums);
+    assert!(rt; values == [0, 6, 10, 9, 7, 0]);
+    assert!(rt; sums == [0, 16, 28, 28, 21, 0]);
 }

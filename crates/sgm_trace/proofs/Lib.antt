@@ -2,5 +2,4 @@ pub mod Bests
 pub mod Existing
 pub mod Growing
 pub mod RayPlaces
-pub mod Texts
 pub mod Tracing

@@ -1,15 +1,12 @@
 -- The text of a certificate: the least energy, and a line for each pixel of the ray.
 use Rattle.std.specs.Prelude.{ℕ, List, [], ◌∷◌, ◌++◌, codes, decimal, flat_map, map}
 use Rattle.std.specs.List.{join_with_byte}
+use Rattle.sgm_text.specs.Texts.{line}
 use Rattle.sgm_energy.specs.declared.dir.Dir.{Dir}
 use Rattle.sgm_energy.specs.Rays.{Pixel, Problem, ray}
 use Rattle.sgm_energy.specs.Energies.{least_ending}
 use Rattle.sgm_trace.specs.declared.traced.Step.{Step}
 use Rattle.sgm_trace.specs.Best.{best, steps_of}
-
--- a text and the end of its line
-abbrev pub line : List ℕ → List ℕ
-line text = text ++ 10 ∷ []
 
 -- a step: `X Y D COST JUMP`
 abbrev pub step_text : Step → List ℕ

@@ -1,6 +1,6 @@
 ghost use Rattle.std.specs.Prelude.{◌≡◌, ◌<◌, ◌≤◌, All, IfOk, length, map, option_map};
 ghost use Rattle.sgm_base.specs.declared.limits.TheConstants.{MAX_SIDE};
-ghost use Rattle.sgm_energy.specs.Rays.{IsInside, Problem, column_before, predecessor, ray, row_before};
+ghost use Rattle.sgm_energy.specs.Rays.{IsInside, Problem, predecessor, ray};
 ghost use Rattle.sgm_trace.specs.Rows.{pixel_of};
 ghost use Rattle.sgm_strip.specs.Scenes.{problem_of};
 
@@ -16,32 +16,6 @@ pub(crate) struct Place {
     pub(crate) y: u32,
 }
 
-/// The column that a direction comes from.
-fn column_before(dir: Dir, width: u32, x: u32) -> Option<u32>
-    requires inside { x < width }
-    ensures { result ≡ column_before dir width x }
-{
-    match dir {
-        Dir::Right | Dir::DownRight | Dir::UpRight => x.checked_sub(1),
-        Dir::Left | Dir::DownLeft | Dir::UpLeft => {
-            if x + 1 < width { Some(x + 1) } else { None }
-        }
-        Dir::Down | Dir::Up => Some(x),
-    }
-}
-
-/// The row that a direction comes from.
-fn row_before(dir: Dir, height: u32, y: u32) -> Option<u32>
-    requires inside { y < height }
-    ensures { result ≡ row_before dir height y }
-{
-    match dir {
-        Dir::Down | Dir::DownRight | Dir::DownLeft => y.checked_sub(1),
-        Dir::Up | Dir::UpRight | Dir::UpLeft => { if y + 1 < height { Some(y + 1) } else { None } }
-        Dir::Right | Dir::Left => Some(y),
-    }
-}
-
 /// The pixel before, where the ray doesn't begin.
 fn place_before(size: Size, dir: Dir, here: Place) -> Option<Place>
     requires column { here.x < size.width }
@@ -49,9 +23,9 @@ fn place_before(size: Size, dir: Dir, here: Place) -> Option<Place>
     ensures { (g : Problem) → g.width ≡ size.width → g.height ≡ size.height
         → option_map pixel_of result ≡ predecessor g dir (pixel_of here) }
 {
-    let x = column_before(dir, size.width, here.x)?;
-    let y = row_before(dir, size.height, here.y)?;
-    Some(Place { x, y })
+    let x = dir.column_before(size.width as usize, here.x as usize)?;
+    let y = dir.row_before(size.height, here.y)?;
+    Some(Place { x: x as u32, y })
 }
 
 /// The pixels of the ray that comes to `last`, in its order.

@@ -5,9 +5,6 @@ ghost use Rattle.sgm_words.specs.Files.{IsFileName, is_file_name};
 
 use std::alloc::{AllocError, Global};
 
-/// The greatest size of a grid that is read, in bytes.
-pub const MAX_GRID_BYTES: usize = 268_435_456;
-
 /// A file that is read.
 #[derive(Clone, Copy, PartialEq, Eq)]
 pub enum Input {

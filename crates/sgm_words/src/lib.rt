@@ -14,7 +14,7 @@ mod read;
 mod settings;
 mod usage;
 
-pub use files::{Input, MAX_GRID_BYTES, Output};
+pub use files::{Input, Output};
 pub use operands::{ChangeWords, MergeWords, OperandWords, is_plain};
 pub use options::Options;
 pub use read::read_words;

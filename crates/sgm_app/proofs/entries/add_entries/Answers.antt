@@ -7,17 +7,16 @@ use Rattle.sgm_io.specs.Held.{Held}
 use Rattle.sgm_app.specs.Ends.{ShownBy}
 use Rattle.sgm_app.specs.Verdict.{entry_fetched}
 use Rattle.sgm_app.proofs.Counting.{counts_since}
+use Rattle.sgm_app.proofs.Ending.{keeps_both}
 use Rattle.sgm_app.proofs.EntryLaws.{no_words, none_added, one_added, one_shown}
 use Rattle.sgm_app.proofs.entries.add_entries.Goals as goal
 
 pub loop-number-init : goal.loop-number-init
 loop-number-init g c = record {
-  held = λ told. refl;
+  keeps = record { held = λ told. refl; writing = refl; unfinished = refl };
   added = λ told. none_added _ _ _;
   spec = refl;
   count = omega arith;
-  writing = refl;
-  unfinished = refl;
   reads = refl;
   writes = refl;
 }
@@ -36,7 +35,7 @@ returns-in-Err-clause-entries g c = λ told.
     (omega (arith, c.loop-number-test.true, length-map names string_bytes)) at so.spec (so.added told)
     (λ next none.
     let P : Held → Type 0 = λ h. ShownBy (entry_fetched c.loop-number.merge.spec n (h name) next) c.in-Err.outcome in
-    subst P (so.held told) (c.in-Err.ensures.entry told next none))
+    subst P (so.keeps.held told) (c.in-Err.ensures.entry told next none))
 
 pub returns-in-Err-clause-counts : goal.returns-in-Err-clause-counts
 returns-in-Err-clause-counts g c = λ known are out.
@@ -62,18 +61,16 @@ loop-number-preserved g c =
     ∙ ap (option_map string_bytes) (slice_get_read names (length names) n c.index-names-number.result refl c.loop-number-test.true c.index-names-number.is)
     ∙ ap (λ (x : List ℕ). Some x) (sym c.as_str.ensures.value) in
     record {
-      held = λ told. ends.held told ∙ so.held told;
+      keeps = keeps_both g.S.Shelf _ _ _ so.keeps ends.keeps;
       added = λ told.
           let one = ends.entry told in
           one_added c.args.merge.now c.loop-number.merge c.add_entry.new.merge (bytes_of names) (g.S.Shelf.held c.args.shelf.now) n name one.0
           (omega (arith, c.loop-number-test.true, length-map names string_bytes)) at so.spec (so.added told) one.1
           (λ next.
           let P : Held → Type 0 = λ h. entry_fetched c.loop-number.merge.spec n (h name) next ≡ next one.0 in
-          subst P (so.held told) (one.2 next));
+          subst P (so.keeps.held told) (one.2 next));
       spec = ap (λ (m : Merging). m.spec) ends.one.1 ∙ so.spec;
       count = ap (λ (m : Merging). m.entries) ends.one.1 ∙ (let e : c.loop-number.merge.entries + 1 ≡ c.args.merge.now.entries + (n + 1) = omega (arith, so.count) in e);
-      writing = ends.writing ∙ so.writing;
-      unfinished = ends.unfinished ∙ so.unfinished;
       reads = (ends.counts no_words tt).0 ∙ so.reads;
       writes = (ends.counts no_words tt).1 ∙ so.writes;
     }

@@ -24,7 +24,7 @@ returns-in-Err-fetch_input-clause-verdict g c = λ told last none.
     shown_along _ _ _
     (goes_by input.Left held c.left.result.now asked.left (fetched input.Right (held asked.right) next) c.left.ensures ((c.in-Ok.ensures.bytes told).1 (fetched input.Right (held asked.right) next))
     ∙ ap (λ (n : List ℕ). fetched input.Right (held n) next) (sym c.right.ensures)
-    ∙ ap (λ (h : Held). fetched input.Right (h c.right.result.now) next) (sym (c.in-Ok.ensures.held told)))
+    ∙ ap (λ (h : Held). fetched input.Right (h c.right.result.now) next) (sym (c.in-Ok.ensures.keeps.held told)))
     (c.in-Err-fetch_input.ensures.bytes told next (none_calib_fetched 2 (is_plain asked) (held asked.calib) last (omega arith) (none_less 2 4 last (omega arith) none)))
 
 pub returns-in-Err-fetch_calib-clause-verdict : goal.returns-in-Err-fetch_calib-clause-verdict
@@ -32,11 +32,11 @@ unfolding pair_fetched
 returns-in-Err-fetch_calib-clause-verdict g c = λ told last none.
     let asked = c.args.operands.now in let held = g.S.Shelf.held c.args.shelf.now in
     let next = calib_fetched (is_plain asked) (held asked.calib) last in
-    let kept = c.in-Ok-fetch_input.ensures.held told ∙ c.in-Ok.ensures.held told in
+    let kept = c.in-Ok-fetch_input.ensures.keeps.held told ∙ c.in-Ok.ensures.keeps.held told in
     shown_along _ _ _
     (goes_by input.Left held c.left.result.now asked.left (fetched input.Right (held asked.right) next) c.left.ensures ((c.in-Ok.ensures.bytes told).1 (fetched input.Right (held asked.right) next))
     ∙ ap (λ (n : List ℕ). fetched input.Right (held n) next) (sym c.right.ensures)
-    ∙ ap (λ (h : Held). fetched input.Right (h c.right.result.now) next) (sym (c.in-Ok.ensures.held told))
+    ∙ ap (λ (h : Held). fetched input.Right (h c.right.result.now) next) (sym (c.in-Ok.ensures.keeps.held told))
     ∙ (c.in-Ok-fetch_input.ensures.bytes told).1 next
     ∙ ap (λ (n : List ℕ). calib_fetched (is_plain_word n) (held n) last) (sym c.calib.ensures)
     ∙ ap (λ (h : Held). calib_fetched (is_plain_word c.calib.result.now) (h c.calib.result.now) last) (sym kept))
@@ -47,10 +47,10 @@ unfolding pair_fetched
 returns-in-Ok-fetch_calib-clause-verdict g c = λ told last none.
     let asked = c.args.operands.now in let held = g.S.Shelf.held c.args.shelf.now in
     let next = calib_fetched (is_plain asked) (held asked.calib) last in
-    let kept = c.in-Ok-fetch_input.ensures.held told ∙ c.in-Ok.ensures.held told in
+    let kept = c.in-Ok-fetch_input.ensures.keeps.held told ∙ c.in-Ok.ensures.keeps.held told in
     goes_by input.Left held c.left.result.now asked.left (fetched input.Right (held asked.right) next) c.left.ensures ((c.in-Ok.ensures.bytes told).1 (fetched input.Right (held asked.right) next))
     ∙ ap (λ (n : List ℕ). fetched input.Right (held n) next) (sym c.right.ensures)
-    ∙ ap (λ (h : Held). fetched input.Right (h c.right.result.now) next) (sym (c.in-Ok.ensures.held told))
+    ∙ ap (λ (h : Held). fetched input.Right (h c.right.result.now) next) (sym (c.in-Ok.ensures.keeps.held told))
     ∙ (c.in-Ok-fetch_input.ensures.bytes told).1 next
     ∙ ap (λ (n : List ℕ). calib_fetched (is_plain_word n) (held n) last) (sym c.calib.ensures)
     ∙ ap (λ (h : Held). calib_fetched (is_plain_word c.calib.result.now) (h c.calib.result.now) last) (sym kept)

@@ -23,7 +23,7 @@ returns-in-Err-fetch_input-clause-verdict g c = λ told last none.
     shown_along _ _ _
     (goes_by input.Earlier held c.earlier.result.now asked.earlier (fetched input.Later (held asked.later) last) c.earlier.ensures ((c.in-Ok.ensures.bytes told).1 (fetched input.Later (held asked.later) last))
     ∙ ap (λ (n : List ℕ). fetched input.Later (held n) last) (sym c.later.ensures)
-    ∙ ap (λ (h : Held). fetched input.Later (h c.later.result.now) last) (sym (c.in-Ok.ensures.held told)))
+    ∙ ap (λ (h : Held). fetched input.Later (h c.later.result.now) last) (sym (c.in-Ok.ensures.keeps.held told)))
     (c.in-Err-fetch_input.ensures.bytes told last (none_less 5 6 last (omega arith) none))
 
 pub returns-in-Ok-fetch_input-clause-verdict : goal.returns-in-Ok-fetch_input-clause-verdict
@@ -32,7 +32,7 @@ returns-in-Ok-fetch_input-clause-verdict g c = λ told last none.
     let asked = c.args.operands.now in let held = g.S.Shelf.held c.args.shelf.now in
     goes_by input.Earlier held c.earlier.result.now asked.earlier (fetched input.Later (held asked.later) last) c.earlier.ensures ((c.in-Ok.ensures.bytes told).1 (fetched input.Later (held asked.later) last))
     ∙ ap (λ (n : List ℕ). fetched input.Later (held n) last) (sym c.later.ensures)
-    ∙ ap (λ (h : Held). fetched input.Later (h c.later.result.now) last) (sym (c.in-Ok.ensures.held told))
+    ∙ ap (λ (h : Held). fetched input.Later (h c.later.result.now) last) (sym (c.in-Ok.ensures.keeps.held told))
     ∙ (c.in-Ok-fetch_input.ensures.bytes told).1 last
 
 pub returns-in-Err-fetch_input-clause-counts : goal.returns-in-Err-fetch_input-clause-counts

@@ -24,7 +24,7 @@ returns-in-Err-fetch_calib-clause-verdict g c = λ told last none.
     shown_along _ _ _
     (goes_by input.List held c.list.result.now asked.list next c.list.ensures ((c.in-Ok.ensures.bytes told).1 next)
     ∙ ap (λ (n : List ℕ). calib_fetched (is_plain_word n) (held n) last) (sym c.calib.ensures)
-    ∙ ap (λ (h : Held). calib_fetched (is_plain_word c.calib.result.now) (h c.calib.result.now) last) (sym (c.in-Ok.ensures.held told)))
+    ∙ ap (λ (h : Held). calib_fetched (is_plain_word c.calib.result.now) (h c.calib.result.now) last) (sym (c.in-Ok.ensures.keeps.held told)))
     (c.in-Err-fetch_calib.ensures.bytes told last (none_less 3 4 last (omega arith) none))
 
 pub returns-in-Ok-fetch_calib-clause-verdict : goal.returns-in-Ok-fetch_calib-clause-verdict
@@ -34,7 +34,7 @@ returns-in-Ok-fetch_calib-clause-verdict g c = λ told last none.
     let next = calib_fetched (is_plain_word asked.calib) (held asked.calib) last in
     goes_by input.List held c.list.result.now asked.list next c.list.ensures ((c.in-Ok.ensures.bytes told).1 next)
     ∙ ap (λ (n : List ℕ). calib_fetched (is_plain_word n) (held n) last) (sym c.calib.ensures)
-    ∙ ap (λ (h : Held). calib_fetched (is_plain_word c.calib.result.now) (h c.calib.result.now) last) (sym (c.in-Ok.ensures.held told))
+    ∙ ap (λ (h : Held). calib_fetched (is_plain_word c.calib.result.now) (h c.calib.result.now) last) (sym (c.in-Ok.ensures.keeps.held told))
     ∙ (c.in-Ok-fetch_calib.ensures.bytes told).1 last
 
 pub returns-in-Err-clause-counts : goal.returns-in-Err-clause-counts

@@ -5,7 +5,7 @@ use Rattle.std.proofs.lemmas.List.{length_push}
 use Rattle.std.proofs.lemmas.List.Elements.{All-get_or}
 use Rattle.std.proofs.lemmas.Slice.Zip.{zip_end, zip_turn}
 use Rattle.sgm_grid.specs.Cells.{IsHeight}
-use Rattle.sgm_grid.proofs.Rows.{on_err, starts_more, starts_on, starts_same}
+use Rattle.sgm_text.proofs.Beginnings.{on_err, starts_more, starts_on, starts_same}
 use Rattle.sgm_change.specs.Texts.{after_spaces}
 use Rattle.sgm_change.proofs.Counted.{zip_all, zip_more}
 use Rattle.sgm_change.proofs.Rows.{rest_more}

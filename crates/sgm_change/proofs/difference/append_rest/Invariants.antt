@@ -1,6 +1,6 @@
 use Rattle.std.proofs.Common.{◌≡◌, ◌++◌, length, take}
 use Rattle.std.specs.List.{zip}
-use Rattle.sgm_grid.specs.Text.{StartsAs}
+use Rattle.sgm_text.specs.Texts.{StartsAs}
 use Rattle.sgm_change.specs.Texts.{after_spaces}
 use Rattle.sgm_change.proofs.difference.append_rest.Given as goal
 

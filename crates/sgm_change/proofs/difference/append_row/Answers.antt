@@ -2,7 +2,7 @@ use Rattle.std.proofs.Common.{ℤ, Option, drop, length, ◌-◌}
 use Rattle.std.specs.Option.{ForSome}
 use Rattle.std.proofs.lemmas.List.Elements.{All-take, All-drop}
 use Rattle.sgm_grid.specs.Cells.{IsHeight}
-use Rattle.sgm_grid.proofs.Rows.{on_err, starts_on, starts_same, starts_with}
+use Rattle.sgm_text.proofs.Beginnings.{on_err, starts_on, starts_same, starts_with}
 use Rattle.sgm_change.proofs.Rows.{row_ends, row_starts}
 use Rattle.sgm_change.proofs.difference.append_row.Goals as goal
 

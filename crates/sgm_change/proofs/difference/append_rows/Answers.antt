@@ -1,7 +1,7 @@
 use Rattle.std.proofs.Common.{◌≡◌, ◌++◌, ◌∙◌, ap, sym, append-nil, arith, refl}
 use Rattle.std.proofs.lemmas.Result.{IfOk-from_err}
 use Rattle.sgm_grid.specs.declared.grid_spec.GridSpec.{GridSpec}
-use Rattle.sgm_grid.proofs.Rows.{on_err, starts_more, starts_on, starts_same}
+use Rattle.sgm_text.proofs.Beginnings.{on_err, starts_more, starts_on, starts_same}
 use Rattle.sgm_change.specs.Texts.{rows_text}
 use Rattle.sgm_change.proofs.Rows.{rows_more}
 use Rattle.sgm_change.proofs.difference.append_rows.Goals as goal

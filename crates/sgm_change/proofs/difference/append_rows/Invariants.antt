@@ -1,5 +1,5 @@
 use Rattle.std.proofs.Common.{◌≡◌, ◌++◌}
-use Rattle.sgm_grid.specs.Text.{StartsAs}
+use Rattle.sgm_text.specs.Texts.{StartsAs}
 use Rattle.sgm_change.specs.Texts.{rows_text}
 use Rattle.sgm_change.proofs.difference.append_rows.Given as goal
 

@@ -1,7 +1,7 @@
 use Rattle.std.proofs.Common.{◌≡◌, ◌≢◌, ◌+◌, ◌*◌, ◌<◌, ◌≤◌, length, Result, Ok, arith, refl, sym, ap, ◌∙◌}
 use Rattle.sgm_grid.specs.declared.asc_fault.AscFault.{AscFault}
 use Rattle.sgm_grid.specs.Cells.{Cells}
-use Rattle.sgm_grid.specs.Words.{words_of}
+use Rattle.sgm_text.specs.Words.{words_of}
 use Rattle.sgm_grid.proofs.HeightLaws.{all_heights, counts, leading_at_most, right_heights, wrong_count, wrong_height}
 use Rattle.sgm_grid.proofs.asc.grid_of.Goals as goal
 

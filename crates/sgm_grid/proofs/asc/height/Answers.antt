@@ -1,5 +1,5 @@
 use Rattle.std.proofs.Common.{sym, ◌∙◌}
-use Rattle.sgm_grid.specs.Words.{number_of}
+use Rattle.sgm_grid.specs.Numbers.{number_of}
 use Rattle.sgm_grid.proofs.HeightLaws.{cell_as_read}
 use Rattle.sgm_grid.proofs.asc.height.Goals as goal
 

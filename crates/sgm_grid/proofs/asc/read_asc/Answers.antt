@@ -4,7 +4,7 @@ use Rattle.sgm_grid.specs.declared.asc_fault.AscFault.{AscFault}
 use Rattle.sgm_grid.specs.declared.grid_spec.GridSpec.{GridSpec}
 use Rattle.sgm_grid.specs.Asc.{asc_reading, grid_of, Gives}
 use Rattle.sgm_grid.specs.Cells.{Cells}
-use Rattle.sgm_grid.specs.Words.{words_of}
+use Rattle.sgm_text.specs.Words.{words_of}
 use Rattle.sgm_grid.proofs.HeadLaws.{told, told_range_fault, told_word}
 use Rattle.sgm_grid.proofs.asc.read_asc.Goals as goal
 

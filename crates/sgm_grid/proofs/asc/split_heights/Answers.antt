@@ -1,6 +1,6 @@
 use Rattle.std.proofs.Common.{◌≡◌, [], ◌∷◌, ◌++◌, length, arith, ap}
 use Rattle.std.proofs.lemmas.List.{length_push}
-use Rattle.sgm_grid.specs.Words.{words_of}
+use Rattle.sgm_text.specs.Words.{words_of}
 use Rattle.sgm_grid.proofs.HeightLaws.{more_rest, more_whole}
 use Rattle.sgm_grid.proofs.asc.split_heights.Goals as goal
 

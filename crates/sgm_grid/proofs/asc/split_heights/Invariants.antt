@@ -1,6 +1,6 @@
 use Rattle.std.proofs.Common.{◌≡◌, ◌+◌, ◌-◌, ◌≤◌, ◌++◌, drop, length}
 use Rattle.sgm_grid.specs.Leading.{leading}
-use Rattle.sgm_grid.specs.Words.{words_of}
+use Rattle.sgm_text.specs.Words.{words_of}
 use Rattle.sgm_grid.proofs.asc.split_heights.Given as goal
 
 -- the heights that were read and those that still lead are those of the whole text

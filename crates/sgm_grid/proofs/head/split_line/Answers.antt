@@ -3,7 +3,7 @@ use Rattle.std.specs.Str.{str_eq_ignore_ascii_case, str_to_ascii_lowercase}
 use Rattle.std.proofs.lemmas.Slice.Eq.{bytes_eq-Decides}
 use Rattle.std.proofs.lemmas.Result.{IfErr-weaker}
 use Rattle.sgm_grid.specs.Head.{LacksLine, LacksNumber}
-use Rattle.sgm_grid.specs.Words.{words_of}
+use Rattle.sgm_text.specs.Words.{words_of}
 use Rattle.sgm_grid.proofs.HeadLaws.{lacks_line}
 use Rattle.sgm_grid.proofs.head.split_line.Goals as goal
 

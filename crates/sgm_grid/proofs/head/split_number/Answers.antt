@@ -1,6 +1,7 @@
 use Rattle.sgm_grid.proofs.HeadLaws.{some_capped, capped_fits, lacks_number, lacks_word}
 use Rattle.std.proofs.Common.{ap, sym, ◌∙◌, to_z, of_z, w64, ℤ}
-use Rattle.sgm_grid.specs.Words.{number_of, words_of}
+use Rattle.sgm_text.specs.Words.{words_of}
+use Rattle.sgm_grid.specs.Numbers.{number_of}
 use Rattle.sgm_grid.proofs.head.split_number.Goals as goal
 
 pub returns-clause-ok : goal.returns-clause-ok

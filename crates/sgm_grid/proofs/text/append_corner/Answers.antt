@@ -1,7 +1,8 @@
 use Rattle.std.proofs.Common.{◌≡◌, to_z, of_z, w64, arith, codes}
 use Rattle.std.specs.Fmt.{signed_decimal}
 use Rattle.std.proofs.lemmas.Int.{ints}
-use Rattle.sgm_grid.proofs.Rows.{err_after, two_lines}
+use Rattle.sgm_text.proofs.Beginnings.{err_after}
+use Rattle.sgm_grid.proofs.Rows.{two_lines}
 use Rattle.sgm_grid.proofs.text.append_corner.Goals as goal
 
 pub returns-clause-ok : goal.returns-clause-ok

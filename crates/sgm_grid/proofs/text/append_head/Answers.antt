@@ -1,4 +1,4 @@
-use Rattle.sgm_grid.proofs.Rows.{err_after, on_err, starts_on, starts_with}
+use Rattle.sgm_text.proofs.Beginnings.{err_after, on_err, starts_on, starts_with}
 use Rattle.sgm_grid.proofs.text.append_head.Goals as goal
 
 pub returns-clause-err : goal.returns-clause-err

@@ -1,6 +1,7 @@
 use Rattle.std.proofs.Common.{◌∙◌, take}
 use Rattle.sgm_grid.specs.Text.{after_spaces}
-use Rattle.sgm_grid.proofs.Rows.{heights_more, on_err, starts_more, starts_with}
+use Rattle.sgm_text.proofs.Beginnings.{on_err, starts_more, starts_with}
+use Rattle.sgm_grid.proofs.Rows.{heights_more}
 use Rattle.sgm_grid.proofs.text.append_rest.Goals as goal
 
 pub loop-height-preserved : goal.loop-height-preserved

@@ -1,4 +1,5 @@
-use Rattle.sgm_grid.proofs.Rows.{on_err, rows_more, starts_more, starts_on}
+use Rattle.sgm_text.proofs.Beginnings.{on_err, starts_more, starts_on}
+use Rattle.sgm_grid.proofs.Rows.{rows_more}
 use Rattle.sgm_grid.proofs.text.append_rows.Goals as goal
 
 pub loop-row-preserved : goal.loop-row-preserved

@@ -1,5 +1,6 @@
 use Rattle.std.proofs.Common.{◌≡◌, ◌++◌, flat_map}
-use Rattle.sgm_grid.specs.Text.{StartsAs, first_rows, row_text}
+use Rattle.sgm_text.specs.Texts.{StartsAs}
+use Rattle.sgm_grid.specs.Text.{first_rows, row_text}
 use Rattle.sgm_grid.proofs.text.append_rows.Given as goal
 
 abbrev pub invariant-loop-row : goal.invariant-loop-row

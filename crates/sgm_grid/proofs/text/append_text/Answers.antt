@@ -1,7 +1,7 @@
 use Rattle.std.proofs.Common.{◌≡◌, ◌++◌, List, ℕ, ap, ◌∙◌, None}
 use Rattle.sgm_grid.specs.declared.grid_spec.GridSpec.{GridSpec}
 use Rattle.sgm_grid.specs.Text.{head_text, height_text, rows_text}
-use Rattle.sgm_grid.proofs.Rows.{err_after, on_err, starts_same, two_parts}
+use Rattle.sgm_text.proofs.Beginnings.{err_after, on_err, starts_same, two_parts}
 use Rattle.sgm_grid.proofs.text.append_text.Goals as goal
 
 pub returns-clause-ok : goal.returns-clause-ok

@@ -1,8 +1,8 @@
 use Rattle.std.proofs.Common.{length, count_by, ◌≡◌, ◌+◌, ◌==◌, ◌≤◌}
 use Rattle.std.specs.List.{position_from}
 use Rattle.sgm_list.specs.Faults.{is_faulty}
-use Rattle.sgm_list.specs.Words.{lines_of, words_of}
-use Rattle.sgm_list.specs.Reading.{lines_left, size_left}
+use Rattle.sgm_text.specs.Words.{lines_left, lines_of, words_of}
+use Rattle.sgm_list.specs.Reading.{size_left}
 use Rattle.sgm_list.proofs.count.count_lines.Given as goal
 
 abbrev pub invariant-loop-left : goal.invariant-loop-left

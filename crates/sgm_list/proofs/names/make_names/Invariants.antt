@@ -1,8 +1,8 @@
 use Rattle.std.proofs.Common.{◌≡◌, ◌++◌, map}
 use Rattle.std.specs.Prelude.{filter_map, string_bytes}
 use Rattle.sgm_list.specs.Names.{name_in, names_in}
-use Rattle.sgm_list.specs.Words.{words_of}
-use Rattle.sgm_list.specs.Reading.{lines_left, size_left}
+use Rattle.sgm_text.specs.Words.{lines_left, words_of}
+use Rattle.sgm_list.specs.Reading.{size_left}
 use Rattle.sgm_list.proofs.names.make_names.Given as goal
 
 abbrev pub invariant-loop-left : goal.invariant-loop-left

@@ -2,7 +2,7 @@ use Rattle.std.proofs.Common.{◌≡◌, ◌∙◌, ap, sym, map, List, ℕ, Som
 use Rattle.std.proofs.lemmas.List.{length-map}
 use Rattle.std.specs.List.{position_from}
 use Rattle.sgm_list.specs.declared.limits.TheConstants.{MAX_ENTRIES}
-use Rattle.sgm_list.specs.Words.{lines_of}
+use Rattle.sgm_text.specs.Words.{lines_of}
 use Rattle.sgm_list.specs.Faults.{is_faulty}
 use Rattle.sgm_list.specs.Names.{is_written, names_in, unless_fault}
 use Rattle.sgm_list.proofs.CountLaws.{name_count}

@@ -1,6 +1,7 @@
 use Rattle.std.proofs.Common.{◌≡◌, ◌++◌}
 use Rattle.sgm_list.specs.Entries.{entries_in, entries_of}
-use Rattle.sgm_list.specs.Reading.{lines_left, size_left}
+use Rattle.sgm_text.specs.Words.{lines_left}
+use Rattle.sgm_list.specs.Reading.{size_left}
 use Rattle.sgm_list.proofs.read.make_entries.Given as goal
 
 abbrev pub invariant-loop-left : goal.invariant-loop-left

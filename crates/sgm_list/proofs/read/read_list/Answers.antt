@@ -1,7 +1,7 @@
 use Rattle.std.proofs.Common.{◌≡◌, ◌∙◌, ap, sym, List, ℕ, Some, None}
 use Rattle.std.specs.List.{position_from}
 use Rattle.sgm_list.specs.Entries.{entries_of}
-use Rattle.sgm_list.specs.Words.{lines_of}
+use Rattle.sgm_text.specs.Words.{lines_of}
 use Rattle.sgm_list.specs.Clashes.{first_clash}
 use Rattle.sgm_list.specs.Faults.{is_faulty}
 use Rattle.sgm_list.proofs.FaultLaws.{bad_line, clash_left, no_text, too_many}

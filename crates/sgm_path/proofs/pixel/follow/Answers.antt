@@ -1,16 +1,71 @@
-use Rattle.std.proofs.Common.{arith, slice_index, length, ◌≤◌}
-use Rattle.std.proofs.lemmas.List.Elements.{All-from_get_or}
-use Rattle.sgm_path.proofs.Follow.{follows_from, follows_le}
+use Rattle.std.proofs.Common.{◌≡◌, ℕ, ◌+◌, ◌-◌, ◌<◌, ◌≤◌, slice_index, length, arith}
+use Rattle.sgm_energy.specs.Pens.{penalties_of}
+use Rattle.sgm_path.specs.Paths.{Follows}
+use Rattle.sgm_path.proofs.Follow.{follows_le, mid_at, mid_was, pixel_follows}
 use Rattle.sgm_path.proofs.pixel.follow.Goals as goal
 
-pub returns-clause-each : goal.returns-clause-each
-returns-clause-each c i h =
-    follows_from c.args.prev.now c.args.p1 c.args.far (slice_index c.args.costs.now i) i (slice_index c.step.new.into i) c.least.result
-    c.least.ensures.contained c.least.ensures.least (c.step.ensures i h)
+pub returns-then-this-ne0-clause-each : goal.returns-then-this-ne0-clause-each
+returns-then-this-ne0-clause-each g c d h =
+    let row = c.args.row.now in
+    let at = c.args.at in
+    pixel_follows c.args.prev.now row.costs.now row.count (penalties_of row.pen).p1 c.p1-p1.result c.args.far c.least.result
+    at (at + row.count - at) d (slice_index c.add_step.new.into d)
+    c.requires.prev_length h (omega (arith, h)) c.p1-p1.ensures c.least.ensures.contained c.least.ensures.least
+    (c.add_step.ensures.steps d (omega (arith, h, c.add_step.auto.into, c.requires.into_length)))
 
-pub returns-clause-bound : goal.returns-clause-bound
-returns-clause-bound c =
-    All-from_get_or (λ v. v ≤ 4062) c.step.new.into 0 (λ i h.
-    let f = follows_from c.args.prev.now c.args.p1 c.args.far (slice_index c.args.costs.now i) i (slice_index c.step.new.into i) c.least.result
-    c.least.ensures.contained c.least.ensures.least (c.step.ensures i h) in
-    omega (arith, follows_le (slice_index c.args.prev.now) (length c.args.prev.now) c.args.p1 c.args.far (slice_index c.args.costs.now i) i (slice_index c.step.new.into i) f, c.requires.costs i 0 (omega (arith, c.step.auto.into))))
+pub returns-then-this-ne0-clause-bound : goal.returns-then-this-ne0-clause-bound
+returns-then-this-ne0-clause-bound g c d h =
+    let row = c.args.row.now in
+    let at = c.args.at in
+    let cost : ℕ = slice_index row.costs.now (at + d) in
+    let p1 = (penalties_of row.pen).p1 in
+    let value : ℕ = slice_index c.add_step.new.into d in
+    let f : Follows (slice_index c.args.prev.now) row.count p1 c.args.far cost d value =
+    pixel_follows c.args.prev.now row.costs.now row.count p1 c.p1-p1.result c.args.far c.least.result at (at + row.count - at) d value
+    c.requires.prev_length h (omega (arith, h)) c.p1-p1.ensures c.least.ensures.contained c.least.ensures.least
+    (c.add_step.ensures.steps d (omega (arith, h, c.add_step.auto.into, c.requires.into_length))) in
+    omega (
+      arith,
+      follows_le (slice_index c.args.prev.now) row.count p1 c.args.far cost d value f,
+      row.low (at + d) 0 (omega (arith, h, c.requires.inside)),
+      c.requires.penalties,
+    )
+
+pub returns-then-this-ne0-clause-added : goal.returns-then-this-ne0-clause-added
+returns-then-this-ne0-clause-added g c t d h =
+    let sums = c.add_step.new.sums in
+    let long : d < length sums = omega (arith, h, c.add_step.auto.sums, c.split_at_mut-here.ensures.front_len) in
+    omega (
+      arith,
+      mid_at c.split_at_mut-rest.result.0.now sums c.split_at_mut-here.result.1.now c.args.at d c.split_at_mut-rest.ensures.front_len long,
+      c.add_step.ensures.added d long,
+      mid_was c.args.sums.now c.split_at_mut-here.result.0.now c.split_at_mut-rest.result.1.now c.args.at c.args.row.now.count d
+          c.split_at_mut-here.ensures.front c.split_at_mut-rest.ensures.back h,
+    )
+
+pub returns-else-this-ne0-clause-each : goal.returns-else-this-ne0-clause-each
+returns-else-this-ne0-clause-each g c d h =
+    let row = c.args.row.now in
+    let at = c.args.at in
+    pixel_follows c.args.prev.now row.costs.now row.count (penalties_of row.pen).p1 c.p1-p1.result c.args.far c.least-else-this-ne0.result
+    at (at + row.count - at) d (slice_index c.step.new.into d)
+    c.requires.prev_length h (omega (arith, h)) c.p1-p1.ensures c.least-else-this-ne0.ensures.contained c.least-else-this-ne0.ensures.least
+    (c.step.ensures d (omega (arith, h, c.step.auto.into, c.requires.into_length)))
+
+pub returns-else-this-ne0-clause-bound : goal.returns-else-this-ne0-clause-bound
+returns-else-this-ne0-clause-bound g c d h =
+    let row = c.args.row.now in
+    let at = c.args.at in
+    let cost : ℕ = slice_index row.costs.now (at + d) in
+    let p1 = (penalties_of row.pen).p1 in
+    let value : ℕ = slice_index c.step.new.into d in
+    let f : Follows (slice_index c.args.prev.now) row.count p1 c.args.far cost d value =
+    pixel_follows c.args.prev.now row.costs.now row.count p1 c.p1-p1.result c.args.far c.least-else-this-ne0.result at (at + row.count - at) d value
+    c.requires.prev_length h (omega (arith, h)) c.p1-p1.ensures c.least-else-this-ne0.ensures.contained c.least-else-this-ne0.ensures.least
+    (c.step.ensures d (omega (arith, h, c.step.auto.into, c.requires.into_length))) in
+    omega (
+      arith,
+      follows_le (slice_index c.args.prev.now) row.count p1 c.args.far cost d value f,
+      row.low (at + d) 0 (omega (arith, h, c.requires.inside)),
+      c.requires.penalties,
+    )

@@ -26,28 +26,28 @@ returns-in_err-entries c = IfOk-from_err c.from_residual-in_err-entries.result _
 pub fill_rows-requires-clause-marks_length : goal.fill_rows-requires-clause-marks_length
 fill_rows-requires-clause-marks_length c =
     let wide : c.size.inside.width ≡ c.args.map.now.width = ap (λ (s : Sides). s.width) c.size.view_is ∙ c.size-size.ensures.width in
-    c.as_mut_slice.ensures.len ∙ c.in_ok-marks.ensures.len ∙ wide
+    c.as_mut_slice-2.ensures.len ∙ c.in_ok-marks.ensures.len ∙ wide
 
 pub fill_rows-requires-clause-level_length : goal.fill_rows-requires-clause-level_length
 fill_rows-requires-clause-level_length c =
     let wide : c.size.inside.width ≡ c.args.map.now.width = ap (λ (s : Sides). s.width) c.size.view_is ∙ c.size-size.ensures.width in
-    c.as_mut_slice-2.ensures.len ∙ c.in_ok-level.ensures.len ∙ ap (λ n. 2 * n) wide
+    c.as_mut_slice-3.ensures.len ∙ c.in_ok-level.ensures.len ∙ ap (λ n. 2 * n) wide
 
 pub fill_rows-requires-clause-down_length : goal.fill_rows-requires-clause-down_length
 fill_rows-requires-clause-down_length c =
     let wide : c.size.inside.width ≡ c.args.map.now.width = ap (λ (s : Sides). s.width) c.size.view_is ∙ c.size-size.ensures.width in
-    c.as_mut_slice-3.ensures.len ∙ c.in_ok-down.ensures.len ∙ ap (λ n. 3 * n) wide
+    c.as_mut_slice-4.ensures.len ∙ c.in_ok-down.ensures.len ∙ ap (λ n. 3 * n) wide
 
 pub fill_rows-requires-clause-next_length : goal.fill_rows-requires-clause-next_length
 fill_rows-requires-clause-next_length c =
     let wide : c.size.inside.width ≡ c.args.map.now.width = ap (λ (s : Sides). s.width) c.size.view_is ∙ c.size-size.ensures.width in
-    c.as_mut_slice-4.ensures.len ∙ c.in_ok-next.ensures.len ∙ ap (λ n. 3 * n) wide
+    c.as_mut_slice-5.ensures.len ∙ c.in_ok-next.ensures.len ∙ ap (λ n. 3 * n) wide
 
-pub fill_rows-requires-clause-up_length : goal.fill_rows-requires-clause-up_length
-fill_rows-requires-clause-up_length c =
+pub meet_upwards-requires-clause-whole : goal.meet_upwards-requires-clause-whole
+meet_upwards-requires-clause-whole c =
     let wide : c.size.inside.width ≡ c.args.map.now.width = ap (λ (s : Sides). s.width) c.size.view_is ∙ c.size-size.ensures.width in
     let tall : c.size.inside.height ≡ c.args.map.now.height = ap (λ (s : Sides). s.height) c.size.view_is ∙ c.size-size.ensures.height in
-    c.as_mut_slice-5.ensures.len ∙ c.in_ok-up.ensures.len ∙ ap (λ n. 3 * c.size.inside.height * n) wide ∙ ap (λ n. 3 * n * c.args.map.now.width) tall
+    c.as_mut_slice.ensures.len ∙ c.in_ok-up.ensures.len ∙ ap (λ n. 3 * c.size.inside.height * n) wide ∙ ap (λ n. 3 * n * c.args.map.now.width) tall
 
 pub fill_rows-requires-clause-into_length : goal.fill_rows-requires-clause-into_length
 fill_rows-requires-clause-into_length c =
@@ -56,11 +56,11 @@ fill_rows-requires-clause-into_length c =
 
 pub fill_rows-requires-clause-down : goal.fill_rows-requires-clause-down
 fill_rows-requires-clause-down c =
-    none_all c.as_mut_slice-3.result.now _ (c.as_mut_slice-3.ensures.value ∙ c.in_ok-down.ensures.items_if_clones_equal (λ y e. search rules))
+    none_all c.as_mut_slice-4.result.now _ (c.as_mut_slice-4.ensures.value ∙ c.in_ok-down.ensures.items_if_clones_equal (λ y e. search rules))
 
-pub fill_rows-requires-clause-up : goal.fill_rows-requires-clause-up
-fill_rows-requires-clause-up c =
-    none_all c.as_mut_slice-5.result.now _ (c.as_mut_slice-5.ensures.value ∙ c.in_ok-up.ensures.items_if_clones_equal (λ y e. search rules))
+pub meet_upwards-requires-clause-none : goal.meet_upwards-requires-clause-none
+meet_upwards-requires-clause-none c =
+    none_all c.as_mut_slice.result.now _ (c.as_mut_slice.ensures.value ∙ c.in_ok-up.ensures.items_if_clones_equal (λ y e. search rules))
 
 pub unreachable-requires : goal.unreachable-requires
 unreachable-requires c =

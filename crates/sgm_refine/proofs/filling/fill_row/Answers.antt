@@ -12,7 +12,7 @@ loop-x-preserved c k h =
     let x = c.loop-x.x in
     let v = c.value_at.result in
     elim (cases_eq k x) [
-      | inl e ↦ subst (λ z. get_or (set into x v) z None ≡ filled_value c.args.map.now c.args.left.now (get_or c.args.marks.now z false) (pixel_at z c.args.y)) (sym e)
+      | inl e ↦ subst (λ z. get_or (set into x v) z None ≡ filled_value c.args.from.now.map.now c.args.from.now.left.now (get_or c.args.marks.now z false) (pixel_at z c.args.met.now.y)) (sym e)
           (get_or-set_same into x v None (omega (arith, c.loop-x.auto.into, c.loop-x-test.true)) ∙ c.value_at.ensures)
       | inr ne ↦ get_or-set_other into x k v None ne ∙ c.loop-x.invariant k (omega (arith, h, ne))
     ]

@@ -5,4 +5,4 @@ use Rattle.sgm_refine.proofs.filling.fill_row.Given as goal
 
 -- the columns before this one are written
 abbrev pub invariant-loop-x : goal.invariant-loop-x
-invariant-loop-x l = (k : ℕ) → k < l.x → slice_index_or l.into k None ≡ filled_value l.map l.left (slice_index_or l.marks k false) (pixel_at k l.y)
+invariant-loop-x l = (k : ℕ) → k < l.x → slice_index_or l.into k None ≡ filled_value l.from.map.now l.from.left.now (slice_index_or l.marks k false) (pixel_at k l.met.y)

@@ -1,4 +1,4 @@
-use Rattle.std.proofs.Common.{◌<◌, length, get_or, arith, rules}
+use Rattle.std.proofs.Common.{◌<◌, length, get_or, arith}
 use Rattle.std.proofs.lemmas.List.Elements.{Contains-get_or}
 use Rattle.sgm_refine.proofs.Floods.{clearing_end}
 use Rattle.sgm_refine.proofs.segments.clear.Goals as goal

@@ -1,4 +1,4 @@
-use Rattle.std.proofs.Common.{◌≡◌, ◌<◌, ◌≤◌, ℕ, length, subst, sym, ◌∙◌, refl, arith}
+use Rattle.std.proofs.Common.{◌<◌, ◌≤◌, length, subst, sym, ◌∙◌, refl, arith}
 use Rattle.std.specs.List.{Contains}
 use Rattle.sgm_refine.proofs.Floods.{found_inside, keeping_next, removed_here, kept_here}
 use Rattle.sgm_refine.proofs.segments.keep.Goals as goal

@@ -1,47 +1,59 @@
-use Rattle.std.proofs.Common.{◌≡◌, ℕ, ◌+◌, ◌<◌, ◌≤◌, ◌⊎◌, ◌∙◌, length, drop, slice_index, sym, ap, subst, arith}
-use Rattle.std.specs.Prelude.{All}
-use Rattle.std.proofs.lemmas.List.{with_items_is}
-use Rattle.sgm_base.specs.declared.limits.TheConstants.{MAX_PATH_VALUE}
-use Rattle.sgm_energy.specs.Energies.{path_value}
-use Rattle.sgm_energy.specs.Rows.{HoldsRow}
+use Rattle.std.proofs.Common.{ℕ, ◌<◌, ◌∙◌, length, drop, ap, subst, arith}
 use Rattle.sgm_path.proofs.Follow.{mid_at, mid_others, mid_was}
-use Rattle.sgm_strip.specs.Passing.{ComesBefore}
+use Rattle.sgm_strip.specs.Passing.{ComesBefore, HoldsBefore}
 use Rattle.sgm_strip.proofs.sweeping.advance.Goals as goal
 
-pub returns-clause-others : goal.returns-clause-others
-returns-clause-others c k h =
-    let n : ℕ = length c.args.row.costs.now in
-    mid_others c.args.sums.now c.split_at_mut-rest.result.0.now c.add_row.new.sums c.split_at_mut-here.result.1.now c.args.at n k
+pub returns-then-begun-clause-others : goal.returns-then-begun-clause-others
+returns-then-begun-clause-others c k h =
+    let n : ℕ = length c.args.last.now in
+    mid_others c.args.sums.now c.split_at_mut-rest.result.0.now c.pass_row.new.sums c.split_at_mut-here.result.1.now c.args.at n k
     c.split_at_mut-rest.ensures.front
     (c.split_at_mut-here.ensures.back ∙ ap (drop n) c.split_at_mut-rest.ensures.back)
     c.split_at_mut-rest.ensures.front_len
-    (omega (arith, c.add_row.auto.sums, c.split_at_mut-here.ensures.front_len))
-    (subst (λ m. (k < c.args.at) ⊎ (c.args.at + m ≤ k)) c.requires.last_length h)
+    (omega (arith, c.pass_row.auto.sums, c.split_at_mut-here.ensures.front_len))
+    h
 
-pub returns-clause-added : goal.returns-clause-added
-returns-clause-added c k h =
-    let is : c.swap.new.x.items ≡ c.add_row.new.into =
-    ap (λ v. v.items) c.swap.ensures.x_after ∙ with_items_is c.args.spare.now c.add_row.new.into (omega (arith, c.add_row.auto.into, c.deref_mut.ensures.len)) in
-    let n : ℕ = length c.args.row.costs.now in
-    let here : k < n = omega (arith, c.requires.last_length) in
-    let inside : k < length c.add_row.new.sums = omega (arith, c.add_row.auto.sums, c.split_at_mut-here.ensures.front_len) in
+pub returns-then-begun-clause-added : goal.returns-then-begun-clause-added
+returns-then-begun-clause-added c k h =
+    let inside : k < length c.pass_row.new.sums = omega (arith, h, c.pass_row.auto.sums, c.split_at_mut-here.ensures.front_len) in
     omega (
       arith,
-      mid_at c.split_at_mut-rest.result.0.now c.add_row.new.sums c.split_at_mut-here.result.1.now c.args.at k c.split_at_mut-rest.ensures.front_len inside,
-      c.add_row.ensures.added k inside,
-      mid_was c.args.sums.now c.split_at_mut-here.result.0.now c.split_at_mut-rest.result.1.now c.args.at n k c.split_at_mut-here.ensures.front c.split_at_mut-rest.ensures.back here,
-      ap (λ xs. slice_index xs k) is,
+      mid_at c.split_at_mut-rest.result.0.now c.pass_row.new.sums c.split_at_mut-here.result.1.now c.args.at k c.split_at_mut-rest.ensures.front_len inside,
+      c.pass_row.ensures.added k inside,
+      mid_was c.args.sums.now c.split_at_mut-here.result.0.now c.split_at_mut-rest.result.1.now c.args.at (length c.args.last.now) k c.split_at_mut-here.ensures.front c.split_at_mut-rest.ensures.back h,
     )
 
-pub returns-clause-paths : goal.returns-clause-paths
-returns-clause-paths c g y s b =
-    let is : c.swap.new.x.items ≡ c.add_row.new.into =
-    ap (λ v. v.items) c.swap.ensures.x_after ∙ with_items_is c.args.spare.now c.add_row.new.into (omega (arith, c.add_row.auto.into, c.deref_mut.ensures.len)) in
-    subst (HoldsRow g y (path_value g c.args.dir)) (sym is)
-    (c.add_row.ensures.paths g y s (subst (ComesBefore g c.args.dir y c.args.begun) (sym c.deref.ensures.value) b))
+pub returns-then-begun-clause-paths : goal.returns-then-begun-clause-paths
+returns-then-begun-clause-paths c g y s b =
+    let dir = c.args.row.now.dir in
+    let before : HoldsBefore g dir y c.args.last.now = subst (λ t. ComesBefore g dir y t c.args.last.now) c.if-begun.true b in
+    c.pass_row.ensures.paths g y s.suits record {
+      row = before.row;
+      comes_from = before.comes_from;
+      has_far = s.has_far before.row before.comes_from;
+      holds = before.holds;
+    }
 
-pub returns-clause-bound : goal.returns-clause-bound
-returns-clause-bound c =
-    let is : c.swap.new.x.items ≡ c.add_row.new.into =
-    ap (λ v. v.items) c.swap.ensures.x_after ∙ with_items_is c.args.spare.now c.add_row.new.into (omega (arith, c.add_row.auto.into, c.deref_mut.ensures.len)) in
-    subst (All (λ v. v ≤ MAX_PATH_VALUE)) (sym is) c.add_row.ensures.bound
+pub returns-else-begun-clause-others : goal.returns-else-begun-clause-others
+returns-else-begun-clause-others c k h =
+    let n : ℕ = length c.args.last.now in
+    mid_others c.args.sums.now c.split_at_mut-rest.result.0.now c.begin_row.new.sums c.split_at_mut-here.result.1.now c.args.at n k
+    c.split_at_mut-rest.ensures.front
+    (c.split_at_mut-here.ensures.back ∙ ap (drop n) c.split_at_mut-rest.ensures.back)
+    c.split_at_mut-rest.ensures.front_len
+    (omega (arith, c.begin_row.auto.sums, c.split_at_mut-here.ensures.front_len))
+    h
+
+pub returns-else-begun-clause-added : goal.returns-else-begun-clause-added
+returns-else-begun-clause-added c k h =
+    let inside : k < length c.begin_row.new.sums = omega (arith, h, c.begin_row.auto.sums, c.split_at_mut-here.ensures.front_len) in
+    omega (
+      arith,
+      mid_at c.split_at_mut-rest.result.0.now c.begin_row.new.sums c.split_at_mut-here.result.1.now c.args.at k c.split_at_mut-rest.ensures.front_len inside,
+      c.begin_row.ensures.added k inside,
+      mid_was c.args.sums.now c.split_at_mut-here.result.0.now c.split_at_mut-rest.result.1.now c.args.at (length c.args.last.now) k c.split_at_mut-here.ensures.front c.split_at_mut-rest.ensures.back h,
+    )
+
+pub returns-else-begun-clause-paths : goal.returns-else-begun-clause-paths
+returns-else-begun-clause-paths c g y s b =
+    c.begin_row.ensures.paths g y s.suits (subst (λ t. ComesBefore g c.args.row.now.dir y t c.args.last.now) c.if-begun.false b)

@@ -10,12 +10,10 @@ use Rattle.sgm_strip.proofs.sweeping.pass_rows.Given as goal
 abbrev pub invariant-loop-i : goal.invariant-loop-i
 invariant-loop-i l =
     record {
-      row : l.row ≡ length l.fn.last.items;
-      last_length : length l.last.items ≡ l.row;
-      spare_length : length l.spare.items ≡ l.row;
-      bound : All (λ v. v ≤ MAX_PATH_VALUE) l.last.items;
+      row : l.row ≡ length l.fn.last;
+      bound : All (λ v. v ≤ MAX_PATH_VALUE) l.last;
       left : (r k : ℕ) → r < l.rows → l.i ≤ visited l.dir l.rows r → k < l.row → slice_index l.sums (r * l.row + k) ≡ slice_index l.fn.sums (r * l.row + k);
-      done : (g : Problem) → SuitsRows g l.top l.rows (penalties_of l.pen) l.guide l.count l.row l.costs
-          → ComesBefore g l.dir (l.top + visited l.dir l.rows 0) l.begun l.fn.last.items
-          → Done g l.dir l.top l.rows l.i l.row l.fn.last.items l.last.items l.fn.sums l.sums;
+      done : (g : Problem) → SuitsRows g l.strip.top l.rows (penalties_of l.strip.pen) l.strip.guide.now l.strip.count l.row l.strip.costs.now
+          → ComesBefore g l.dir (l.strip.top + visited l.dir l.rows 0) l.begun l.fn.last
+          → Done g l.dir l.strip.top l.rows l.i l.row l.fn.last l.last l.fn.sums l.sums;
     }

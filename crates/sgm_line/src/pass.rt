@@ -1,9 +1,0 @@
-//! What a thread steps with.
-use crate::log::Log;
-use crossbeam_queue::Pass;
-
-/// A pass to a line. It knows what it pushed and popped.
-#[derive(Drop)]
-pub struct LinePass<T> {
-    pub(crate) pass: Pass<T, Log<T>>,
-}

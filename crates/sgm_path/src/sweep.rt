@@ -1,0 +1,97 @@
+// A row of path values that takes the place of the row that it comes from.
+ghost use Rattle.std.specs.Prelude.{◌≡◌, ℕ, ◌+◌, ◌*◌, ◌^◌, ◌<◌, ◌≤◌, length, slice_index, All, EachIndex, IsTrue, Some, false};
+ghost use Rattle.sgm_energy.specs.Dirs.{is_level};
+ghost use Rattle.sgm_energy.specs.Pens.{penalties_of};
+ghost use Rattle.sgm_energy.specs.Rays.{column_before};
+ghost use Rattle.sgm_path.specs.Paths.{column_at, EntryFollows, far_in, OthersStay, row_from, RowFollows, terms_of};
+
+use crate::pixel::{begin_at, far_at, from_itself, from_left, from_right};
+use crate::row_pass::RowPass;
+use sgm_base::MAX_PATH_VALUE;
+use sgm_energy::Dir;
+
+/// The column that is the `i`-th to be gone through: no value is written over that is still needed.
+#[inline(always)]
+fn column(dir: Dir, width: usize, i: usize) -> usize
+    requires inside { i < width }
+    ensures value { result ≡ column_at dir width i }
+    ensures inside { result < width }
+{
+    match dir {
+        Dir::Left | Dir::DownRight | Dir::UpRight => width - 1 - i,
+        _ => i,
+    }
+}
+
+/// The values of the column `x`, from those that the row holds where the direction comes from. `ADAPTIVE`
+/// is whether the pen is, so that a row with a fixed pen doesn't look at the guide, and `ADD` whether
+/// each value is added to the sum at its place. What `spare` holds does not matter; in a level direction
+/// it isn't looked at.
+#[inline(always)]
+fn step_at<const ADAPTIVE: bool, const ADD: bool>(
+    row: &RowPass,
+    x: usize,
+    values: &mut [u16],
+    spare: &mut [u16],
+    sums: &mut [u16],
+)
+    requires kind { (penalties_of row.now.pen).adaptive ≡ ADAPTIVE }
+    requires inside { x < length row.now.guide.now }
+    requires spare { is_level row.now.dir ≡ false → row.now.count ≤ length spare.old }
+    requires same_length { length values.old ≡ length row.now.costs.now }
+    requires sums_length { IsTrue ADD → length sums.old ≡ length row.now.costs.now }
+    requires low { (z d : ℕ) → column_before row.now.dir (length row.now.guide.now) x ≡ Some z → d < row.now.count
+        → slice_index values.old (z * row.now.count + d) ≤ MAX_PATH_VALUE }
+    requires room { IsTrue ADD → (d : ℕ) → d < row.now.count
+        → slice_index sums.old (x * row.now.count + d) + MAX_PATH_VALUE < 2 ^ 16 }
+    ensures others { OthersStay (x * row.now.count) row.now.count values.old values.new }
+    ensures each { (d : ℕ) → d < row.now.count
+        → EntryFollows (terms_of row.now) values.old x d (slice_index values.new (x * row.now.count + d)) }
+    ensures bound { (d : ℕ) → d < row.now.count → slice_index values.new (x * row.now.count + d) ≤ MAX_PATH_VALUE }
+    ensures other_sums { OthersStay (x * row.now.count) row.now.count sums.old sums.new }
+    ensures added { IsTrue ADD → (d : ℕ) → d < row.now.count → slice_index sums.new (x * row.now.count + d)
+        ≡ slice_index sums.old (x * row.now.count + d) + slice_index values.new (x * row.now.count + d) }
+{
+    let at = x * row.count;
+    match row.dir.column_before(row.guide.len(), x) {
+        None => begin_at::<ADD>(row, at, values, sums),
+        Some(z) => {
+            let far = far_at::<ADAPTIVE>(row.pen, row.guide[x], row.guide_before[z]);
+            if z < x {
+                from_left::<ADD>(row, far, z * row.count, at, values, sums);
+            } else if x < z {
+                from_right::<ADD>(row, far, z * row.count, at, values, sums);
+            } else {
+                from_itself::<ADD>(row, far, at, values, spare, sums);
+            }
+        }
+    }
+}
+
+/// The whole row. In a level direction it is written from nothing, and what `values` held does not matter.
+/// In any other the values are those of the row that the direction comes from.
+#[inline(always)]
+pub(crate) fn sweep<const ADAPTIVE: bool, const ADD: bool>(
+    row: &RowPass,
+    values: &mut [u16],
+    spare: &mut [u16],
+    sums: &mut [u16],
+)
+    requires kind { (penalties_of row.now.pen).adaptive ≡ ADAPTIVE }
+    requires spare { is_level row.now.dir ≡ false → row.now.count ≤ length spare.old }
+    requires same_length { length values.old ≡ length row.now.costs.now }
+    requires sums_length { IsTrue ADD → length sums.old ≡ length row.now.costs.now }
+    requires low { is_level row.now.dir ≡ false → All (λ v. v ≤ MAX_PATH_VALUE) values.old }
+    requires room { IsTrue ADD → EachIndex sums.old (λ k. slice_index sums.old k + MAX_PATH_VALUE < 2 ^ 16) }
+    ensures bound { All (λ v. v ≤ MAX_PATH_VALUE) values.new }
+    ensures each { RowFollows row.now.dir row.now.count (penalties_of row.now.pen).p1 (far_in (terms_of row.now))
+        (row_from row.now.dir values.old values.new) row.now.costs.now values.new }
+    ensures added { IsTrue ADD
+        → EachIndex sums.new (λ k. slice_index sums.new k ≡ slice_index sums.old k + slice_index values.new k) }
+{
+    let width = row.guide.len();
+    for i in 0..width {
+        let x = column(row.dir, width, i);
+        step_at::<ADAPTIVE, ADD>(row, x, values, spare, sums);
+    }
+}
