@@ -47,7 +47,7 @@ def crates():
     found = {}
     with open(f"{TOP}/crates.txt", encoding="utf-8") as file:
         for line in file:
-            name, colon, below = line.partition(":")
+            name, colon, below = line.partition("#")[0].partition(":")
             if colon:
                 found[name.strip()] = below.split()
     return found

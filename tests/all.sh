@@ -10,8 +10,9 @@
 # servers. The programs are those that the variables SGM and SGM_SERIES name (./sgm and ./sgm_series of this repository
 # without them). Where those of this repository were never built, the tests that need them are skipped, and the line says
 # so; --build builds them first, which takes many minutes. No other test starts them. With them all tests together take
-# about half an hour, half of it compare, package and definitions. The last two ask the toolchain for what is proved in this checkout, and take
-# many minutes more where nothing is. Of the edits that stand outside the gate it asks only whether each can be applied;
+# about half an hour, half of it compare, package and definitions. The last two ask the toolchain for what is proved: package
+# for what was built in this checkout, definitions for what the gate passed on this machine. Where that is nothing they
+# take many minutes more. Of the edits that stand outside the gate it asks only whether each can be applied;
 # tests/edits.py tries them, for over an hour of processor time.
 #
 # Status: 0 where none failed, 1 where one did, 2 for wrong words. What a test that failed has printed is kept, and
@@ -112,7 +113,8 @@ wrong() {
     exit 2
 }
 
-# python_with MODULE: a Python that has it, else python3. Debian's packages are those of /usr/bin/python3.
+# python_with MODULE: a Python that has it, else python3. Debian's packages are those of /usr/bin/python3. Where another
+# python3 on the PATH has no numpy, that one is made the first, below: the tools and their tests are started by `env python3`.
 python_with() {
     local python
     for python in python3 /usr/bin/python3; do
@@ -322,7 +324,10 @@ no_program='' no_series=''
 [ $do_install = no ] || install
 work=$(mktemp -d "${TMPDIR:-/tmp}/sgm-all.XXXXXX") || exit 1
 # What failed stays.
-trap 'rmdir "$work" 2>/dev/null' EXIT
+trap 'rm -rf "$work/bin"; rmdir "$work" 2>/dev/null' EXIT
+if [ "$(python_with numpy)" != python3 ]; then
+    mkdir "$work/bin" && ln -s "$(python_with numpy)" "$work/bin/python3" && PATH=$work/bin:$PATH
+fi
 passed=0 failed=0 skipped=0 to_install=
 if wanted program; then
     begin_program "${programs[0]#SGM=}" sgm sgm_cli 'sgm: no command'

@@ -10,6 +10,7 @@ one right side on each page is false, and no page may be proved.
 """
 
 import argparse
+import functools
 import itertools
 import json
 import os
@@ -19,6 +20,7 @@ import sys
 
 import calibration_cases
 import least_energies
+import merge_cases
 import random_inputs
 import random_lists
 import reference
@@ -99,7 +101,8 @@ class Page:
                 module = f"{crate}.specs.{name}"
             else:
                 names = names.split()
-            lines.append(f"use Rattle.{module}.{{{', '.join(names)}}}")
+            if names:
+                lines.append(f"use Rattle.{module}.{{{', '.join(names)}}}")
         lines.append(self.before)
         binder = f"({self.given} : Float) → " if self.given else ""
         for number, (left, right) in enumerate(self.lemmas):
@@ -121,6 +124,8 @@ DIRECTIONS = "Right Left Down DownRight DownLeft Up UpRight UpLeft"
 # The module of the rules of cost, and the rule of each version of the calibration.
 RULES = "sgm_census.specs.declared.rule.CostRule.TheVariants"
 RULE_OF = {1: "Plain", 2: "Plain", 3: "Smoothed"}
+# What the tallies of regions stand on.
+REGIONS = {"sgm_report.Bases": "", "sgm_report.Outlines": "", "sgm_report.Tallies": ""}
 # The module of what cells keep, with its names; and the columns of a report, by their whole names, as one of them is that
 # of a rule too.
 KEEPS = {"sgm_grid.specs.declared.keep.Keep.TheVariants": "Highest Mean"}
@@ -537,6 +542,7 @@ def poses(draw):
     return page
 
 
+@functools.cache
 def natural_fields(path):
     """The names of a struct's fields that are natural numbers in the definitions, by its source."""
     with open(os.path.join(CRATES, path), encoding="utf-8") as file:
@@ -560,6 +566,7 @@ def grids(draw):
         {
             **KEEPS,
             "sgm_grid.Cells": "cells_of",
+            "sgm_base.Values": "",
             "sgm_grid.Keeping": "cell_after",
             "sgm_grid.Bridges": "bridged",
             "sgm_grid.Text": "grid_text",
@@ -604,7 +611,8 @@ def readings(draw):
         {
             "sgm_grid.Cells": "Cells cells_of",
             "sgm_grid.specs.declared.asc_fault.AscFault": "AscFault",
-            "sgm_grid.Words": "",
+            "sgm_text.Words": "",
+            "sgm_grid.Numbers": "",
             "sgm_grid.Asc": "asc_reading",
             "sgm_words.specs.declared.files.Input.TheVariants": "Later",
             "sgm_outcome.Lines": "asc_line",
@@ -680,6 +688,7 @@ def reports(draw):
         {
             "sgm_grid.Cells": "cells_of",
             "sgm_report.Areas": "is_region_name",
+            **REGIONS,
             "sgm_report.Tallies": "tally_of",
             "sgm_report.Table": "table_text",
         },
@@ -764,6 +773,9 @@ def calibrations(draw):
             "serde_json.specs.Data": DATA,
             RULES: "Plain Smoothed",
             "sgm_rectify.specs.declared.warp.Warp.TheVariants": "Identity Projective Mesh",
+            "sgm_height.Pose": "",
+            "sgm_report.Areas": "",
+            "sgm_report.Bases": "",
             "sgm_calib.specs.declared.keys.CalibFault": "CalibFault",
             "sgm_calib.Paths": "",
             **KEEPS,
@@ -800,7 +812,7 @@ def words(draw):
         "words",
         {
             "sgm_words.specs.declared.options.Options": "Options",
-            "sgm_words.specs.declared.options.Options.TheVariants": "Match Demo Trace Change",
+            "sgm_words.specs.declared.options.Options.TheVariants": "Match Demo Trace Change Merge",
             "sgm_words.specs.declared.usage.UsageFault": "UsageFault",
             "sgm_energy.specs.declared.dir.Dir.TheVariants": DIRECTIONS,
             "sgm_words.Commands": "",
@@ -832,14 +844,19 @@ def words(draw):
         inputs_of = ["l", "r", "-"] if number < len(directions) else draw.choices(names, weights=[4, 4, 4, 8, 1, 1, 1], k=3)
         spot = draw.choices(["0", "7", "007", "4294967295"], k=3) if number < len(directions) else draw.choices(numbers, k=3)
         cases.append(["trace", *inputs_of, direction, *spot, *draw.choices(options, k=draw.choice([0, 0, 0, 1]))])
-        cases.append(["change", *draw.choices(names, k=3), *draw.choices(options, k=draw.choice([0, 0, 0, 1]))])
+        for command in ("change", "merge"):
+            some_options = draw.choices(options, k=draw.choice([0, 0, 0, 1]))
+            cases.append([command, *draw.choices(names, k=3), *some_options])
     cases += [["trace", "l", "r", "-", "up", "0", "0"], ["trace"], ["change", "a", "b"], ["change", "a", "b", "o"], ["change"]]
     cases += [["change", "o.pgm", "b", "o"], ["change", "b", "o.asc", "o"], ["change", "o.csv", "o.asc", "o"]]
+    merges_of = [[], "ab", "abo", "-bo", "a-o", "aoo", ["o.pgm", "b", "o"]]
+    merges_of += [["o.csv", "o.asc", "o"], ["a", "o.asc", "o"]]
+    cases += [["merge", *rest] for rest in merges_of]
     for case in cases:
         try:
             operands, asked = inputs.read_words(case)
             options_of = f"{asked['strips']} {asked['workers']} {refine_of(asked['peak'], asked['fill'] == 1)}"
-            made = {"match": f"(Match {options_of})", "change": "Change"}
+            made = {"match": f"(Match {options_of})", "change": "Change", "merge": "Merge"}
             if case[0] == "demo":
                 made["demo"] = f"(Demo {int(operands[0])} {options_of})"
             if case[0] == "trace":
@@ -904,6 +921,7 @@ def surveys(draw):
             "sgm_grid.Cells": "cells_of",
             "sgm_grid.Keeping": "",
             "sgm_grid.Bridges": "",
+            **REGIONS,
             "sgm_fine.Making": "",
             "sgm_job.Heights": "",
             "sgm_job.Survey": "survey_of",
@@ -953,7 +971,8 @@ def calls(draw):
             "sgm_energy.Pens": "",
             "sgm_trace.Best": "",
             "sgm_grid.Cells": "cells_of",
-            "sgm_grid.Words": "",
+            "sgm_text.Words": "",
+            "sgm_grid.Numbers": "",
             "sgm_grid.Asc": "asc_reading",
             "sgm_change.Changes": "",
             **KEEPS,
@@ -1039,8 +1058,262 @@ def lists(draw):
     return page
 
 
+# Merges
+
+# The modules of the names that a calibration is written with.
+SETTINGS = {
+    RULES: "Plain Smoothed",
+    "sgm_rectify.specs.declared.warp.Warp.TheVariants": "Identity Projective Mesh",
+    **KEEPS,
+}
+
+
+def bare_settings_of(calibration):
+    return settings_of(calibration)[len("(Ok ") : -len(")")]
+
+
+def plan_of(names, calibration):
+    """What a merge of grids with these names is over, by that calibration."""
+    settings, spec = bare_settings_of(calibration), spec_of(calibration.grid)
+    return record(names=listed(names, text), calib=settings, spec=spec)
+
+
+def decides_by_files(case):
+    """Whether a stored case of a merge is small, and its files alone decide what comes of it."""
+    names = set(case.texts)
+    has_all = {"m.txt", "c.json"} <= names and not {"o.asc", "o.csv"} & names
+    # (a text in one line says how often a part of it comes)
+    is_small = r"\*" not in case.told()
+    return case.words == merge_cases.MERGE and not case.devices and has_all and is_small
+
+
+def small_merges():
+    """Such cases, each with its files, and with its names and its calibration, or None where one of
+    them is refused."""
+    for case in filter(decides_by_files, merge_cases.cases()):
+        files = case.files()
+        try:
+            yield case, files, reference.merge_plan(files["m.txt"], files["c.json"], "o")
+        except inputs.Ended:
+            yield case, files, None
+
+
+def fault_line(call):
+    """The line of the fault with which that ends, or None."""
+    try:
+        call()
+    except inputs.Ended as end:
+        return end.line + "\n"
+    return None
+
+
+MERGED = ["o.asc", "o.csv"]
+
+
+def names(draw):
+    """The names in the list of a merge, the line of its first fault or none, and what a merge is
+    over, or its refusal. That a list isn't UTF-8 can't be computed here either."""
+    page = Page(
+        "names",
+        {
+            "std.specs.Option": "option_or",
+            "sgm_list.specs.declared.names.NamesFault.TheVariants": "Line NoEntries Output",
+            "sgm_list.Names": "names_in line_fault count_fault fault_of_count output_fault",
+            "sgm_calib.specs.declared.keys.CalibFault.TheVariants": "Json Version",
+            "sgm_calib.Paths": "",
+            "sgm_calib.Table": "",
+            **SETTINGS,
+            "sgm_outcome.specs.declared.outcome.Refusal": "Refusal",
+            "sgm_outcome.Lines": "list_line refusal_line",
+            "sgm_app.Merging": "MergePlan plan_for",
+        },
+        COLUMNS + "abbrev with_line : Result MergePlan Refusal → Result MergePlan (List ℕ)\n"
+        "with_line (Ok plan) = Ok plan\n"
+        "with_line (Err refusal) = Err (refusal_line refusal)\n",
+    )
+    some = [files["m.txt"] for _, files, _ in small_merges()]
+    some += [random_lists.name_list_of(5, number) for number in range(80)]
+    for data in dict.fromkeys(it for it in some if len(it) < 120):
+        hold_names(page, data)
+    for count in (0, 1, 2, 999, 1000, 1001):
+        line = fault_line(lambda: reference.read_names(count * b"a\n", MERGED))
+        page.holds(f"option_map list_line (fault_of_count {count})", option(line, text))
+    hold_plans(page)
+    return page
+
+
+def hold_names(page, data):
+    """Equations for the list of a merge that is text."""
+    line = fault_line(lambda: reference.read_names(data, MERGED))
+    if line == "sgm: list: not text\n":
+        return
+    if line is None:
+        found = reference.read_names(data, MERGED)
+        page.holds(f"names_in {text(data)}", listed(found, text))
+    later = f"option_or (count_fault {text(data)}) (output_fault {text('o')} {text(data)})"
+    faults = f"option_or (line_fault {text(data)}) ({later})"
+    page.holds(f"option_map list_line ({faults})", option(line, text))
+
+
+# Lists and calibrations with a fault, and how the faults are written.
+ILL_LISTS = {b"": "NoEntries", b"a\no.asc": "(Output 1)", b"a\nb c": "(Line 2)"}
+ILL_CALIBRATIONS = {b"{": "Json", b'{"version":4}': "Version"}
+
+
+def hold_plans(page):
+    """Equations for what merges are over, by each reading of a list and of a calibration."""
+    missing = calibration_cases.MISSING
+    bare = calibration_cases.changed(merge_cases.WHOLE, ("camera", missing), ("grid", missing))
+    lists_read = {data: f"(Err {fault})" for data, fault in ILL_LISTS.items()}
+    for data in (b"a", b"a\nb\na"):
+        lists_read[data] = f"(Ok {listed(reference.read_names(data, MERGED), text)})"
+    calibrations_read = {data: f"(Err {fault})" for data, fault in ILL_CALIBRATIONS.items()}
+    # (without one there are the plain settings)
+    for data in (json.dumps(merge_cases.WHOLE).encode(), json.dumps(bare).encode(), None):
+        calibrations_read[data] = settings_of(reference.calibration_of(data))
+    for data, calibration in itertools.product(lists_read, calibrations_read):
+        try:
+            answer = f"(Ok {plan_of(*reference.merge_plan(data, calibration, 'o'))})"
+        except inputs.Ended as end:
+            answer = f"(Err {text(end.line + chr(10))})"
+        read = f"{lists_read[data]} {calibrations_read[calibration]}"
+        page.holds(f"with_line (plan_for {read})", answer)
+
+
+def entries_in(files, names):
+    """The grids with these names, each its numbers and its cells, or None where one has a fault."""
+    try:
+        return [inputs.read_grid(files[name], "grid") for name in names]
+    except (inputs.Ended, KeyError):
+        return None
+
+
+def far_apart(side, sign):
+    """A calibration and an entry so far beyond its cells that 2^32 less would be over them."""
+    sides = {"west": 0, "south": 0, "cell": 10**9, "cols": 2, "rows": 2}
+    whole = merge_cases.calibration({**sides, side: -sign * 1500000000})
+    entry = {**sides, "rows": 1, "cols": 1, side: sign * 1500000000}
+    return inputs.read_calibration(json.dumps(whole).encode()), [(entry, [[5]])]
+
+
+def merges_of_cells():
+    """Names, a calibration and entries of many merges."""
+    for _, files, found in small_merges():
+        entries = found and entries_in(files, found[0])
+        if entries:
+            yield *found, entries
+    for side, sign in itertools.product(("west", "south"), (1, -1)):
+        yield ["e"], *far_apart(side, sign)
+
+
+def merges(draw):
+    """Whether grids fit, and many grids as one: over all entries at once, by what is held of them
+    one after the other, and in the texts of a merge."""
+    page = Page(
+        "merges",
+        {
+            "std.specs.Prelude": "fold",
+            "sgm_base.Values": "",
+            **SETTINGS,
+            "sgm_grid.Cells": "cells_of",
+            "sgm_grid.Bridges": "",
+            **REGIONS,
+            "sgm_merge.Fits": "fits",
+            "sgm_merge.Merged": "merged cut_to",
+            "sgm_merge.Merging": "no_entries with_entry grid_in",
+            "sgm_app.Merging": "merge_texts",
+        },
+        COLUMNS,
+    )
+    found = {str((vars(it[1]), it[2])): it for it in merges_of_cells()}.values()
+    pairs = [(entry[0], calibration.grid) for _, calibration, some in found for entry in some]
+    for entry, grid in {str(pair): pair for pair in pairs}.values():
+        page.holds(f"fits {spec_of(grid)} {spec_of(entry)}", truth(matching.fits(entry, grid)))
+    for names, calibration, some in found:
+        size = sum(len(row) for _, cells in some for row in cells)
+        if size <= 40 and all(matching.fits(entry[0], calibration.grid) for entry in some):
+            hold_merge(page, names, calibration, some)
+    return page
+
+
+def merged_before_bridges(calibration, entries):
+    made = inputs.Calibration()
+    vars(made).update({**vars(calibration), "bridge": 0, "regions": None})
+    return matching.merged(made, entries)[0]
+
+
+def hold_merge(page, names, calibration, entries):
+    """Equations for a merge of entries that fit."""
+    grid, spec = calibration.grid, spec_of(calibration.grid)
+    keep, shown = calibration.keep.capitalize(), listed(entries, lambda entry: cells_of(*entry))
+    made = cells_of(grid, merged_before_bridges(calibration, entries))
+    page.holds(f"merged {keep} {spec} {shown}", made)
+    page.holds(f"grid_in (fold with_entry (no_entries {keep} {spec}) {shown})", made)
+    one = cells_of(grid, merged_before_bridges(calibration, entries[:1]))
+    page.holds(f"cut_to {spec} {cells_of(*entries[0])}", one)
+    outputs, summary = reference.merge_texts(calibration, entries)
+    written = {ending: data for ending, data, _ in outputs}
+    heights, report = text(written[".asc"]), option(written.get(".csv"), text)
+    answer = record(heights=heights, report=report, summary=text(summary))
+    page.holds(f"merge_texts {plan_of(names, calibration)} {shown}", answer)
+
+
+def held_of(files, names):
+    """What is held of files with these names."""
+    held = "(λ _. None)"
+    for name in dict.fromkeys(it for it in names if it in files):
+        held = f"(put {text(name)} {text(files[name])} {held})"
+    return held
+
+
+def entries(draw):
+    """What a merge writes whose grids are held as files, or the line of the first refusal."""
+    page = Page(
+        "entries",
+        {
+            "sgm_base.Values": "",
+            "sgm_io.Held": "put",
+            **SETTINGS,
+            "sgm_grid.Asc": "",
+            "sgm_grid.Bridges": "",
+            **REGIONS,
+            "sgm_merge.Merged": "",
+            "sgm_words.specs.declared.files.Output.TheVariants": "Heights Report",
+            "sgm_outcome.specs.declared.outcome.Outcome.TheVariants": "Usage Refused ReadFault",
+            "sgm_outcome.Lines": "line_of",
+            "sgm_app.Merging": "",
+            "sgm_app.Outputs": "OutputFile",
+            "sgm_app.Verdict": "Verdict usage absent refused files plan_carried_out",
+        },
+        COLUMNS + "abbrev with_line : Verdict → Result (List OutputFile × List ℕ) (List ℕ)\n"
+        "with_line (usage fault) = Err (line_of (Usage fault))\n"
+        "with_line (absent input) = Err (line_of (ReadFault input))\n"
+        "with_line (refused refusal) = Err (line_of (Refused refusal))\n"
+        "with_line (files outputs summary) = Ok (outputs, summary)\n",
+    )
+    for case, files, found in small_merges():
+        if found and sum(len(files.get(name, b"")) for name in found[0]) <= 420:
+            asked = f"{text('o')} {held_of(files, found[0])} (Ok {plan_of(*found)})"
+            page.holds(f"with_line (plan_carried_out {asked})", ending_of(case))
+    return page
+
+
+def ending_of(case):
+    """What a merge writes and prints, or the line of its refusal."""
+    shelf, status, line = merge_cases.ran(case)
+    if status:
+        return f"(Err {text(line)})"
+    files = [
+        record(output=output, name=text(name), text=text(shelf.held[name]))
+        for name, output in zip(MERGED, ("Heights", "Report"))
+        if name in shelf.held
+    ]
+    return f"(Ok ({listed(files, str)}, {text(shelf.out)}))"
+
+
 PAGES = [energies, certificates, penalties, codes, selection, refinement, rectification, points, poses, grids]
 PAGES += [readings, changes, reports, calibrations, words, texts, surveys, calls, lists]
+PAGES += [names, merges, entries]
 
 
 def write_pages(folder, is_wrong):

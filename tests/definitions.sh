@@ -1,8 +1,9 @@
 #!/usr/bin/env bash
 # Computes the definitions of specs/ on small arguments, by proofs that only compute, and compares them with
 # plain Python (definitions.py). Every page has to be proved; and with one false value on each page none may be.
-# Skipped where the toolchain (rt) isn't there. The program takes no part. Takes many minutes where nothing is
-# proved yet.
+# Skipped where the toolchain (rt) isn't there. The programs take no part. The libraries that hold the definitions
+# are taken as the gate (.ci/run) passed them on this machine. Where it hasn't passed the same files they are proved
+# here first, which takes many minutes.
 #
 #     tests/definitions.sh
 set -u
@@ -11,29 +12,32 @@ set -u
 has rt || { echo "definitions: skipped: the toolchain's command rt isn't on the PATH"; exit 0; }
 crate=$work/crates/sgm_pages
 
-# A copy of the workspace, with one crate more: the pages. What is proved there already, some gigabytes in the folders
-# out, comes with it.
-tar -C "$top" --exclude=must-fail -c crates crates.txt HANDLES | tar -C "$work" -x || exit 1
+# A copy of the workspace, with one crate more: the pages.
+tar -C "$top" --exclude=must-fail --exclude=out -c crates crates.txt HANDLES |
+    tar -C "$work" -x || exit 1
 mkdir -p "$crate/src" "$crate/specs" "$crate/proofs" || exit 1
 printf '%s\n' '//! Cases of the definitions.' '#![tactic(auto)]' >"$crate/src/lib.rt"
 : >"$crate/specs/Lib.antt"
-libraries=$(sed -n 's/:.*//p' "$work/crates.txt" | grep -vx -e 'sgm_.*cli' -e sgm_cases -e 'sgm_.*_tests' | tr '\n' ' ')
+libraries=$(sed -n 's/#.*//; s/:.*//p' "$work/crates.txt" | grep -vx -e 'sgm_.*cli' -e sgm_cases -e 'sgm_.*_tests' | tr '\n' ' ')
 echo "sgm_pages: serde_json $libraries" >>"$work/crates.txt"
 
-# Checks the pages, and names those that aren't proved.
-check() {
-    (cd "$crate" && rt check) >"$work/log" 2>&1
-    grep -o 'proofs/[A-Z][a-z]*\.antt:[0-9:]* error' "$work/log" | sed 's/proofs.//; s/\.antt.*//' | sort -u
+# Proves the pages. `rt ci` takes what it kept of the libraries, which `rt check` doesn't, and wants files that are
+# laid out; with names it isn't the gate, and so refuses to run where CI is set.
+prove() { (cd "$crate" && rt fmt && cd "$work" && env -u CI rt ci sgm_pages) >"$work/log" 2>&1; }
+# The pages that weren't proved.
+unproved() {
+    grep -o 'proofs/[A-Z][a-z]*\.antt:[0-9:]* error' "$work/log" |
+        sed 's/proofs.//; s/\.antt.*//' | sort -u
 }
 
 python3 "$here/definitions.py" "$crate/proofs" || exit 1
-differ=$(check | tr '\n' ' ')
-if [ -n "$differ" ] || ! grep -q '^crate sgm_pages: ' "$work/log" || ! tail -n 1 "$work/log" | grep -q '^logic=proved'; then
+if ! prove; then
     tail -n 40 "$work/log"
-    echo "definitions: not proved: $differ"
+    echo "definitions: not proved: $(unproved | tr '\n' ' ')"
     exit 1
 fi
 python3 "$here/definitions.py" "$crate/proofs" --wrong >/dev/null || exit 1
-missed=$(check | comm -13 - <(sed 's/pub mod //' "$crate/proofs/Lib.antt" | sort) | tr '\n' ' ')
+prove
+missed=$(unproved | comm -13 - <(sed 's/pub mod //' "$crate/proofs/Lib.antt" | sort) | tr '\n' ' ')
 [ -z "$missed" ] || { echo "definitions: a false value is proved on: $missed"; exit 1; }
 echo "definitions: all hold, and no page with a false value"

@@ -158,6 +158,7 @@ waits_for_array() { [ "$(squeue -h -j "$merge" -o '%t %r')" = "PD Dependency" ];
 # shellcheck disable=SC2317
 has_merged() { [ -z "$(squeue -h -j "$merge" 2>/dev/null)" ]; }
 # The queue can be silent about a merge that has yet to start, while a task before it is taken back.
+# shellcheck disable=SC2317
 has_written() { has_merged && [ -s "$work/top/slurm-$merge.out" ]; }
 
 if has_merge; then

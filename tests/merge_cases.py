@@ -120,8 +120,8 @@ class Shelf:
             raise Ended(UNWRITTEN, "sgm: cannot write summary")
 
 
-def answer_of(case):
-    """How a run ends, in the form of the stored answers."""
+def ran(case):
+    """The shelf after a run, its status, and the line of its fault."""
     shelf, status, line = Shelf(case), 0, b""
     with contextlib.ExitStack() as stack:
         for name in ("fetch", "write", "say"):
@@ -132,6 +132,12 @@ def answer_of(case):
             reference.merge(*operands)
         except Ended as end:
             status, line = end.status, (end.line + "\n").encode()
+    return shelf, status, line
+
+
+def answer_of(case):
+    """How a run ends, in the form of the stored answers."""
+    shelf, status, line = ran(case)
     return stored_runs.ended(status, shelf.held, shelf.out, line, shelf.absent)
 
 

@@ -233,13 +233,19 @@ def merge_texts(calibration, entries):
     return ground_texts(calibration, cells, tallies), f"merged {filled} of {len(heights)}\n"
 
 
-def merge(list_name, calibration_name, out):
-    list_data = fetch(list_name, LONGEST_LIST, "list")
-    calibration_data = fetch_calibration(calibration_name)
+def merge_plan(list_data, calibration_data, out):
+    """The names and the calibration that a merge asks for, or the first refusal."""
     names = read_names(list_data, [out + ending for ending in COMMANDS["merge"].endings])
     calibration = calibration_of(calibration_data)
     if calibration.grid is None:
         raise Ended(REFUSED, "sgm: calibration: grid is missing")
+    return names, calibration
+
+
+def merge(list_name, calibration_name, out):
+    list_data = fetch(list_name, LONGEST_LIST, "list")
+    calibration_data = fetch_calibration(calibration_name)
+    names, calibration = merge_plan(list_data, calibration_data, out)
     entries = [fetch_entry(number, name, calibration.grid) for number, name in enumerate(names)]
     deliver(out, *merge_texts(calibration, entries))
 
