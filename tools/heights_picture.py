@@ -14,7 +14,7 @@ measurement. Needs numpy and Pillow.
 from sgm_tools.files import write_png
 from sgm_tools.grids import NO_DIFFERENCE, read_grid
 from sgm_tools.pictures import LONGEST_SIDE, drawn, zoom_of, zoomed
-from sgm_tools.running import run
+from sgm_tools.running import Image, need, numpy, run
 from sgm_tools.words import parser_of
 
 
@@ -26,6 +26,8 @@ def main() -> None:
     side = f"side of a cell, 1 to 16 (4, or less where a side would be above {LONGEST_SIDE} pixels)"
     parser.add_argument("--zoom", type=int, choices=range(1, 17), metavar="PIXELS", help=side)
     words = parser.parse_args()
+    # (both at once, not the one after the other)
+    need(numpy=numpy, PIL=Image)
     grid = read_grid(words.file)
     colours, ends = drawn(grid)
     write_png(words.out, zoomed(colours, words.zoom or zoom_of(*grid.heights.shape)))

@@ -14,7 +14,7 @@ printed. Needs numpy and Pillow.
 from sgm_tools.files import read_disparities, write_png
 from sgm_tools.grids import NO_DIFFERENCE, read_grid
 from sgm_tools.pictures import PALETTE, stretched
-from sgm_tools.running import run
+from sgm_tools.running import Image, need, numpy, run
 from sgm_tools.words import parser_of
 
 
@@ -29,6 +29,8 @@ def main() -> None:
     parser.add_argument("file", metavar="OUT", help="OUT.pgm or OUT.asc, as sgm has written it")
     parser.add_argument("--out", required=True, metavar="FILE.png", help="the picture")
     words = parser.parse_args()
+    # (both at once, not the one after the other)
+    need(numpy=numpy, PIL=Image)
     if is_picture(words.file):
         values, filled = read_disparities(words.file)
         unit = "sixteenths of a pixel above the first disparity"
