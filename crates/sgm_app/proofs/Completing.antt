@@ -7,7 +7,7 @@ use Rattle.std.proofs.lemmas.Bool.{cases_lt}
 use Rattle.sgm_io.specs.Held.{Held}
 use Rattle.sgm_io.specs.Counts.{Rose}
 use Rattle.sgm_energy.specs.declared.dir.Dir.{Dir}
-use Rattle.sgm_refine.specs.Refining.{Refining}
+use Rattle.sgm_base.specs.Refining.{Refining}
 use Rattle.sgm_words.specs.Operands.{Operands, operands, ChangeOperands, change_operands, MergeOperands, merge_operands, FileNames, of_none, of_match, of_trace, of_change, of_merge, is_plain, is_plain_word, IsOutputName}
 use Rattle.sgm_words.specs.declared.usage.UsageFault.{UsageFault}
 use Rattle.sgm_words.specs.declared.options.Options.{Options}

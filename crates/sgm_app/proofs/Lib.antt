@@ -15,6 +15,7 @@ pub mod Judging
 pub mod MergeSteps
 pub mod Named
 pub mod OneVerdict
+pub mod PairLaws
 pub mod Planning
 pub mod TextSteps
 pub mod Reading

@@ -10,7 +10,7 @@ use Rattle.sgm_report.specs.Areas.{Area}
 use Rattle.sgm_report.specs.Tallies.{tally_of}
 use Rattle.sgm_report.specs.declared.volumes.RegionTally.{RegionTally}
 use Rattle.sgm_calib.specs.Calibration.{Calibration}
-use Rattle.sgm_refine.specs.Refining.{Refining}
+use Rattle.sgm_base.specs.Refining.{Refining}
 use Rattle.sgm_job.specs.Survey.{Survey, final, measured, pair_fault, survey_of, surveyed, tallies_of, unless}
 use Rattle.sgm_job.specs.declared.job.SurveyFault.{SurveyFault}
 

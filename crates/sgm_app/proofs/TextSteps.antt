@@ -5,10 +5,10 @@ use Rattle.sgm_base.specs.declared.side.Side.TheVariants.{Left, Right}
 use Rattle.sgm_pgm.specs.declared.fault.PgmFault.{PgmFault}
 use Rattle.sgm_calib.specs.Calibration.{Calibration, plain}
 use Rattle.sgm_calib.specs.declared.keys.CalibFault.{CalibFault}
-use Rattle.sgm_refine.specs.Refining.{Refining}
+use Rattle.sgm_base.specs.Refining.{Refining}
 use Rattle.sgm_job.specs.Survey.{Survey, surveyed}
 use Rattle.sgm_outcome.specs.declared.outcome.Refusal.{Refusal}
-use Rattle.sgm_pair.specs.Pair.{pair_image}
+use Rattle.sgm_app.specs.Pair.{pair_image}
 use Rattle.sgm_app.specs.Judge.{StopsFor, judged_for, texts_of_judged, demo_of_judged}
 use Rattle.sgm_app.specs.Texts.{Texts, texts_of, demo_text}
 use Rattle.sgm_app.specs.Refusals.{or_refused, ◌>>=◌, refusal_of}

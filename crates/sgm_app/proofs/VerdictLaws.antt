@@ -7,7 +7,7 @@ use Rattle.sgm_base.specs.declared.side.Side.TheVariants as side
 use Rattle.sgm_pgm.specs.declared.fault.PgmFault.{PgmFault}
 use Rattle.sgm_calib.specs.Calibration.{Calibration}
 use Rattle.sgm_calib.specs.declared.keys.CalibFault.{CalibFault}
-use Rattle.sgm_refine.specs.Refining.{Refining}
+use Rattle.sgm_base.specs.Refining.{Refining}
 use Rattle.sgm_energy.specs.declared.dir.Dir.{Dir}
 use Rattle.sgm_energy.specs.Rays.{Problem}
 use Rattle.sgm_grid.specs.Cells.{Cells}

@@ -1,5 +1,6 @@
 -- What a trace prints: the certificate of an index at a pixel, along a ray of the pair.
-use Rattle.std.specs.Prelude.{ℕ, List, nat_lt, ◌&&◌, Bool, Option, None, Some, Result, if◌then◌else◌}
+use Rattle.std.specs.Prelude.{ℕ, List, nat_lt, ◌&&◌, Bool, Option, None, Some, Result}
+use Rattle.std.specs.Prelude.{if◌then◌else◌}
 use Rattle.sgm_base.specs.Picture.{Picture}
 use Rattle.sgm_base.specs.declared.side.Side.TheVariants as side
 use Rattle.sgm_pgm.specs.declared.fault.PgmFault.{PgmFault}
@@ -22,7 +23,8 @@ unfoldable pub inside_refusal : Problem → ℕ → ℕ → ℕ → Option Refus
 inside_refusal g x y d = if is_inside g x y d then None else Some (NotInside x y d)
 
 -- the certificate that a pair with these readings calls for, or its first refusal
-unfoldable pub certificate_for : Result Picture PgmFault → Result Picture PgmFault → Result Calibration CalibFault → Dir → ℕ → ℕ → ℕ → Result (List ℕ) Refusal
+unfoldable pub certificate_for : Result Picture PgmFault → Result Picture PgmFault
+    → Result Calibration CalibFault → Dir → ℕ → ℕ → ℕ → Result (List ℕ) Refusal
 certificate_for left right calib dir x y d = do
   a ← or_refused (Pgm side.Left) left
   b ← or_refused (Pgm side.Right) right

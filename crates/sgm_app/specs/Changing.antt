@@ -1,5 +1,6 @@
 -- What a change writes: what came, went and changed between two grids of heights.
-use Rattle.std.specs.Prelude.{ℕ, ◌*◌, ℤ, pos, List, ◌++◌, codes, decimal, Option, None, Some, Result, if◌then◌else◌}
+use Rattle.std.specs.Prelude.{ℕ, ◌*◌, ℤ, pos, List, ◌++◌, codes, decimal, Option, None, Some}
+use Rattle.std.specs.Prelude.{Result, if◌then◌else◌}
 use Rattle.std.specs.Option.{option_or}
 use Rattle.std.specs.Ordering.{int_eq}
 use Rattle.sgm_grid.specs.Cells.{Cells}
@@ -20,7 +21,8 @@ pub record GridTexts : Type 0 where
 
 -- `compared N of M`, N of the cells having a height in both grids, M being all
 unfoldable pub compared_text : ℕ → GridSpec → List ℕ
-compared_text both spec = codes "compared " ++ decimal both ++ codes " of " ++ decimal (spec.cols * spec.rows) ++ codes "\n"
+compared_text both spec = codes "compared " ++ decimal both ++ codes " of "
+    ++ decimal (spec.cols * spec.rows) ++ codes "\n"
 
 -- the texts of two grids that lie on the same ground
 abbrev pub grid_texts_of : Cells → Cells → GridTexts
@@ -32,9 +34,11 @@ grid_texts_of earlier later = record {
 
 -- the refusal of two numbers that differ, which are told by the word at that place of a grid's text
 abbrev pub differ_at : ℕ → ℤ → ℤ → Option Refusal
-differ_at at earlier later = if int_eq earlier later then None else Some (GridsDiffer at earlier later)
+differ_at at earlier later = if int_eq earlier later then None
+    else Some (GridsDiffer at earlier later)
 
--- the refusal of two grids that don't lie on the same ground, by the first word that tells it: columns, rows, west, south, cell
+-- the refusal of two grids that don't lie on the same ground, by the first word that tells it:
+-- columns, rows, west, south, cell
 unfoldable pub ground_refusal : GridSpec → GridSpec → Option Refusal
 ground_refusal earlier later =
     option_or (differ_at 1 (pos earlier.cols) (pos later.cols))

@@ -1,12 +1,14 @@
 -- Writing the outputs, one after the other.
-use Rattle.std.specs.Prelude.{◌≡◌, ◌⊎◌, ⊤, ℕ, List, [], ◌∷◌, ◌++◌, Option, None, All, Result, Ok, Err}
+use Rattle.std.specs.Prelude.{◌≡◌, ◌⊎◌, ⊤, ℕ, List, [], ◌∷◌, ◌++◌, Option, None, All, Result, Ok}
+use Rattle.std.specs.Prelude.{Err}
 use Rattle.sgm_io.specs.Held.{Held, put, IsPrefix}
 use Rattle.sgm_io.specs.Unfinished.{NameSet, with_name, without_name}
 use Rattle.sgm_words.specs.Operands.{FileNames}
 use Rattle.sgm_words.specs.declared.files.Output.{Output}
 use Rattle.sgm_words.specs.declared.files.Output.TheVariants.{Summary}
 use Rattle.sgm_outcome.specs.declared.outcome.Outcome.{Outcome}
-use Rattle.sgm_outcome.specs.declared.outcome.Outcome.TheVariants.{Done, Usage, Refused, ReadFault, WriteFault, NoMemory}
+use Rattle.sgm_outcome.specs.declared.outcome.Outcome.TheVariants.{Done, Usage, Refused, ReadFault}
+use Rattle.sgm_outcome.specs.declared.outcome.Outcome.TheVariants.{WriteFault, NoMemory}
 use Rattle.sgm_app.specs.Outputs.{OutputFile, IsNamed}
 use Rattle.sgm_app.specs.Verdict.{Verdict, files, outputs_of}
 use Rattle.sgm_app.specs.Ends.{CountsShow, Faults}
@@ -26,9 +28,11 @@ abbrev pub after_files : List OutputFile → Held → Held
 after_files [] held = held
 after_files (file ∷ later) held = after_files later (put file.name file.text held)
 
--- the file is as before, or holds the beginning of its text, perhaps all of it; every other name is as before
+-- the file is as before, or holds the beginning of its text, perhaps all of it; every other name is
+-- as before
 abbrev pub BeginsFile : OutputFile → Held → Held → Type 0
-BeginsFile file old new = (new ≡ old) ⊎ ((part : List ℕ) × IsPrefix part file.text × (new ≡ put file.name part old))
+BeginsFile file old new = (new ≡ old)
+    ⊎ ((part : List ℕ) × IsPrefix part file.text × (new ≡ put file.name part old))
 
 -- the files before this output were written, its file was begun at most
 pub record EndsIn (output : Output) (wanted : List OutputFile) (old new : Held) : Type 0 where
@@ -70,8 +74,10 @@ FilesPut (Usage fault) verdict old new = new ≡ old
 FilesPut (Refused refusal) verdict old new = new ≡ old
 FilesPut (ReadFault input) verdict old new = new ≡ old
 FilesPut (WriteFault output) verdict old new =
-    EndsIn output (outputs_of verdict) old new ⊎ ((output ≡ Summary) × (new ≡ after_files (outputs_of verdict) old))
-FilesPut NoMemory verdict old new = (new ≡ old) ⊎ ((output : Output) × EndsIn output (outputs_of verdict) old new)
+    EndsIn output (outputs_of verdict) old new
+    ⊎ ((output ≡ Summary) × (new ≡ after_files (outputs_of verdict) old))
+FilesPut NoMemory verdict old new = (new ≡ old)
+    ⊎ ((output : Output) × EndsIn output (outputs_of verdict) old new)
 
 -- ---- which names are being written, and which are unfinished
 
@@ -83,19 +89,22 @@ EndsWriting (Err stop) new = ⊤
 -- the names that are unfinished once these files were written, one after the other
 abbrev pub after_finishing : List OutputFile → NameSet → NameSet
 after_finishing [] unfinished = unfinished
-after_finishing (file ∷ later) unfinished = after_finishing later (without_name file.name unfinished)
+after_finishing (file ∷ later) unfinished =
+    after_finishing later (without_name file.name unfinished)
 
 -- the file is as before, or is unfinished
 abbrev pub LeavesFile : OutputFile → NameSet → NameSet → Type 0
 LeavesFile file old new = (new ≡ old) ⊎ (new ≡ with_name file.name old)
 
 -- the file is finished, or was begun at most
-abbrev pub FinishesFile : {T : Type 0} → OutputFile → Result T WriteStop → NameSet → NameSet → Type 0
+abbrev pub FinishesFile : {T : Type 0} → OutputFile → Result T WriteStop → NameSet → NameSet
+    → Type 0
 FinishesFile file (Ok done) old new = new ≡ without_name file.name old
 FinishesFile file (Err stop) old new = LeavesFile file old new
 
 -- the files before that of a stop are finished, that one was begun at most
-pub record LeavesOne (wanted : List OutputFile) (stop : WriteStop) (old new : NameSet) : Type 0 where
+pub record LeavesOne (wanted : List OutputFile) (stop : WriteStop)
+    (old new : NameSet) : Type 0 where
   pub before : List OutputFile
   pub file : OutputFile
   pub later : List OutputFile
@@ -104,7 +113,8 @@ pub record LeavesOne (wanted : List OutputFile) (stop : WriteStop) (old new : Na
   pub left : LeavesFile file (after_finishing before old) new
 
 -- all files are finished, or the run stopped in one of them
-abbrev pub FinishesFiles : {T : Type 0} → List OutputFile → Result T WriteStop → NameSet → NameSet → Type 0
+abbrev pub FinishesFiles : {T : Type 0} → List OutputFile → Result T WriteStop → NameSet → NameSet
+    → Type 0
 FinishesFiles wanted (Ok done) old new = new ≡ after_finishing wanted old
 FinishesFiles wanted (Err stop) old new = LeavesOne wanted stop old new
 
@@ -112,11 +122,13 @@ FinishesFiles wanted (Err stop) old new = LeavesOne wanted stop old new
 
 -- where the file has the name of its output, the counts show the stop
 abbrev pub FileCounts : OutputFile → WriteStop → Faults → Faults → Type 0
-FileCounts file stop before now = (names : FileNames) → IsNamed names file → CountsShow names (write_outcome stop) before now
+FileCounts file stop before now = (names : FileNames) → IsNamed names file
+    → CountsShow names (write_outcome stop) before now
 
 -- where the files have the names of their outputs, the counts show the stop
 abbrev pub FilesCounts : List OutputFile → WriteStop → Faults → Faults → Type 0
-FilesCounts wanted stop before now = (names : FileNames) → All (IsNamed names) wanted → CountsShow names (write_outcome stop) before now
+FilesCounts wanted stop before now = (names : FileNames) → All (IsNamed names) wanted
+    → CountsShow names (write_outcome stop) before now
 
 -- the outcomes of a delivery
 abbrev pub IsDeliveryEnd : Outcome → Type 0

@@ -1,5 +1,7 @@
 -- What stands after a run, and what caused its outcome.
-use Rattle.std.specs.Prelude.{◌≡◌, ◌≢◌, ◌⊎◌, ℕ, ◌+◌, ◌<◌, ◌≤◌, ⊤, List, [], ◌∷◌, ◌++◌, Bool, true, false, Option, None, Some, option_map, unwrap_or, Contains, Result, Ok, Err}
+use Rattle.std.specs.Prelude.{◌≡◌, ◌≢◌, ◌⊎◌, ℕ, ◌+◌, ◌<◌, ◌≤◌, ⊤, List, [], ◌∷◌, ◌++◌, Bool, true}
+use Rattle.std.specs.Prelude.{false, Option, None, Some, option_map, unwrap_or, Contains, Result}
+use Rattle.std.specs.Prelude.{Ok, Err}
 use Rattle.sgm_io.specs.Held.{Held, IsPrefix}
 use Rattle.sgm_io.specs.Counts.{Counts, NoneFell, RoseAt, Rose}
 use Rattle.sgm_io.specs.Sink.{GrowsByPrefix}
@@ -7,7 +9,8 @@ use Rattle.sgm_io.specs.declared.shelf.Shelf as shelf
 use Rattle.sgm_io.specs.declared.sink.Sink as sink
 use Rattle.sgm_list.specs.Names.{names_in}
 use Rattle.sgm_words.specs.Operands.{FileNames, of_none, of_match, of_trace, of_change, of_merge}
-use Rattle.sgm_words.specs.Operands.{MergeOperands, merge_operands, names_of, IsInputName, IsOutputName}
+use Rattle.sgm_words.specs.Operands.{MergeOperands, merge_operands, names_of, IsInputName}
+use Rattle.sgm_words.specs.Operands.{IsOutputName}
 use Rattle.sgm_words.specs.declared.usage.UsageFault.{UsageFault}
 use Rattle.sgm_words.specs.declared.options.Options.{Options}
 use Rattle.sgm_words.specs.declared.files.Input.{Input}
@@ -17,7 +20,8 @@ use Rattle.sgm_words.specs.declared.files.Output.TheVariants.{Summary}
 use Rattle.sgm_outcome.specs.declared.outcome.Refusal.{Refusal}
 use Rattle.sgm_outcome.specs.declared.outcome.Refusal.TheVariants as refusal
 use Rattle.sgm_outcome.specs.declared.outcome.Outcome.{Outcome}
-use Rattle.sgm_outcome.specs.declared.outcome.Outcome.TheVariants.{Done, Usage, Refused, ReadFault, WriteFault, NoMemory}
+use Rattle.sgm_outcome.specs.declared.outcome.Outcome.TheVariants.{Done, Usage, Refused, ReadFault}
+use Rattle.sgm_outcome.specs.declared.outcome.Outcome.TheVariants.{WriteFault, NoMemory}
 use Rattle.sgm_app.specs.Outputs.{OutputFile, is_named}
 use Rattle.sgm_app.specs.Verdict.{Verdict, absent, refused, usage, outputs_of, summary_of, IsFiles}
 
@@ -26,16 +30,18 @@ pub record Hold (wanted : List OutputFile) (old new : Held) : Type 0 where
   pub texts : (file : OutputFile) → Contains wanted file → new file.name ≡ Some file.text
   pub others : (name : List ℕ) → is_named wanted name ≡ false → new name ≡ old name
 
--- the files before that of this output hold their texts; it is as before or holds the beginning of its text,
--- perhaps all of it; every other name is as before
+-- the files before that of this output hold their texts; it is as before or holds the beginning of
+-- its text, perhaps all of it; every other name is as before
 pub record StoppedIn (output : Output) (wanted : List OutputFile) (old new : Held) : Type 0 where
   pub before : List OutputFile
   pub file : OutputFile
   pub later : List OutputFile
   pub split : wanted ≡ before ++ file ∷ later
   pub is_output : file.output ≡ output
-  pub texts : (earlier : OutputFile) → Contains before earlier → new earlier.name ≡ Some earlier.text
-  pub begun : (new file.name ≡ old file.name) ⊎ ((part : List ℕ) × IsPrefix part file.text × (new file.name ≡ Some part))
+  pub texts : (earlier : OutputFile) → Contains before earlier
+      → new earlier.name ≡ Some earlier.text
+  pub begun : (new file.name ≡ old file.name)
+      ⊎ ((part : List ℕ) × IsPrefix part file.text × (new file.name ≡ Some part))
   pub others : (name : List ℕ) → is_named (before ++ file ∷ []) name ≡ false → new name ≡ old name
 
 -- what is held after an outcome
@@ -44,8 +50,10 @@ FilesStand Done verdict old new = Hold (outputs_of verdict) old new
 FilesStand (Usage fault) verdict old new = new ≡ old
 FilesStand (Refused refusal) verdict old new = new ≡ old
 FilesStand (ReadFault input) verdict old new = new ≡ old
-FilesStand (WriteFault output) verdict old new = StoppedIn output (outputs_of verdict) old new ⊎ ((output ≡ Summary) × Hold (outputs_of verdict) old new)
-FilesStand NoMemory verdict old new = (new ≡ old) ⊎ ((output : Output) × StoppedIn output (outputs_of verdict) old new)
+FilesStand (WriteFault output) verdict old new = StoppedIn output (outputs_of verdict) old new
+    ⊎ ((output ≡ Summary) × Hold (outputs_of verdict) old new)
+FilesStand NoMemory verdict old new = (new ≡ old)
+    ⊎ ((output : Output) × StoppedIn output (outputs_of verdict) old new)
 
 -- what `out` has received after an outcome
 abbrev pub OutStands : Outcome → Verdict → List ℕ → List ℕ → Type 0
@@ -53,7 +61,8 @@ OutStands Done verdict old new = new ≡ old ++ summary_of verdict
 OutStands (Usage fault) verdict old new = new ≡ old
 OutStands (Refused refusal) verdict old new = new ≡ old
 OutStands (ReadFault input) verdict old new = new ≡ old
-OutStands (WriteFault output) verdict old new = (new ≡ old) ⊎ ((output ≡ Summary) × GrowsByPrefix (summary_of verdict) old new)
+OutStands (WriteFault output) verdict old new = (new ≡ old)
+    ⊎ ((output ≡ Summary) × GrowsByPrefix (summary_of verdict) old new)
 OutStands NoMemory verdict old new = new ≡ old
 
 -- `out` has received nothing, but after Done and where writing the summary failed
@@ -65,8 +74,9 @@ OutUntouched (ReadFault input) old new = new ≡ old
 OutUntouched (WriteFault output) old new = output ≢ Summary → new ≡ old
 OutUntouched NoMemory old new = new ≡ old
 
--- which name is being written after an outcome of a run that writes files: none after Done; after a fault of writing, and where
--- there was no memory, it isn't said; else the one that was being written before
+-- which name is being written after an outcome of a run that writes files: none after Done; after a
+-- fault of writing, and where there was no memory, it isn't said; else the one that was being
+-- written before
 abbrev pub WritingStands : Outcome → Option (List ℕ) → Option (List ℕ) → Type 0
 WritingStands Done old new = new ≡ None
 WritingStands (Usage fault) old new = new ≡ old
@@ -85,8 +95,8 @@ order_of input.Earlier = 4
 order_of input.Later = 5
 order_of (input.Grid k) = k + 7
 
--- where in this order the text of an input is judged: a grid of a list before the next is fetched, the
--- others once all that the words name were fetched
+-- where in this order the text of an input is judged: a grid of a list before the next is fetched,
+-- the others once all that the words name were fetched
 abbrev pub text_order : Input → ℕ
 text_order (input.Grid k) = k + 7
 text_order input.List = 6
@@ -176,7 +186,8 @@ CountsShow names Done before now = SameFaults before now
 CountsShow names (Usage fault) before now = ⊥
 CountsShow names (Refused refusal) before now = SameFaults before now
 CountsShow names (ReadFault input) before now = ReadRose names input before now
-CountsShow names (WriteFault output) before now = FileRose names output before now ⊎ ((output ≡ Summary) × OutRose before now)
+CountsShow names (WriteFault output) before now = FileRose names output before now
+    ⊎ ((output ≡ Summary) × OutRose before now)
 CountsShow names NoMemory before now = SameFaults before now
 
 -- the part of an outcome's cause that the counts show, where no file is read or written
@@ -199,12 +210,16 @@ names_listed asked held = names_in (unwrap_or (held asked.list) [])
 
 -- the names of a run's files, so far as the words and what is told tell them
 abbrev pub run_names : Options → List (List ℕ) → Option Held → FileNames
-run_names options words told = names_of options words (option_map (names_listed (merge_operands words)) told)
+run_names options words told =
+    names_of options words (option_map (names_listed (merge_operands words)) told)
 
 -- over the words: a fault of the words is the outcome, and no count changed
-abbrev pub RunCounts : Result Options UsageFault → List (List ℕ) → Option Held → Outcome → Faults → Faults → Type 0
-RunCounts (Err fault) words told outcome before now = (outcome ≡ Usage fault) × SameFaults before now
-RunCounts (Ok options) words told outcome before now = CountsShow (run_names options words told) outcome before now
+abbrev pub RunCounts : Result Options UsageFault → List (List ℕ) → Option Held → Outcome → Faults
+    → Faults → Type 0
+RunCounts (Err fault) words told outcome before now = (outcome ≡ Usage fault)
+    × SameFaults before now
+RunCounts (Ok options) words told outcome before now =
+    CountsShow (run_names options words told) outcome before now
 
 -- which name is being written after an outcome: where no file is written, the one that was before
 abbrev pub WritingEnds : FileNames → Outcome → Option (List ℕ) → Option (List ℕ) → Type 0
@@ -218,10 +233,11 @@ WritingEnds (of_merge asked listed) outcome old new = WritingStands outcome old 
 abbrev pub RunWriting : Result Options UsageFault → List (List ℕ) → Outcome
     → Option (List ℕ) → Option (List ℕ) → Type 0
 RunWriting (Err fault) words outcome old new = new ≡ old
-RunWriting (Ok options) words outcome old new = WritingEnds (names_of options words None) outcome old new
+RunWriting (Ok options) words outcome old new =
+    WritingEnds (names_of options words None) outcome old new
 
--- a stage over the shelf alone: at Ok no count changed; a stop is shown by the counts, whatever `out` has
--- counted
+-- a stage over the shelf alone: at Ok no count changed; a stop is shown by the counts, whatever
+-- `out` has counted
 abbrev pub StageCounts : {T Stop S : Type 0} → (Stop → Faults → Faults → Type 0) → Result T Stop
     → shelf.Ghosts S → S → S → Type 0
 StageCounts shows (Ok value) s old new =

@@ -1,8 +1,10 @@
 -- Fetching the inputs.
-use Rattle.std.specs.Prelude.{◌≡◌, ⊤, ℕ, List, Bool, true, false, Option, None, Some, Result, Ok, Err, Vec, option_map}
+use Rattle.std.specs.Prelude.{◌≡◌, ⊤, ℕ, List, Bool, true, false, Option, None, Some, Result, Ok}
+use Rattle.std.specs.Prelude.{Err, Vec, option_map}
 use Rattle.std.specs.declared.alloc.Global.{Global}
 use Rattle.sgm_io.specs.Held.{Held}
-use Rattle.sgm_words.specs.Operands.{Operands, ChangeOperands, MergeOperands, FileNames, is_plain, is_plain_word, IsInputName, IsPairInput, IsChangeInput}
+use Rattle.sgm_words.specs.Operands.{Operands, ChangeOperands, MergeOperands, FileNames, is_plain}
+use Rattle.sgm_words.specs.Operands.{is_plain_word, IsInputName, IsPairInput, IsChangeInput}
 use Rattle.sgm_words.specs.declared.files.Input.{Input}
 use Rattle.sgm_words.specs.declared.files.Input.TheVariants as input
 use Rattle.sgm_app.specs.Verdict.{Verdict, fetched, calib_fetched}
@@ -14,11 +16,13 @@ use Rattle.sgm_app.specs.declared.stops.FetchStop.{FetchStop}
 
 -- a stop at this step of a verdict is shown by the verdict, however it would go on
 abbrev pub StopsAt : (Verdict → Verdict) → Input → FetchStop → Type 0
-StopsAt step input stop = (next : Verdict) → NoneBefore (order_of input) next → ShownBy (step next) (fetch_outcome stop)
+StopsAt step input stop = (next : Verdict) → NoneBefore (order_of input) next
+    → ShownBy (step next) (fetch_outcome stop)
 
 -- the bytes that are held, and the verdict goes on; or a stop
 abbrev pub FetchesInput : Input → Option (List ℕ) → Result (Vec ℕ Global) FetchStop → Type 0
-FetchesInput input held (Ok bytes) = (held ≡ Some bytes.items) × ((next : Verdict) → fetched input held next ≡ next)
+FetchesInput input held (Ok bytes) = (held ≡ Some bytes.items)
+    × ((next : Verdict) → fetched input held next ≡ next)
 FetchesInput input held (Err stop) = StopsAt (fetched input held) input stop
 
 -- nothing for the plain calibration, else the bytes that are held
@@ -31,7 +35,8 @@ HasCalib false held (Some bytes) = held ≡ Some bytes
 -- the calibration's bytes, where it isn't the plain one, and the verdict goes on; or a stop
 abbrev pub FetchesCalib : Bool → Option (List ℕ) → Result (Option (Vec ℕ Global)) FetchStop → Type 0
 FetchesCalib plain held (Ok bytes) =
-    HasCalib plain held (option_map (λ b. b.items) bytes) × ((next : Verdict) → calib_fetched plain held next ≡ next)
+    HasCalib plain held (option_map (λ b. b.items) bytes)
+    × ((next : Verdict) → calib_fetched plain held next ≡ next)
 FetchesCalib plain held (Err stop) = StopsAt (calib_fetched plain held) input.Calibration stop
 
 -- what is at hand is what is held
@@ -52,11 +57,13 @@ pub record MergeAtHand (asked : MergeOperands) (held : Held) (inputs : MergeByte
 
 -- the inputs of a match or a trace are asked for under their names
 abbrev pub HavePair : Operands → FileNames → Type 0
-HavePair asked names = (input : Input) (name : List ℕ) → IsPairInput asked input name → IsInputName names input name
+HavePair asked names = (input : Input) (name : List ℕ) → IsPairInput asked input name
+    → IsInputName names input name
 
 -- the grids of a change are
 abbrev pub HaveGrids : ChangeOperands → FileNames → Type 0
-HaveGrids asked names = (input : Input) (name : List ℕ) → IsChangeInput asked input name → IsInputName names input name
+HaveGrids asked names = (input : Input) (name : List ℕ) → IsChangeInput asked input name
+    → IsInputName names input name
 
 -- the counts show the stop
 abbrev pub StopCounts : FileNames → FetchStop → Faults → Faults → Type 0

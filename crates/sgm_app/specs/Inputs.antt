@@ -1,7 +1,8 @@
 -- The inputs as contracts see them.
 use Rattle.std.specs.Prelude.{ℕ, List, Option}
 
--- of a match or a trace: the bytes of both images, and of the calibration where it isn't the plain one
+-- of a match or a trace: the bytes of both images, and of the calibration where it isn't the plain
+-- one
 pub record InputBytes : Type 0 where
   pub left : List ℕ
   pub right : List ℕ

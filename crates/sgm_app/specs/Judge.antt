@@ -11,7 +11,7 @@ use Rattle.sgm_outcome.specs.declared.outcome.Refusal.TheVariants.{Pgm, Calib}
 use Rattle.sgm_energy.specs.declared.dir.Dir.{Dir}
 use Rattle.sgm_energy.specs.Rays.{pixel_at}
 use Rattle.sgm_trace.specs.Texts.{trace_text}
-use Rattle.sgm_refine.specs.Refining.{Refining}
+use Rattle.sgm_base.specs.Refining.{Refining}
 use Rattle.sgm_job.specs.Survey.{prepared, surveyed}
 use Rattle.sgm_app.specs.Refusals.{or_refused, ◌>>=◌, refusal_of, unless}
 use Rattle.sgm_app.specs.Certificates.{inside_refusal}
@@ -30,8 +30,10 @@ abbrev pub StopsFor : {T : Type 0} → Result T Refusal → TextsError → Type 
 StopsFor wanted (Refused refusal) = wanted ≡ Err refusal
 StopsFor wanted NoMemory = ⊤
 
--- the pair and the calibration that inputs with these readings are judged to be, or their first refusal
-unfoldable pub judged_for : Result Picture PgmFault → Result Picture PgmFault → Result Calibration CalibFault → Result Judged Refusal
+-- the pair and the calibration that inputs with these readings are judged to be, or their first
+-- refusal
+unfoldable pub judged_for : Result Picture PgmFault → Result Picture PgmFault
+    → Result Calibration CalibFault → Result Judged Refusal
 judged_for left right calib = do
   a ← or_refused (Pgm side.Left) left
   b ← or_refused (Pgm side.Right) right

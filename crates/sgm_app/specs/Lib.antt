@@ -12,6 +12,7 @@ pub mod Made
 pub mod Merging
 pub mod Moments
 pub mod Outputs
+pub mod Pair
 pub mod Readings
 pub mod Refusals
 pub mod RunEnds

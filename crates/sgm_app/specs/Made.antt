@@ -4,10 +4,10 @@ use Rattle.sgm_app.specs.Changing.{GridTexts}
 use Rattle.sgm_app.specs.Merging.{MergePlan, MergedTexts}
 use Rattle.sgm_words.specs.Operands.{bytes_of}
 use Rattle.sgm_app.specs.Texts.{Texts}
-use Rattle.sgm_app.specs.declared.changing.ChangeTexts.{ChangeTexts}
+use Rattle.sgm_app.specs.declared.change_pipeline.ChangeTexts.{ChangeTexts}
 use Rattle.sgm_app.specs.declared.made.MadeTexts.{MadeTexts}
-use Rattle.sgm_app.specs.declared.merging.MergeTexts.{MergeTexts}
-use Rattle.sgm_app.specs.declared.merging.Plan.{Plan}
+use Rattle.sgm_app.specs.declared.merge_plan.MergeTexts.{MergeTexts}
+use Rattle.sgm_app.specs.declared.merge_plan.Plan.{Plan}
 
 abbrev pub texts_in : MadeTexts → Texts
 texts_in made = record {

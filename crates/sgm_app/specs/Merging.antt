@@ -1,5 +1,6 @@
 -- What a merge writes: many grids of heights as one, over the grid of a calibration.
-use Rattle.std.specs.Prelude.{ℕ, ◌*◌, List, ◌++◌, codes, decimal, count_by, is_some, Option, None, Some, option_map, Result, Ok, Err, if◌then◌else◌}
+use Rattle.std.specs.Prelude.{ℕ, ◌*◌, List, ◌++◌, codes, decimal, count_by, is_some, Option, None}
+use Rattle.std.specs.Prelude.{Some, option_map, Result, Ok, Err, if◌then◌else◌}
 use Rattle.sgm_grid.specs.Bridges.{bridged}
 use Rattle.sgm_grid.specs.Cells.{Cells}
 use Rattle.sgm_grid.specs.Text.{grid_text}
@@ -37,7 +38,8 @@ grid_asked None = Err (refusal.Calib (Missing grid_key))
 grid_asked (Some spec) = Ok spec
 
 -- what a list and a calibration with these readings ask for, or their first refusal
-unfoldable pub plan_for : Result (List (List ℕ)) NamesFault → Result Calibration CalibFault → Result MergePlan Refusal
+unfoldable pub plan_for : Result (List (List ℕ)) NamesFault → Result Calibration CalibFault
+    → Result MergePlan Refusal
 plan_for names calib = do
   n ← or_refused refusal.List names
   c ← or_refused refusal.Calib calib
@@ -65,17 +67,20 @@ pub record MergedTexts : Type 0 where
 -- `merged N of M`, N of the M cells having a height
 unfoldable pub merged_text : Cells → List ℕ
 merged_text grid =
-    codes "merged " ++ decimal (count_by is_some grid.heights) ++ codes " of " ++ decimal (grid.spec.cols * grid.spec.rows) ++ codes "\n"
+    codes "merged " ++ decimal (count_by is_some grid.heights) ++ codes " of "
+    ++ decimal (grid.spec.cols * grid.spec.rows) ++ codes "\n"
 
 -- the texts of a grid over which nothing was bridged yet: the heights with the bridges of the
 -- calibration, and the table of its regions where it has some
 unfoldable pub merged_texts_of : Calibration → Cells → MergedTexts
 merged_texts_of calib measured = record {
   heights = grid_text (bridged calib.gridding.bridge measured);
-  report = report_text calib.columns calib.regions (option_map (region_tallies calib.gridding.bridge measured) calib.regions);
+  report = report_text calib.columns calib.regions
+      (option_map (region_tallies calib.gridding.bridge measured) calib.regions);
   summary = merged_text (bridged calib.gridding.bridge measured);
 }
 
 -- the texts of these entries
 abbrev pub merge_texts : MergePlan → List Cells → MergedTexts
-merge_texts plan entries = merged_texts_of plan.calib (merged plan.calib.gridding.keep plan.spec entries)
+merge_texts plan entries =
+    merged_texts_of plan.calib (merged plan.calib.gridding.keep plan.spec entries)

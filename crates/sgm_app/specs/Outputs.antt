@@ -5,7 +5,8 @@ use Rattle.std.specs.Str.{bytes_eq}
 use Rattle.sgm_words.specs.Files.{ending_of}
 use Rattle.sgm_words.specs.Operands.{FileNames, IsOutputName}
 use Rattle.sgm_words.specs.declared.files.Output.{Output}
-use Rattle.sgm_words.specs.declared.files.Output.TheVariants.{Disparity, Heights, Report, Difference, Volumes}
+use Rattle.sgm_words.specs.declared.files.Output.TheVariants.{Disparity, Heights, Report}
+use Rattle.sgm_words.specs.declared.files.Output.TheVariants.{Difference, Volumes}
 use Rattle.sgm_app.specs.Changing.{GridTexts}
 use Rattle.sgm_app.specs.Merging.{MergedTexts}
 use Rattle.sgm_app.specs.Texts.{Texts}
@@ -18,7 +19,11 @@ pub record OutputFile : Type 0 where
 
 -- the file of an output's text: its name is OUT and the output's ending
 abbrev pub file_of : List ℕ → Output → List ℕ → OutputFile
-file_of out output text = record { output = output; name = out ++ unwrap_or (ending_of output) []; text = text }
+file_of out output text = record {
+  output = output;
+  name = out ++ unwrap_or (ending_of output) [];
+  text = text;
+}
 
 -- the same where there is a text, else none
 abbrev pub files_with : List ℕ → Output → Option (List ℕ) → List OutputFile
@@ -27,11 +32,13 @@ files_with out output (Some text) = file_of out output text ∷ []
 
 -- the files of the texts of a match, in this order
 abbrev pub files_of : List ℕ → Texts → List OutputFile
-files_of out texts = file_of out Disparity texts.disparity ∷ files_with out Heights texts.heights ++ files_with out Report texts.report
+files_of out texts = file_of out Disparity texts.disparity ∷ files_with out Heights texts.heights
+    ++ files_with out Report texts.report
 
 -- the files of the texts of a change, in this order
 abbrev pub change_files_of : List ℕ → GridTexts → List OutputFile
-change_files_of out texts = file_of out Difference texts.difference ∷ file_of out Volumes texts.volumes ∷ []
+change_files_of out texts = file_of out Difference texts.difference
+    ∷ file_of out Volumes texts.volumes ∷ []
 
 -- the files of the texts of a merge, in this order
 abbrev pub merge_files_of : List ℕ → MergedTexts → List OutputFile

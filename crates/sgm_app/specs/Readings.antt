@@ -12,7 +12,8 @@ use Rattle.sgm_calib.specs.Read.{Reads as ReadsCalib}
 use Rattle.sgm_calib.specs.declared.keys.CalibFault.{CalibFault}
 use Rattle.sgm_words.specs.Operands.{Operands}
 
--- the inputs of a match or a trace, each as an image or a calibration, or as the first fault that its bytes have
+-- the inputs of a match or a trace, each as an image or a calibration, or as the first fault that
+-- its bytes have
 pub record Readings : Type 0 where
   pub left : Result Picture PgmFault
   pub right : Result Picture PgmFault

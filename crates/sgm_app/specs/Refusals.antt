@@ -3,7 +3,8 @@ use Rattle.std.specs.Prelude.{Option, None, Some, Result, Ok, Err}
 use Rattle.sgm_job.specs.declared.job.SurveyFault.{SurveyFault}
 use Rattle.sgm_job.specs.declared.job.SurveyFault.TheVariants as fault
 use Rattle.sgm_outcome.specs.declared.outcome.Refusal.{Refusal}
-use Rattle.sgm_outcome.specs.declared.outcome.Refusal.TheVariants.{SizesDiffer, VolumeTooLarge, Warp}
+use Rattle.sgm_outcome.specs.declared.outcome.Refusal.TheVariants.{SizesDiffer, VolumeTooLarge}
+use Rattle.sgm_outcome.specs.declared.outcome.Refusal.TheVariants.{Warp}
 
 -- what is read, or the refusal for its fault
 abbrev pub or_refused : {T F : Type 0} → (F → Refusal) → Result T F → Result T Refusal

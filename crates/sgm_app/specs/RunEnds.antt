@@ -45,4 +45,5 @@ OptionsCallFor options words held verdict = ReadCallsFor (Ok options) words held
 abbrev pub WordsEnd : Result Options UsageFault → List (List ℕ) → Outcome → Moment → Moment → Type 0
 WordsEnd (Err fault) words outcome before now = (outcome ≡ Usage fault) × (now ≡ before)
 WordsEnd (Ok options) words outcome before now =
-    RunEnds (run_names options words (told_at before)) (OptionsCallFor options words) outcome before now
+    RunEnds (run_names options words (told_at before))
+    (OptionsCallFor options words) outcome before now

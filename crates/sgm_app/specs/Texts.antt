@@ -1,5 +1,6 @@
 -- The texts that are written.
-use Rattle.std.specs.Prelude.{ℕ, ◌+◌, ◌*◌, List, ◌++◌, Option, None, Some, codes, decimal, map, sum, count_by, is_some, option_map}
+use Rattle.std.specs.Prelude.{ℕ, ◌+◌, ◌*◌, List, ◌++◌, Option, None, Some, codes, decimal, map, sum}
+use Rattle.std.specs.Prelude.{count_by, is_some, option_map}
 use Rattle.std.specs.Option.{option_map_or}
 use Rattle.sgm_base.specs.Values.{Values}
 use Rattle.sgm_pgm.specs.Write.{text_of}
@@ -25,11 +26,13 @@ disparity_text disparities = text_of disparities.width disparities.height (sampl
 -- `valid N of M`, N of the pixels having a disparity, M being all
 unfoldable pub summary_text : Values → List ℕ
 summary_text disparities =
-    codes "valid " ++ decimal (count_by is_some disparities.entries) ++ codes " of " ++ decimal (disparities.width * disparities.height) ++ codes "\n"
+    codes "valid " ++ decimal (count_by is_some disparities.entries) ++ codes " of "
+    ++ decimal (disparities.width * disparities.height) ++ codes "\n"
 
 -- the summary of a demo: the same line, and the sum of the samples
 unfoldable pub demo_text : Values → List ℕ
-demo_text disparities = summary_text disparities ++ (codes "sum " ++ decimal (sum (samples_of disparities)) ++ codes "\n")
+demo_text disparities = summary_text disparities
+    ++ (codes "sum " ++ decimal (sum (samples_of disparities)) ++ codes "\n")
 
 -- the report of these regions, where there are some and they have their tallies
 abbrev pub report_text : Columns → Option (List Area) → Option (List RegionTally) → Option (List ℕ)
@@ -43,7 +46,8 @@ pub record Texts : Type 0 where
   pub report : Option (List ℕ)
   pub summary : List ℕ
 
--- the texts of a survey: the disparities, the heights where there is a grid, the report where there are regions
+-- the texts of a survey: the disparities, the heights where there is a grid, the report where there
+-- are regions
 abbrev pub texts_of : Calibration → Survey → Texts
 texts_of calib survey = record {
   disparity = disparity_text survey.disp;

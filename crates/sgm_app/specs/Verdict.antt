@@ -1,5 +1,6 @@
 -- What the words and the files at hand call for.
-use Rattle.std.specs.Prelude.{ℕ, ◌+◌, List, [], ◌∷◌, Bool, true, false, length, nat_lt, Option, None, Some, unwrap_or, if◌then◌else◌, Result, Ok, Err}
+use Rattle.std.specs.Prelude.{ℕ, ◌+◌, List, [], ◌∷◌, Bool, true, false, length, nat_lt, Option}
+use Rattle.std.specs.Prelude.{None, Some, unwrap_or, if◌then◌else◌, Result, Ok, Err}
 use Rattle.sgm_base.specs.Picture.{Picture}
 use Rattle.sgm_base.specs.declared.side.Side.TheVariants as side
 use Rattle.sgm_base.specs.declared.limits.TheConstants.{MAX_IMAGE_BYTES, MAX_CALIB_BYTES}
@@ -9,18 +10,19 @@ use Rattle.sgm_pgm.specs.declared.fault.PgmFault.{PgmFault}
 use Rattle.sgm_calib.specs.Calibration.{Calibration, plain}
 use Rattle.sgm_calib.specs.declared.keys.CalibFault.{CalibFault}
 use Rattle.sgm_energy.specs.declared.dir.Dir.{Dir}
-use Rattle.sgm_refine.specs.Refining.{Refining}
+use Rattle.sgm_base.specs.Refining.{Refining}
 use Rattle.sgm_job.specs.Survey.{surveyed}
 use Rattle.sgm_list.specs.Names.{names_reading}
 use Rattle.sgm_grid.specs.Cells.{Cells}
 use Rattle.sgm_grid.specs.declared.grid_spec.GridSpec.{GridSpec}
-use Rattle.sgm_words.specs.Operands.{Operands, ChangeOperands, MergeOperands, is_plain, is_plain_word}
+use Rattle.sgm_words.specs.Operands.{Operands, ChangeOperands, MergeOperands, is_plain}
+use Rattle.sgm_words.specs.Operands.{is_plain_word}
 use Rattle.sgm_words.specs.declared.usage.UsageFault.{UsageFault}
 use Rattle.sgm_words.specs.declared.files.Input.{Input}
 use Rattle.sgm_words.specs.declared.files.Input.TheVariants as input
 use Rattle.sgm_outcome.specs.declared.outcome.Refusal.{Refusal}
 use Rattle.sgm_outcome.specs.declared.outcome.Refusal.TheVariants.{TooLong, Pgm, Calib}
-use Rattle.sgm_pair.specs.Pair.{pair_image}
+use Rattle.sgm_app.specs.Pair.{pair_image}
 use Rattle.sgm_app.specs.Refusals.{or_refused, ◌>>=◌, refusal_of}
 use Rattle.sgm_app.specs.Readings.{Readings, grid_reading}
 use Rattle.sgm_app.specs.Texts.{Texts, texts_of, demo_text}
@@ -56,7 +58,8 @@ most_bytes (input.Grid k) = MAX_GRID_BYTES
 -- an input as it is fetched: absent, longer than it may be, or at hand
 abbrev pub fetched : Input → Option (List ℕ) → Verdict → Verdict
 fetched input None next = absent input
-fetched input (Some bytes) next = if nat_lt (most_bytes input) (length bytes) then refused (TooLong input) else next
+fetched input (Some bytes) next = if nat_lt (most_bytes input) (length bytes)
+    then refused (TooLong input) else next
 
 -- the calibration as it is fetched, where it isn't the plain one
 abbrev pub calib_fetched : Bool → Option (List ℕ) → Verdict → Verdict
@@ -65,20 +68,26 @@ calib_fetched false held next = fetched input.Calibration held next
 
 -- the inputs of a match or a trace as they are fetched
 unfoldable pub pair_fetched : Operands → Held → Verdict → Verdict
-pair_fetched asked held next = fetched input.Left (held asked.left) (fetched input.Right (held asked.right) (calib_fetched (is_plain asked) (held asked.calib) next))
+pair_fetched asked held next = fetched input.Left (held asked.left)
+    (fetched input.Right (held asked.right)
+    (calib_fetched (is_plain asked) (held asked.calib) next))
 
 -- the grids of a change as they are fetched
 unfoldable pub grids_fetched : ChangeOperands → Held → Verdict → Verdict
-grids_fetched asked held next = fetched input.Earlier (held asked.earlier) (fetched input.Later (held asked.later) next)
+grids_fetched asked held next = fetched input.Earlier (held asked.earlier)
+    (fetched input.Later (held asked.later) next)
 
 -- the list and the calibration of a merge as they are fetched
 unfoldable pub merge_fetched : MergeOperands → Held → Verdict → Verdict
-merge_fetched asked held next = fetched input.List (held asked.list) (calib_fetched (is_plain_word asked.calib) (held asked.calib) next)
+merge_fetched asked held next = fetched input.List (held asked.list)
+    (calib_fetched (is_plain_word asked.calib) (held asked.calib) next)
 
 -- ---- the inputs as they are judged
 
--- the texts that inputs with these readings call for, their map being refined so, or their first refusal
-unfoldable pub texts_for : Result Picture PgmFault → Result Picture PgmFault → Result Calibration CalibFault → Refining → Result Texts Refusal
+-- the texts that inputs with these readings call for, their map being refined so, or their first
+-- refusal
+unfoldable pub texts_for : Result Picture PgmFault → Result Picture PgmFault
+    → Result Calibration CalibFault → Refining → Result Texts Refusal
 texts_for left right calib refine = do
   a ← or_refused (Pgm side.Left) left
   b ← or_refused (Pgm side.Right) right
@@ -89,7 +98,9 @@ texts_for left right calib refine = do
 -- the summary that a demo calls for, its map being refined so, or its refusal
 unfoldable pub demo_for : ℕ → Refining → Result (List ℕ) Refusal
 demo_for number refine = do
-  survey ← or_refused refusal_of (surveyed (pair_image number side.Left DEMO_WIDTH DEMO_HEIGHT) (pair_image number side.Right DEMO_WIDTH DEMO_HEIGHT) plain refine)
+  survey ← or_refused refusal_of
+      (surveyed (pair_image number side.Left DEMO_WIDTH DEMO_HEIGHT)
+      (pair_image number side.Right DEMO_WIDTH DEMO_HEIGHT) plain refine)
   Ok (demo_text survey.disp)
 
 -- ---- the verdict
@@ -107,40 +118,52 @@ abbrev pub calib_of : Operands → Readings → Result Calibration CalibFault
 calib_of asked readings = calib_named asked.calib readings.calib
 
 -- what a match calls for whose inputs have these readings: their texts under OUT, and the summary
-abbrev pub matched : List ℕ → Refining → Result Picture PgmFault → Result Picture PgmFault → Result Calibration CalibFault → Verdict
-matched out refine left right calib = unless_refused (texts_for left right calib refine) (λ texts. files (files_of out texts) texts.summary)
+abbrev pub matched : List ℕ → Refining → Result Picture PgmFault → Result Picture PgmFault
+    → Result Calibration CalibFault → Verdict
+matched out refine left right calib = unless_refused (texts_for left right calib refine)
+    (λ texts. files (files_of out texts) texts.summary)
 
 -- what a trace calls for whose inputs have these readings: no file, and the certificate
-abbrev pub traced : Dir → ℕ → ℕ → ℕ → Result Picture PgmFault → Result Picture PgmFault → Result Calibration CalibFault → Verdict
-traced dir x y d left right calib = unless_refused (certificate_for left right calib dir x y d) (λ text. files [] text)
+abbrev pub traced : Dir → ℕ → ℕ → ℕ → Result Picture PgmFault → Result Picture PgmFault
+    → Result Calibration CalibFault → Verdict
+traced dir x y d left right calib = unless_refused (certificate_for left right calib dir x y d)
+    (λ text. files [] text)
 
 -- what a change calls for whose grids are held: their texts under OUT, and the summary
 abbrev pub changed : ChangeOperands → Held → Verdict
 changed asked held =
-    unless_refused (change_for (grid_reading (held asked.earlier)) (grid_reading (held asked.later))) (λ texts. files (change_files_of asked.out texts) texts.summary)
+    unless_refused
+    (change_for (grid_reading (held asked.earlier)) (grid_reading (held asked.later)))
+    (λ texts. files (change_files_of asked.out texts) texts.summary)
 
 -- an entry of a list, with this number: it is fetched, and judged before the next
 abbrev pub entry_fetched : GridSpec → ℕ → Option (List ℕ) → (Cells → Verdict) → Verdict
-entry_fetched spec k held next = fetched (input.Grid k) held (unless_refused (entry_for spec k (grid_reading held)) next)
+entry_fetched spec k held next =
+    fetched (input.Grid k) held (unless_refused (entry_for spec k (grid_reading held)) next)
 
--- the entries with these names, one after the other, the first of which has this number; `next` says
--- what their grids call for
+-- the entries with these names, one after the other, the first of which has this number; `next`
+-- says what their grids call for
 abbrev pub entries_fetched : GridSpec → ℕ → List (List ℕ) → Held → (List Cells → Verdict) → Verdict
 entries_fetched spec k [] held next = next []
 entries_fetched spec k (name ∷ names) held next =
-    entry_fetched spec k (held name) (λ entry. entries_fetched spec (k + 1) names held (λ entries. next (entry ∷ entries)))
+    entry_fetched spec k (held name)
+    (λ entry. entries_fetched spec (k + 1) names held (λ entries. next (entry ∷ entries)))
 
 -- what a merge of these entries calls for: their texts under OUT, and the summary
 abbrev pub merged_by : List ℕ → MergePlan → List Cells → Verdict
-merged_by out plan entries = let texts = merge_texts plan entries in files (merge_files_of out texts) texts.summary
+merged_by out plan entries = let texts = merge_texts plan entries in
+    files (merge_files_of out texts) texts.summary
 
 -- what a merge calls for that has this plan, or this first refusal
 abbrev pub plan_carried_out : List ℕ → Held → Result MergePlan Refusal → Verdict
-plan_carried_out out held planned = unless_refused planned (λ plan. entries_fetched plan.spec 0 plan.names held (merged_by out plan))
+plan_carried_out out held planned =
+    unless_refused planned
+    (λ plan. entries_fetched plan.spec 0 plan.names held (merged_by out plan))
 
 -- the plan of a merge, whose calibration has this reading, or the first refusal
 abbrev pub plan_of : MergeOperands → Held → Result Calibration CalibFault → Result MergePlan Refusal
-plan_of asked held calib = plan_for (names_reading asked.out (unwrap_or (held asked.list) [])) (calib_named asked.calib calib)
+plan_of asked held calib = plan_for (names_reading asked.out (unwrap_or (held asked.list) []))
+    (calib_named asked.calib calib)
 
 -- what a demo calls for
 abbrev pub demoed : ℕ → Refining → Verdict

@@ -21,64 +21,64 @@ use sgm_strip::Scene;
 use sgm_trace::{trace, write_trace};
 use std::alloc::Global;
 
-/// The certificate's text that the bytes of a pair of PGM images and of its calibration call for, at the pixel
-/// (x, y), the index d and the direction; `calib` of None is the plain calibration. It is refused for the first
-/// fault that stands: left, right, calibration, sizes, volume, left warp, right warp, then a pixel or an index
-/// that there isn't.
+/// What a trace asks for: the index `d` at the pixel (x, y), and the direction.
+#[derive(Clone, Copy)]
+pub struct TracePlace {
+    pub dir: Dir,
+    pub x: u32,
+    pub y: u32,
+    pub d: u32,
+}
+
+/// The certificate's text that the bytes of a pair of PGM images and of its calibration call for,
+/// at a pixel, an index and a direction; `calib` of None is the plain calibration. It is refused
+/// for the first fault that stands: left, right, calibration, sizes, volume, left warp, right warp,
+/// then a pixel or an index that there isn't.
 pub(crate) fn certificate(
     alloc: Global,
     left: &[u8],
     right: &[u8],
     calib: Option<&[u8]>,
-    dir: Dir,
-    x: u32,
-    y: u32,
-    d: u32,
+    at: TracePlace,
 ) -> Result<Vec<u8>, TextsError>
-    ensures { (left_reads right_reads : Result Picture PgmFault) (calib_reads : Result Calibration CalibFault)
-        → Reads left.now left_reads → Reads right.now right_reads → CalibReads (option_map (λ b. b.now) calib.entry) calib_reads
+    ensures { (left_reads right_reads : Result Picture PgmFault)
+        (calib_reads : Result Calibration CalibFault)
+        → Reads left.now left_reads → Reads right.now right_reads
+        → CalibReads (option_map (λ b. b.now) calib.entry) calib_reads
         → MatchResult result
-        (λ text. certificate_for left_reads right_reads calib_reads dir x y d ≡ Ok text.items)
-        (StopsFor (certificate_for left_reads right_reads calib_reads dir x y d)) }
+        (λ text. certificate_for left_reads right_reads calib_reads at.dir at.x at.y at.d
+        ≡ Ok text.items)
+        (StopsFor (certificate_for left_reads right_reads calib_reads at.dir at.x at.y at.d)) }
 {
     match judge_pair(alloc, left, right, calib) {
-        Ok(judged) => judged_certificate(alloc, &judged, dir, x, y, d),
+        Ok(judged) => judged_certificate(alloc, &judged, at),
         Err(stop) => Err(stop),
     }
 }
 
-/// The certificate's text of a pair that is judged, where it makes a scene that has the pixel and the index.
-fn judged_certificate(
-    alloc: Global,
-    judged: &Judged,
-    dir: Dir,
-    x: u32,
-    y: u32,
-    d: u32,
-) -> Result<Vec<u8>, TextsError>
+/// The certificate's text of a pair that is judged, where it makes a scene that has the pixel and
+/// the index.
+fn judged_certificate(alloc: Global, judged: &Judged, at: TracePlace) -> Result<Vec<u8>, TextsError>
     ensures { MatchResult result
-        (λ text. certificate_of_judged judged.now dir x y d ≡ Ok text.items)
-        (StopsFor (certificate_of_judged judged.now dir x y d)) }
+        (λ text. certificate_of_judged judged.now at.dir at.x at.y at.d ≡ Ok text.items)
+        (StopsFor (certificate_of_judged judged.now at.dir at.x at.y at.d)) }
 {
     match prepare(alloc, &judged.left, &judged.right, &judged.calib) {
-        Ok(scene) => certificate_of(alloc, &scene, dir, x, y, d),
+        Ok(scene) => certificate_of(alloc, &scene, at),
         Err(error) => Err(TextsError::from(error)),
     }
 }
 
 /// The certificate's text of a scene, where it has the pixel and the index.
-fn certificate_of(
-    alloc: Global,
-    scene: &Scene,
-    dir: Dir,
-    x: u32,
-    y: u32,
-    d: u32,
-) -> Result<Vec<u8>, TextsError>
+fn certificate_of(alloc: Global, scene: &Scene, at: TracePlace) -> Result<Vec<u8>, TextsError>
     ensures { MatchResult result
-        (λ text. unless (inside_refusal (problem_of scene.now) x y d) (trace_text (problem_of scene.now) dir (pixel_at x y) d) ≡ Ok text.items)
-        (StopsFor (unless (inside_refusal (problem_of scene.now) x y d) (trace_text (problem_of scene.now) dir (pixel_at x y) d))) }
+        (λ text. unless (inside_refusal (problem_of scene.now) at.x at.y at.d)
+        (trace_text (problem_of scene.now) at.dir (pixel_at at.x at.y) at.d) ≡ Ok text.items)
+        (StopsFor
+        (unless (inside_refusal (problem_of scene.now) at.x at.y at.d)
+        (trace_text (problem_of scene.now) at.dir (pixel_at at.x at.y) at.d))) }
 {
+    let TracePlace { dir, x, y, d } = at;
     if !is_inside(scene, x, y, d) {
         return Err(TextsError::Refused(Refusal::NotInside { x, y, d }));
     }

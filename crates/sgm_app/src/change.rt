@@ -5,7 +5,7 @@ ghost use Rattle.sgm_app.specs.Moments.{moment};
 ghost use Rattle.sgm_app.specs.RunEnds.{RunEnds};
 
 use crate::Outcome;
-use crate::changing::change_texts;
+use crate::change_pipeline::change_texts;
 use crate::delivery::deliver;
 use crate::files::name_change;
 use crate::gathering::gather_grids;
@@ -13,8 +13,8 @@ use sgm_io::{Shelf, Sink};
 use sgm_words::ChangeWords;
 use std::alloc::Global;
 
-/// Gathers the grids; makes the texts of their change, for which they are judged; names the texts; and delivers
-/// them.
+/// Gathers the grids; makes the texts of their change, for which they are judged; names the texts;
+/// and delivers them.
 pub fn run_change<S: Shelf, O: Sink>(
     alloc: Global,
     operands: &ChangeWords<'_>,

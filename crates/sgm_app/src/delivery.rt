@@ -8,7 +8,8 @@ ghost use Rattle.sgm_app.specs.Verdict.{files};
 ghost use Rattle.sgm_app.specs.Ends.{ShownBy, OutStands, OutUntouched, WritingStands};
 ghost use Rattle.sgm_app.specs.Ends.{StageCounts, CountsShow, OutCountsShow, faults, faults_at};
 ghost use Rattle.sgm_app.specs.Unfinished.{AreFinished, UnfinishedStands};
-ghost use Rattle.sgm_app.specs.Deliver.{WritesFile, StopsAtFile, EndsWriting, FinishesFile, FileCounts};
+ghost use Rattle.sgm_app.specs.Deliver.{WritesFile, StopsAtFile, EndsWriting, FinishesFile};
+ghost use Rattle.sgm_app.specs.Deliver.{FileCounts};
 ghost use Rattle.sgm_app.specs.Deliver.{IsDeliveryEnd, WritesFiles, FinishesFiles, FilesCounts};
 ghost use Rattle.sgm_app.specs.Deliver.{FilesPut, delivered_by};
 
@@ -18,7 +19,8 @@ use crate::{Outcome, Output};
 use sgm_io::{KeepError, Shelf, Sink, append_whole, write_whole};
 
 fn write_file<S: Shelf>(shelf: &mut S, file: &OutputText) -> Result<(), WriteStop>
-    ensures held { IsTrue S.tells → WritesFile file.now result (S.held shelf.old) (S.held shelf.new) }
+    ensures held { IsTrue S.tells
+        → WritesFile file.now result (S.held shelf.old) (S.held shelf.new) }
     ensures stop { StopsAtFile file.now.output result }
     ensures writing { EndsWriting result (S.writing shelf.new) }
     ensures unfinished { FinishesFile file.now result
@@ -43,7 +45,8 @@ fn write_file<S: Shelf>(shelf: &mut S, file: &OutputText) -> Result<(), WriteSto
 }
 
 fn write_files<S: Shelf>(shelf: &mut S, files: &[OutputText]) -> Result<(), WriteStop>
-    ensures held { IsTrue S.tells → WritesFiles files.now result (S.held shelf.old) (S.held shelf.new) }
+    ensures held { IsTrue S.tells
+        → WritesFiles files.now result (S.held shelf.old) (S.held shelf.new) }
     ensures writing { 0 < length files.now → EndsWriting result (S.writing shelf.new) }
     ensures unfinished { FinishesFiles files.now result
         (S.unfinished shelf.old) (S.unfinished shelf.new) }
@@ -58,8 +61,8 @@ fn write_files<S: Shelf>(shelf: &mut S, files: &[OutputText]) -> Result<(), Writ
     Ok(())
 }
 
-/// Writes the files, and then the summary. It takes no memory of its own. The outcome is Done, or the fault
-/// of writing that it stopped at, or the shelf's want of memory.
+/// Writes the files, and then the summary. It takes no memory of its own. The outcome is Done, or
+/// the fault of writing that it stopped at, or the shelf's want of memory.
 pub fn deliver<S: Shelf, O: Sink>(shelf: &mut S, out: &mut O, delivery: &Delivery) -> Outcome
     ensures ends { IsDeliveryEnd result }
     ensures shown { ShownBy (delivered_by delivery.now) result }
@@ -67,11 +70,13 @@ pub fn deliver<S: Shelf, O: Sink>(shelf: &mut S, out: &mut O, delivery: &Deliver
         → FilesPut result (delivered_by delivery.now) (S.held shelf.old) (S.held shelf.new) }
     ensures out { IsTrue O.tells
         → OutStands result (delivered_by delivery.now) (O.written out.old) (O.written out.new) }
-    ensures untouched { IsTrue O.tells → OutUntouched result (O.written out.old) (O.written out.new) }
+    ensures untouched { IsTrue O.tells
+        → OutUntouched result (O.written out.old) (O.written out.new) }
     ensures writing { WritingStands result (S.writing shelf.old) (S.writing shelf.new) }
     ensures unfinished { (names : FileNames) → All (IsNamed names) delivery.now.files.items
         → UnfinishedStands names result (S.unfinished shelf.old) (S.unfinished shelf.new) }
-    ensures finished { result ≡ Done → AreFinished delivery.now.files.items (S.unfinished shelf.new) }
+    ensures finished { result ≡ Done
+        → AreFinished delivery.now.files.items (S.unfinished shelf.new) }
     ensures counts { (names : FileNames) → All (IsNamed names) delivery.now.files.items
         → CountsShow names result
         (faults_at S.Shelf O.Sink shelf.old out.old) (faults_at S.Shelf O.Sink shelf.new out.new) }
@@ -90,7 +95,8 @@ pub fn deliver_summary<O: Sink>(out: &mut O, summary: &[u8]) -> Outcome
     ensures shown { ShownBy (files [] summary.now) result }
     ensures out { IsTrue O.tells
         → OutStands result (files [] summary.now) (O.written out.old) (O.written out.new) }
-    ensures untouched { IsTrue O.tells → OutUntouched result (O.written out.old) (O.written out.new) }
+    ensures untouched { IsTrue O.tells
+        → OutUntouched result (O.written out.old) (O.written out.new) }
     ensures counts { (reads writes : Counts) → OutCountsShow result
         (faults reads writes (O.faults out.old)) (faults reads writes (O.faults out.new)) }
 {

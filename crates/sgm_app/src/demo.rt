@@ -1,23 +1,21 @@
 //! The survey of a generated pair.
 ghost use Rattle.std.specs.Prelude.{◌≡◌, Ok, IsTrue, MatchResult, string_bytes};
 ghost use Rattle.sgm_io.specs.Counts.{Counts};
-ghost use Rattle.sgm_words.specs.Ranges.{IsStrips, IsWorkers};
 ghost use Rattle.sgm_app.specs.Judge.{StopsFor, demo_of_judged};
 ghost use Rattle.sgm_app.specs.Ends.{ShownBy, OutStands, OutUntouched, OutCountsShow, faults};
 ghost use Rattle.sgm_app.specs.Verdict.{demo_for, demoed};
 
+use crate::crew::Crew;
 use crate::delivery::deliver_summary;
 use crate::judge::Judged;
 use crate::made::demo_text;
 use crate::stops::TextsError;
 use crate::{Outcome, pair};
-use sgm_base::Size;
+use sgm_base::{Refine, Size};
 use sgm_calib::Calib;
 use sgm_io::Sink;
 use sgm_job::survey_refined;
-use sgm_refine::Refine;
 use sgm_work::Gate;
-use std::alloc::Global;
 use std::thread::Threads;
 
 /// The width of the generated pair, in pixels.
@@ -28,89 +26,74 @@ pub const DEMO_HEIGHT: u32 = 192;
 
 // The summary of a demo over a pair that is judged, its map being refined so.
 fn judged_summary<R: Threads + Sync, G: Gate + Sync>(
-    rt: &R,
-    alloc: Global,
+    crew: &Crew<'_, R, G>,
     judged: &Judged,
-    strips: u32,
-    workers: u32,
     refine: Refine,
-    gate: &G,
 ) -> Result<String, TextsError>
-    requires strips { IsStrips strips }
-    requires workers { IsWorkers workers }
     ensures { MatchResult result
-        (λ summary. demo_of_judged judged.now refine ≡ Ok (string_bytes summary)) (StopsFor (demo_of_judged judged.now refine)) }
+        (λ summary. demo_of_judged judged.now refine ≡ Ok (string_bytes summary))
+        (StopsFor (demo_of_judged judged.now refine)) }
 {
     let surveyed = match survey_refined(
-        rt,
-        alloc,
+        crew.rt,
+        crew.alloc,
         &judged.left,
         &judged.right,
         &judged.calib,
-        strips,
-        workers,
+        crew.strips,
+        crew.workers,
         refine,
-        gate,
+        crew.gate,
     ) {
         Ok(surveyed) => surveyed,
         Err(error) => return Err(TextsError::from(error)),
     };
-    match demo_text(alloc, &surveyed.disp) {
+    match demo_text(crew.alloc, &surveyed.disp) {
         Ok(summary) => Ok(summary),
         Err(_) => Err(TextsError::NoMemory),
     }
 }
 
-// The summary of a demo: the pair that is generated from the number, with the plain settings and a map that is
-// refined so.
+// The summary of a demo: the pair that is generated from the number, with the plain settings and a
+// map that is refined so.
 fn demo_summary<R: Threads + Sync, G: Gate + Sync>(
-    rt: &R,
-    alloc: Global,
+    crew: &Crew<'_, R, G>,
     number: u32,
-    strips: u32,
-    workers: u32,
     refine: Refine,
-    gate: &G,
 ) -> Result<String, TextsError>
-    requires strips { IsStrips strips }
-    requires workers { IsWorkers workers }
     ensures { MatchResult result
-        (λ summary. demo_for number refine ≡ Ok (string_bytes summary)) (StopsFor (demo_for number refine)) }
+        (λ summary. demo_for number refine ≡ Ok (string_bytes summary))
+        (StopsFor (demo_for number refine)) }
 {
     let size = Size {
         width: DEMO_WIDTH,
         height: DEMO_HEIGHT,
     };
-    let (left, right) = pair(alloc, size, number)?;
+    let (left, right) = pair(crew.alloc, size, number)?;
     let judged = Judged {
         left,
         right,
         calib: Calib::plain(),
     };
-    judged_summary(rt, alloc, &judged, strips, workers, refine, gate)
+    judged_summary(crew, &judged, refine)
 }
 
 /// Surveys the pair that is generated from the number, and writes the summary.
 pub fn run_demo<R: Threads + Sync, O: Sink, G: Gate + Sync>(
-    rt: &R,
-    alloc: Global,
+    crew: &Crew<'_, R, G>,
     number: u32,
-    strips: u32,
-    workers: u32,
     refine: Refine,
     out: &mut O,
-    gate: &G,
 ) -> Outcome
-    requires strips { IsStrips strips }
-    requires workers { IsWorkers workers }
     ensures cause { ShownBy (demoed number refine) result }
     ensures out { IsTrue O.tells
         → OutStands result (demoed number refine) (O.written out.old) (O.written out.new) }
-    ensures untouched { IsTrue O.tells → OutUntouched result (O.written out.old) (O.written out.new) }
+    ensures untouched { IsTrue O.tells
+        → OutUntouched result (O.written out.old) (O.written out.new) }
     ensures counts { (reads writes : Counts) → OutCountsShow result
         (faults reads writes (O.faults out.old)) (faults reads writes (O.faults out.new)) }
 {
-    match demo_summary(rt, alloc, number, strips, workers, refine, gate) {
+    match demo_summary(crew, number, refine) {
         Ok(summary) => deliver_summary(out, summary.as_bytes()),
         Err(stop) => stop.outcome(),
     }

@@ -24,8 +24,8 @@ use sgm_io::Shelf;
 use sgm_merge::{Merge, fits};
 use std::alloc::Global;
 
-/// Fetches the grids with these names, in their order, and adds each to the merge, until one can't be
-/// read or is refused. No grid is kept.
+/// Fetches the grids with these names, in their order, and adds each to the merge, until one can't
+/// be read or is refused. No grid is kept.
 pub(crate) fn add_entries<S: Shelf>(
     alloc: Global,
     shelf: &mut S,

@@ -8,9 +8,9 @@ ghost use Rattle.sgm_app.specs.Outputs.{IsNamed, file_of, files_with};
 ghost use Rattle.sgm_app.specs.Outputs.{files_of, change_files_of, merge_files_of};
 
 use crate::Output;
-use crate::changing::ChangeTexts;
+use crate::change_pipeline::ChangeTexts;
 use crate::made::MadeTexts;
-use crate::merging::MergeTexts;
+use crate::merge_plan::MergeTexts;
 use sgm_words::{ChangeWords, MergeWords, OperandWords};
 use std::alloc::{AllocError, Global};
 use std::marker::Model;
@@ -29,7 +29,11 @@ impl Model for OutputText {
 
     ghost Value = { OutputFile };
 
-    ghost view = { λ f. record { output = f.output; name = string_bytes f.name; text = f.text.items } };
+    ghost view = { λ f. record {
+      output = f.output;
+      name = string_bytes f.name;
+      text = f.text.items;
+    } };
 }
 
 impl OutputText {
@@ -88,7 +92,8 @@ fn add_file(
     files: &mut Vec<OutputText>,
 ) -> Result<(), AllocError>
     requires { IsSome (ending_of output) }
-    ensures { OnOk result (files.new.items ≡ files.old.items ++ files_with out.now output (option_map (λ t. t.items) text)) }
+    ensures { OnOk result (files.new.items
+        ≡ files.old.items ++ files_with out.now output (option_map (λ t. t.items) text)) }
 {
     if let Some(text) = text {
         files.push(OutputText::named(alloc, out, output, text)?)?;
@@ -96,15 +101,18 @@ fn add_file(
     Ok(())
 }
 
-/// Puts the texts of a match under the names of their outputs. All memory of a run is taken once this is done.
+/// Puts the texts of a match under the names of their outputs. All memory of a run is taken once
+/// this is done.
 pub fn name_texts(
     alloc: Global,
     operands: &OperandWords<'_>,
     texts: MadeTexts,
 ) -> Result<Delivery, AllocError>
-    ensures files { IfOk result (λ delivery. delivery.files.items ≡ files_of operands.now.out (texts_in texts)) }
+    ensures files { IfOk result (λ delivery. delivery.files.items
+        ≡ files_of operands.now.out (texts_in texts)) }
     ensures summary { IfOk result (λ delivery. delivery.summary.items ≡ (texts_in texts).summary) }
-    ensures named { IfOk result (λ delivery. All (IsNamed (of_match operands.now)) delivery.files.items) }
+    ensures named { IfOk result
+        (λ delivery. All (IsNamed (of_match operands.now)) delivery.files.items) }
 {
     let MadeTexts {
         disparity,
@@ -126,9 +134,12 @@ pub fn name_change(
     operands: &ChangeWords<'_>,
     texts: ChangeTexts,
 ) -> Result<Delivery, AllocError>
-    ensures files { IfOk result (λ delivery. delivery.files.items ≡ change_files_of operands.now.out (change_texts_in texts)) }
-    ensures summary { IfOk result (λ delivery. delivery.summary.items ≡ (change_texts_in texts).summary) }
-    ensures named { IfOk result (λ delivery. All (IsNamed (of_change operands.now)) delivery.files.items) }
+    ensures files { IfOk result (λ delivery. delivery.files.items
+        ≡ change_files_of operands.now.out (change_texts_in texts)) }
+    ensures summary { IfOk result (λ delivery. delivery.summary.items
+        ≡ (change_texts_in texts).summary) }
+    ensures named { IfOk result
+        (λ delivery. All (IsNamed (of_change operands.now)) delivery.files.items) }
 {
     let ChangeTexts {
         difference,
@@ -148,10 +159,13 @@ pub fn name_merge(
     operands: &MergeWords<'_>,
     texts: MergeTexts,
 ) -> Result<Delivery, AllocError>
-    ensures files { IfOk result (λ delivery. delivery.files.items ≡ merge_files_of operands.now.out (merge_texts_in texts)) }
-    ensures summary { IfOk result (λ delivery. delivery.summary.items ≡ (merge_texts_in texts).summary) }
+    ensures files { IfOk result (λ delivery. delivery.files.items
+        ≡ merge_files_of operands.now.out (merge_texts_in texts)) }
+    ensures summary { IfOk result (λ delivery. delivery.summary.items
+        ≡ (merge_texts_in texts).summary) }
     ensures named { (listed : Option (List (List ℕ)))
-        → IfOk result (λ delivery. All (IsNamed (of_merge operands.now listed)) delivery.files.items) }
+        → IfOk result
+        (λ delivery. All (IsNamed (of_merge operands.now listed)) delivery.files.items) }
 {
     let MergeTexts {
         heights,

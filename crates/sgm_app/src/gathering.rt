@@ -1,13 +1,16 @@
 //! Fetching the inputs, in their order.
-ghost use Rattle.std.specs.Prelude.{◌≡◌, ℕ, IsTrue, List, MatchResult, IfOk, Option, option_map, false};
+ghost use Rattle.std.specs.Prelude.{◌≡◌, ℕ, IsTrue, List, MatchResult, IfOk, Option, option_map};
+ghost use Rattle.std.specs.Prelude.{false};
 ghost use Rattle.sgm_words.specs.Operands.{FileNames, of_merge, is_plain_word, IsInputName};
 ghost use Rattle.sgm_words.specs.declared.files.Input.TheVariants.{Calibration};
 ghost use Rattle.sgm_app.specs.Ends.{StageCounts, ShownBy, NoneBefore};
 ghost use Rattle.sgm_app.specs.Stops.{fetch_outcome};
 ghost use Rattle.sgm_app.specs.Moments.{Keeps};
-ghost use Rattle.sgm_app.specs.Gather.{FetchesInput, FetchesCalib, AtHand, GridsAtHand, MergeAtHand};
+ghost use Rattle.sgm_app.specs.Gather.{FetchesInput, FetchesCalib, AtHand, GridsAtHand};
+ghost use Rattle.sgm_app.specs.Gather.{MergeAtHand};
 ghost use Rattle.sgm_app.specs.Gather.{HavePair, HaveGrids, StopCounts};
-ghost use Rattle.sgm_app.specs.Verdict.{Verdict, most_bytes, pair_fetched, grids_fetched, merge_fetched};
+ghost use Rattle.sgm_app.specs.Verdict.{Verdict, most_bytes, pair_fetched, grids_fetched};
+ghost use Rattle.sgm_app.specs.Verdict.{merge_fetched};
 
 use crate::Input;
 use crate::stops::FetchStop;
@@ -17,7 +20,8 @@ use sgm_words::{ChangeWords, MergeWords, OperandWords, is_plain};
 use std::alloc::Global;
 use std::marker::Model;
 
-/// The bytes of the inputs of a match or a trace; those of the calibration where it isn't the plain one.
+/// The bytes of the inputs of a match or a trace; those of the calibration where it isn't the plain
+/// one.
 #[derive(Drop)]
 pub struct Inputs {
     pub left: Vec<u8>,
@@ -160,8 +164,8 @@ fn fetch_calib<S: Shelf>(
     }
 }
 
-/// Fetches the inputs of a match or a trace, in their order, until one can't be read, or is longer than it
-/// may be.
+/// Fetches the inputs of a match or a trace, in their order, until one can't be read, or is longer
+/// than it may be.
 pub fn gather<S: Shelf>(
     alloc: Global,
     shelf: &mut S,
@@ -199,7 +203,8 @@ pub fn gather_grids<S: Shelf>(
         → IfOk result (λ grids. GridsAtHand operands.now (S.held shelf.old) grids) }
     ensures verdict { IsTrue S.tells → (next : Verdict) → NoneBefore 6 next → MatchResult result
         (λ _. grids_fetched operands.now (S.held shelf.old) next ≡ next)
-        (λ stop. ShownBy (grids_fetched operands.now (S.held shelf.old) next) (fetch_outcome stop)) }
+        (λ stop. ShownBy (grids_fetched operands.now (S.held shelf.old) next)
+        (fetch_outcome stop)) }
     ensures counts { (names : FileNames) → HaveGrids operands.now names
         → StageCounts (StopCounts names) result S.Shelf shelf.old shelf.new }
 {
@@ -223,9 +228,11 @@ pub fn gather_merge<S: Shelf>(
         → IfOk result (λ inputs. MergeAtHand operands.now (S.held shelf.old) inputs) }
     ensures verdict { IsTrue S.tells → (next : Verdict) → NoneBefore 4 next → MatchResult result
         (λ _. merge_fetched operands.now (S.held shelf.old) next ≡ next)
-        (λ stop. ShownBy (merge_fetched operands.now (S.held shelf.old) next) (fetch_outcome stop)) }
+        (λ stop. ShownBy (merge_fetched operands.now (S.held shelf.old) next)
+        (fetch_outcome stop)) }
     ensures counts { (listed : Option (List (List ℕ)))
-        → StageCounts (StopCounts (of_merge operands.now listed)) result S.Shelf shelf.old shelf.new }
+        → StageCounts
+        (StopCounts (of_merge operands.now listed)) result S.Shelf shelf.old shelf.new }
 {
     match fetch_input(alloc, shelf, Input::List, operands.list()) {
         Ok(list) => match fetch_calib(alloc, shelf, operands.calib()) {

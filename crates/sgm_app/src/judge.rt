@@ -33,8 +33,10 @@ pub fn judge_pair(
     right: &[u8],
     calib: Option<&[u8]>,
 ) -> Result<Judged, TextsError>
-    ensures { (left_reads right_reads : Result Picture PgmFault) (calib_reads : Result Calibration CalibFault)
-        → Reads left.now left_reads → Reads right.now right_reads → CalibReads (option_map (λ b. b.now) calib.entry) calib_reads
+    ensures { (left_reads right_reads : Result Picture PgmFault)
+        (calib_reads : Result Calibration CalibFault)
+        → Reads left.now left_reads → Reads right.now right_reads
+        → CalibReads (option_map (λ b. b.now) calib.entry) calib_reads
         → MatchResult result
         (λ judged. judged_for left_reads right_reads calib_reads ≡ Ok judged)
         (StopsFor (judged_for left_reads right_reads calib_reads)) }
@@ -54,7 +56,8 @@ pub fn judge_pair(
 /// The image of a side.
 fn judge_image(alloc: Global, side: Side, bytes: &[u8]) -> Result<Image, TextsError>
     ensures { (reading : Result Picture PgmFault) → Reads bytes.now reading → MatchResult result
-        (λ image. or_refused (refusal.Pgm side) reading ≡ Ok image) (StopsFor (or_refused (refusal.Pgm side) reading)) }
+        (λ image. or_refused (refusal.Pgm side) reading ≡ Ok image)
+        (StopsFor (or_refused (refusal.Pgm side) reading)) }
 {
     match sgm_pgm::read(alloc, bytes) {
         Ok(image) => Ok(image),
@@ -65,8 +68,10 @@ fn judge_image(alloc: Global, side: Side, bytes: &[u8]) -> Result<Image, TextsEr
 
 /// The calibration: the plain one where there are no bytes.
 pub(crate) fn judge_calib(alloc: Global, bytes: Option<&[u8]>) -> Result<Calib, TextsError>
-    ensures { (reading : Result Calibration CalibFault) → CalibReads (option_map (λ b. b.now) bytes.entry) reading → MatchResult result
-        (λ calib. or_refused refusal.Calib reading ≡ Ok calib) (StopsFor (or_refused refusal.Calib reading)) }
+    ensures { (reading : Result Calibration CalibFault)
+        → CalibReads (option_map (λ b. b.now) bytes.entry) reading → MatchResult result
+        (λ calib. or_refused refusal.Calib reading ≡ Ok calib)
+        (StopsFor (or_refused refusal.Calib reading)) }
 {
     match bytes {
         None => Ok(Calib::plain()),

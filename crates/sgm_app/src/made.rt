@@ -1,12 +1,14 @@
 //! The texts that are written.
-ghost use Rattle.std.specs.Prelude.{◌≡◌, ◌≤◌, ◌+◌, ◌*◌, ◌^◌, map, sum, count_by, is_some, length, All, option_map, IfOk, IfSome, string_bytes};
+ghost use Rattle.std.specs.Prelude.{◌≡◌, ◌≤◌, ◌+◌, ◌*◌, ◌^◌, map, sum, count_by, is_some, length};
+ghost use Rattle.std.specs.Prelude.{All, option_map, IfOk, IfSome, string_bytes};
 ghost use Rattle.sgm_base.specs.Values.{AtMost};
 ghost use Rattle.sgm_grid.specs.Text.{grid_text};
 ghost use Rattle.sgm_report.specs.Areas.{IsRegionName};
 ghost use Rattle.sgm_report.specs.Table.{table_text};
 ghost use Rattle.sgm_job.specs.Answers.{seen};
 ghost use Rattle.sgm_app.specs.Made.{texts_in};
-ghost use Rattle.sgm_app.specs.Texts.{sample_of, disparity_text, summary_text, demo_text, report_text, texts_of};
+ghost use Rattle.sgm_app.specs.Texts.{sample_of, disparity_text, summary_text, demo_text};
+ghost use Rattle.sgm_app.specs.Texts.{report_text, texts_of};
 
 use sgm_base::{DispMap, MAX_DISPARITY};
 use sgm_calib::Calib;
@@ -16,8 +18,8 @@ use sgm_pgm::write16;
 use sgm_report::{Columns, Region, RegionTally, write_report};
 use std::alloc::{AllocError, Global};
 
-/// All texts of a survey, under no names yet: the disparity image, the heights where the calibration has a
-/// grid, the report where it has regions, and the line of the summary.
+/// All texts of a survey, under no names yet: the disparity image, the heights where the
+/// calibration has a grid, the report where it has regions, and the line of the summary.
 #[derive(Drop)]
 pub struct MadeTexts {
     pub disparity: Vec<u8>,
@@ -84,7 +86,8 @@ fn disparity(alloc: Global, disparities: &DispMap) -> Result<Vec<u8>, AllocError
 
 // The heights, where there is a grid.
 fn heights(alloc: Global, grid: &Option<Grid>) -> Result<Option<Vec<u8>>, AllocError>
-    ensures { IfOk result (λ made. option_map (λ text. text.items) made ≡ option_map grid_text grid.now) }
+    ensures { IfOk result (λ made. option_map (λ text. text.items) made
+        ≡ option_map grid_text grid.now) }
 {
     match grid {
         Some(grid) => {
@@ -103,10 +106,12 @@ pub(crate) fn report(
     regions: Option<&[Region]>,
     tallies: &Option<Vec<RegionTally>>,
 ) -> Result<Option<Vec<u8>>, AllocError>
-    requires lengths { IfSome regions (λ r. IfSome tallies.now (λ t. length t.items ≡ length r.now)) }
+    requires lengths { IfSome regions
+        (λ r. IfSome tallies.now (λ t. length t.items ≡ length r.now)) }
     requires names { IfSome regions (λ r. All (λ area. IsRegionName area.name) r.now) }
     ensures { IfOk result (λ made. option_map (λ text. text.items) made
-        ≡ report_text columns (option_map (λ r. r.now) regions.entry) (option_map (λ t. t.items) tallies.now)) }
+        ≡ report_text columns (option_map (λ r. r.now) regions.entry)
+        (option_map (λ t. t.items) tallies.now)) }
 {
     match (regions, tallies) {
         (Some(regions), Some(tallies)) => {

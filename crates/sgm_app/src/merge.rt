@@ -14,7 +14,7 @@ use crate::delivery::deliver;
 use crate::entries::add_entries;
 use crate::files::name_merge;
 use crate::gathering::gather_merge;
-use crate::merging::{MergeTexts, Plan, plan_merge};
+use crate::merge_plan::{MergeTexts, Plan, plan_merge};
 use sgm_io::{Shelf, Sink};
 use sgm_merge::Merge;
 use sgm_words::MergeWords;
@@ -29,7 +29,8 @@ pub fn run_merge<S: Shelf, O: Sink>(
     out: &mut O,
 ) -> Outcome
     ensures { RunEnds
-        (of_merge operands.now (option_map (names_listed operands.now) (told_by S.tells (S.held shelf.old))))
+        (of_merge operands.now
+        (option_map (names_listed operands.now) (told_by S.tells (S.held shelf.old))))
         (MergeCallsFor operands.now) result
         (moment S.Shelf O.Sink shelf.old out.old) (moment S.Shelf O.Sink shelf.new out.new) }
 {

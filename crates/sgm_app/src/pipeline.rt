@@ -10,19 +10,21 @@ ghost use Rattle.sgm_app.specs.Judge.{CalibReads, StopsFor, texts_of_judged};
 ghost use Rattle.sgm_app.specs.Made.{texts_in};
 ghost use Rattle.sgm_app.specs.Verdict.{texts_for};
 
+use crate::crew::Crew;
 use crate::judge::{Judged, judge_pair};
 use crate::made::MadeTexts;
 use crate::stops::TextsError;
+use sgm_base::Refine;
 use sgm_job::survey_refined;
-use sgm_refine::Refine;
 use sgm_work::Gate;
 use std::alloc::Global;
 use std::thread::Threads;
 
-/// The texts that the bytes of a pair of PGM images and of its calibration call for, the map of disparities
-/// being refined so; `calib` of None is the plain calibration. They are refused for the first fault that
-/// stands, in the order in which the inputs are judged: left, right, calibration, sizes, volume, left warp,
-/// right warp. So many workers as asked for match so many strips, as `run` has it; the texts rest on neither.
+/// The texts that the bytes of a pair of PGM images and of its calibration call for, the map of
+/// disparities being refined so; `calib` of None is the plain calibration. They are refused for the
+/// first fault that stands, in the order in which the inputs are judged: left, right, calibration,
+/// sizes, volume, left warp, right warp. So many workers as asked for match so many strips, as
+/// `run` has it; the texts rest on neither.
 pub fn texts<R: Threads + Sync, G: Gate + Sync>(
     rt: &R,
     alloc: Global,
@@ -36,49 +38,54 @@ pub fn texts<R: Threads + Sync, G: Gate + Sync>(
 ) -> Result<MadeTexts, TextsError>
     requires strips { IsStrips strips }
     requires workers { IsWorkers workers }
-    ensures { (left_reads right_reads : Result Picture PgmFault) (calib_reads : Result Calibration CalibFault)
-        → Reads left.now left_reads → Reads right.now right_reads → CalibReads (option_map (λ b. b.now) calib.entry) calib_reads
+    ensures { (left_reads right_reads : Result Picture PgmFault)
+        (calib_reads : Result Calibration CalibFault)
+        → Reads left.now left_reads → Reads right.now right_reads
+        → CalibReads (option_map (λ b. b.now) calib.entry) calib_reads
         → MatchResult result
         (λ made. texts_for left_reads right_reads calib_reads refine ≡ Ok (texts_in made))
         (StopsFor (texts_for left_reads right_reads calib_reads refine)) }
 {
     match judge_pair(alloc, left, right, calib) {
-        Ok(judged) => judged_texts(rt, alloc, &judged, strips, workers, refine, gate),
+        Ok(judged) => {
+            let crew = Crew {
+                rt,
+                alloc,
+                strips,
+                workers,
+                gate,
+            };
+            judged_texts(&crew, &judged, refine)
+        }
         Err(stop) => Err(stop),
     }
 }
 
 /// The texts of a pair that is judged, or the refusal of its survey.
 fn judged_texts<R: Threads + Sync, G: Gate + Sync>(
-    rt: &R,
-    alloc: Global,
+    crew: &Crew<'_, R, G>,
     judged: &Judged,
-    strips: u32,
-    workers: u32,
     refine: Refine,
-    gate: &G,
 ) -> Result<MadeTexts, TextsError>
-    requires strips { IsStrips strips }
-    requires workers { IsWorkers workers }
     ensures { MatchResult result
         (λ made. texts_of_judged judged.now refine ≡ Ok (texts_in made))
         (StopsFor (texts_of_judged judged.now refine)) }
 {
     let surveyed = match survey_refined(
-        rt,
-        alloc,
+        crew.rt,
+        crew.alloc,
         &judged.left,
         &judged.right,
         &judged.calib,
-        strips,
-        workers,
+        crew.strips,
+        crew.workers,
         refine,
-        gate,
+        crew.gate,
     ) {
         Ok(surveyed) => surveyed,
         Err(error) => return Err(TextsError::from(error)),
     };
-    match MadeTexts::of(alloc, &judged.calib, &surveyed) {
+    match MadeTexts::of(crew.alloc, &judged.calib, &surveyed) {
         Ok(made) => Ok(made),
         Err(_) => Err(TextsError::NoMemory),
     }

@@ -1,6 +1,5 @@
 ghost use Rattle.std.specs.Prelude.{◌≡◌, ◌↔◌, ◌≤◌, IsTrue, Err};
 ghost use Rattle.sgm_words.specs.Operands.{of_match, bytes_of};
-ghost use Rattle.sgm_words.specs.Ranges.{IsStrips, IsWorkers};
 ghost use Rattle.sgm_words.specs.Words.{read_of};
 ghost use Rattle.sgm_words.specs.declared.usage.UsageFault.{UsageFault};
 ghost use Rattle.sgm_outcome.specs.Lines.{line_of, TakesLine};
@@ -14,7 +13,9 @@ ghost use Rattle.sgm_app.specs.RunEnds.{RunEnds, WordsEnd};
 ghost use Rattle.sgm_app.specs.Unfinished.{AreFinished, RunUnfinished};
 ghost use Rattle.sgm_app.specs.Verdict.{Verdict, outputs_of};
 
+use crate::certificate::TracePlace;
 use crate::change::run_change;
+use crate::crew::Crew;
 use crate::delivery::deliver;
 use crate::demo::run_demo;
 use crate::files::name_texts;
@@ -23,49 +24,44 @@ use crate::merge::run_merge;
 use crate::pipeline::texts;
 use crate::trace::run_trace;
 use crate::{Options, Outcome, read_words, write_fault};
+use sgm_base::Refine;
 use sgm_io::{Shelf, Sink};
-use sgm_refine::Refine;
 use sgm_words::{ChangeWords, MergeWords, OperandWords};
 use sgm_work::Gate;
 use std::alloc::Global;
 use std::thread::Threads;
 
-// Gathers the inputs; makes their texts, which judges and surveys them; names the texts; and delivers them.
+// Gathers the inputs; makes their texts, which judges and surveys them; names the texts; and
+// delivers them.
 fn run_match<R: Threads + Sync, S: Shelf, O: Sink, G: Gate + Sync>(
-    rt: &R,
-    alloc: Global,
+    crew: &Crew<'_, R, G>,
     operands: &OperandWords<'_>,
-    strips: u32,
-    workers: u32,
     refine: Refine,
     shelf: &mut S,
     out: &mut O,
-    gate: &G,
 ) -> Outcome
-    requires strips { IsStrips strips }
-    requires workers { IsWorkers workers }
     ensures { RunEnds (of_match operands.now) (MatchCallsFor operands.now refine) result
         (moment S.Shelf O.Sink shelf.old out.old) (moment S.Shelf O.Sink shelf.new out.new) }
 {
-    let inputs = match gather(alloc, shelf, operands) {
+    let inputs = match gather(crew.alloc, shelf, operands) {
         Ok(inputs) => inputs,
         Err(stop) => return stop.outcome(),
     };
     let texts = match texts(
-        rt,
-        alloc,
+        crew.rt,
+        crew.alloc,
         inputs.left(),
         inputs.right(),
         inputs.calib(),
-        strips,
-        workers,
+        crew.strips,
+        crew.workers,
         refine,
-        gate,
+        crew.gate,
     ) {
         Ok(texts) => texts,
         Err(error) => return error.outcome(),
     };
-    match name_texts(alloc, operands, texts) {
+    match name_texts(crew.alloc, operands, texts) {
         Ok(delivery) => deliver(shelf, out, &delivery),
         Err(_) => Outcome::NoMemory,
     }
@@ -89,25 +85,34 @@ fn carry_out<R: Threads + Sync, S: Shelf, O: Sink, G: Gate + Sync>(
                 strips,
                 workers,
                 refine,
-            } => run_match(
-                rt,
-                alloc,
-                &OperandWords::of(words),
-                strips,
-                workers,
-                refine,
-                shelf,
-                out,
-                gate,
-            ),
+            } => {
+                let crew = Crew {
+                    rt,
+                    alloc,
+                    strips,
+                    workers,
+                    gate,
+                };
+                run_match(&crew, &OperandWords::of(words), refine, shelf, out)
+            }
             Options::Demo {
                 number,
                 strips,
                 workers,
                 refine,
-            } => run_demo(rt, alloc, number, strips, workers, refine, out, gate),
+            } => {
+                let crew = Crew {
+                    rt,
+                    alloc,
+                    strips,
+                    workers,
+                    gate,
+                };
+                run_demo(&crew, number, refine, out)
+            }
             Options::Trace { dir, x, y, d } => {
-                run_trace(alloc, &OperandWords::of(words), dir, x, y, d, shelf, out)
+                let at = TracePlace { dir, x, y, d };
+                run_trace(alloc, &OperandWords::of(words), at, shelf, out)
             }
             Options::Change => run_change(alloc, &ChangeWords::of(words), shelf, out),
             Options::Merge => run_merge(alloc, &MergeWords::of(words), shelf, out),
@@ -117,10 +122,11 @@ fn carry_out<R: Threads + Sync, S: Shelf, O: Sink, G: Gate + Sync>(
 }
 
 /// The tool: from the words after the program's name to the files, the summary and the line of the
-/// outcome. So many workers as the words say match the images, each in a thread of its own where one can
-/// be made, and come to the gate with each strip that they claim; whatever their steps and their order,
-/// each clause stands. What is written is of the map of disparities, refined as the words say. Clauses on
-/// files stand where the shelf tells its bytes, those on what `out` and `err` have received where these do.
+/// outcome. So many workers as the words say match the images, each in a thread of its own where
+/// one can be made, and come to the gate with each strip that they claim; whatever their steps and
+/// their order, each clause stands. What is written is of the map of disparities, refined as the
+/// words say. Clauses on files stand where the shelf tells its bytes, those on what `out` and `err`
+/// have received where these do.
 pub fn run<R: Threads + Sync, S: Shelf, O: Sink, E: Sink, G: Gate + Sync>(
     rt: &R,
     alloc: Global,
@@ -153,7 +159,8 @@ pub fn run<R: Threads + Sync, S: Shelf, O: Sink, E: Sink, G: Gate + Sync>(
     ensures out { IsTrue S.tells → IsTrue O.tells → (v : Verdict)
         → CallsFor (bytes_of words.now) (S.held shelf.old) v
         → OutStands result v (O.written out.old) (O.written out.new) }
-    ensures untouched { IsTrue O.tells → OutUntouched result (O.written out.old) (O.written out.new) }
+    ensures untouched { IsTrue O.tells
+        → OutUntouched result (O.written out.old) (O.written out.new) }
 
     // A fault of reading or writing comes only where its count rose; without one no count changed.
     ensures counts { RunCounts (read_of (bytes_of words.now)) (bytes_of words.now)

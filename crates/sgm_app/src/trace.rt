@@ -5,10 +5,9 @@ ghost use Rattle.sgm_app.specs.Moments.{Keeps, moment};
 ghost use Rattle.sgm_app.specs.RunEnds.{RunEnds};
 
 use crate::Outcome;
-use crate::certificate::certificate;
+use crate::certificate::{TracePlace, certificate};
 use crate::delivery::deliver_summary;
 use crate::gathering::gather;
-use sgm_energy::Dir;
 use sgm_io::{Shelf, Sink};
 use sgm_words::OperandWords;
 use std::alloc::Global;
@@ -17,14 +16,12 @@ use std::alloc::Global;
 pub fn run_trace<S: Shelf, O: Sink>(
     alloc: Global,
     operands: &OperandWords<'_>,
-    dir: Dir,
-    x: u32,
-    y: u32,
-    d: u32,
+    at: TracePlace,
     shelf: &mut S,
     out: &mut O,
 ) -> Outcome
-    ensures ends { RunEnds (of_trace operands.now) (TraceCallsFor operands.now dir x y d) result
+    ensures ends { RunEnds (of_trace operands.now)
+        (TraceCallsFor operands.now at.dir at.x at.y at.d) result
         (moment S.Shelf O.Sink shelf.old out.old) (moment S.Shelf O.Sink shelf.new out.new) }
     ensures keeps { Keeps S.Shelf shelf.old shelf.new }
 {
@@ -32,16 +29,7 @@ pub fn run_trace<S: Shelf, O: Sink>(
         Ok(inputs) => inputs,
         Err(stop) => return stop.outcome(),
     };
-    match certificate(
-        alloc,
-        inputs.left(),
-        inputs.right(),
-        inputs.calib(),
-        dir,
-        x,
-        y,
-        d,
-    ) {
+    match certificate(alloc, inputs.left(), inputs.right(), inputs.calib(), at) {
         Ok(text) => deliver_summary(out, &text),
         Err(error) => error.outcome(),
     }

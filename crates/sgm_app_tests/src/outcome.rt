@@ -1,4 +1,5 @@
-//! The status and the line of each kind of outcome. Stored cases of `sgm_cases` end with each refusal.
+//! The status and the line of each kind of outcome. Stored cases of `sgm_cases` end with each
+//! refusal.
 
 use sgm_io::MemorySink;
 use sgm_outcome::{Outcome, Refusal, write_fault};

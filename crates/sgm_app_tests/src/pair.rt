@@ -1,5 +1,5 @@
+use sgm_app::pair;
 use sgm_base::{Image, Size};
-use sgm_pair::pair;
 use std::test::Fail;
 
 /// Whether the sample at this place is this one, and the image has values to 255.

@@ -1,5 +1,7 @@
--- Which columns of the two images stand for each other. The index d stands for the disparity first + d.
-use Rattle.std.specs.Prelude.{ℕ, Option, Some, None, nat_lt, if◌then◌else◌, ℤ, pos, negsuc, ◌+ℤ◌, ◌-ℤ◌}
+-- Which columns of the two images stand for each other. The index d stands for the disparity
+-- first + d.
+use Rattle.std.specs.Prelude.{ℕ, Option, Some, None, nat_lt, if◌then◌else◌, ℤ, pos, negsuc, ◌+ℤ◌}
+use Rattle.std.specs.Prelude.{◌-ℤ◌}
 
 -- z, where that is a column of an image so wide
 abbrev pub column_within : ℕ → ℤ → Option ℕ

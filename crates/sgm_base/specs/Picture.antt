@@ -19,4 +19,9 @@ pub record IsPicture (image : Picture) : Type 0 where
 
 -- the image with these sides, this maxval and these samples
 abbrev pub picture : ℕ → ℕ → ℕ → List ℕ → Picture
-picture width height maxval samples = record { width = width; height = height; maxval = maxval; samples = samples }
+picture width height maxval samples = record {
+  width = width;
+  height = height;
+  maxval = maxval;
+  samples = samples;
+}

@@ -1,5 +1,7 @@
 -- What contracts see of a plane and of a disparity map: a value or none for each pixel.
-use Rattle.std.specs.Prelude.{◌≡◌, ℕ, ◌+◌, ◌*◌, ◌/◌, ◌%◌, ◌≤◌, List, length, map, Option, None, IfSome, All, take, drop, replicate, slice_index_or, nat_lt, ◌&&◌, if◌then◌else◌}
+use Rattle.std.specs.Prelude.{◌≡◌, ℕ, ◌+◌, ◌*◌, ◌/◌, ◌%◌, ◌≤◌, List, length, map, Option, None}
+use Rattle.std.specs.Prelude.{IfSome, All, take, drop, replicate, slice_index_or, nat_lt, ◌&&◌}
+use Rattle.std.specs.Prelude.{if◌then◌else◌}
 use Rattle.std.specs.List.{range_with_len}
 use Rattle.sgm_base.specs.Sides.{IsSide}
 
@@ -30,7 +32,9 @@ row_of values y = take values.width (drop (y * values.width) values.entries)
 -- the value of the pixel (x, y), none where it is void or outside
 abbrev pub value_at : Values → ℕ → ℕ → Option ℕ
 value_at plane x y =
-    if nat_lt x plane.width && nat_lt y plane.height then slice_index_or plane.entries (y * plane.width + x) None else None
+    if nat_lt x plane.width
+    && nat_lt y plane.height then slice_index_or plane.entries (y * plane.width + x) None
+    else None
 
 -- what f gives for each pixel (x, y) of an image, row by row
 unfoldable pub row_by_row : {X : Type 0} → ℕ → ℕ → (ℕ → ℕ → X) → List X

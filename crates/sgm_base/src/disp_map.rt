@@ -5,8 +5,8 @@ use crate::{Plane, Size};
 use std::alloc::{AllocError, Global};
 use std::marker::Model;
 
-/// A disparity for each pixel, row by row, or None where there is none. A value is the disparity, less the
-/// first, in sixteenths.
+/// A disparity for each pixel, row by row, or None where there is none. A value is the disparity,
+/// less the first, in sixteenths.
 #[derive(Drop)]
 pub struct DispMap {
     plane: Plane,

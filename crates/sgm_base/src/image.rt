@@ -17,15 +17,18 @@ impl Model for Image {
 
     ghost view = { λ i. picture i.size.width i.size.height i.maxval i.samples.items };
 
-    ghost invariant = { λ i. IsPicture (picture i.size.width i.size.height i.maxval i.samples.items) };
+    ghost invariant = { λ i.
+        IsPicture (picture i.size.width i.size.height i.maxval i.samples.items) };
 }
 
 impl Image {
-    /// None exactly where the list has not width * height samples, `maxval` is 0, or a sample is above
-    /// `maxval`. Takes no memory.
+    /// None exactly where the list has not width * height samples, `maxval` is 0, or a sample is
+    /// above `maxval`. Takes no memory.
     pub fn make(size: Size, maxval: u16, samples: Vec<u16>) -> Option<Image>
-        ensures exact { IsSome result ↔ IsPicture (picture size.width size.height maxval samples.items) }
-        ensures made { IfSome result (λ i. i ≡ picture size.width size.height maxval samples.items) }
+        ensures exact { IsSome result
+            ↔ IsPicture (picture size.width size.height maxval samples.items) }
+        ensures made { IfSome result (λ i. i
+            ≡ picture size.width size.height maxval samples.items) }
     {
         if samples.len() == size.pixels() && maxval >= 1 && samples.iter().all(|s| *s <= maxval) {
             Some(Image {

@@ -39,6 +39,9 @@ pub const MAX_SUM: u16 = 32_496;
 /// The greatest value of a disparity map, in sixteenths: that of the last index.
 pub const MAX_DISPARITY: u16 = 4080;
 
+/// The greatest number of pixels that a segment may be asked to have: those of the greatest image.
+pub const MAX_PEAK: u32 = 16_777_216;
+
 /// The greatest number of strips that an image is cut into.
 pub const MAX_STRIPS: u32 = 64;
 

@@ -1,4 +1,5 @@
-ghost use Rattle.std.specs.Prelude.{◌≡◌, ℕ, ◌+◌, ◌-◌, ◌<◌, ◌≤◌, ◌&&◌, nat_le, nat_lt, if◌then◌else◌, Some, None};
+ghost use Rattle.std.specs.Prelude.{◌≡◌, ℕ, ◌+◌, ◌-◌, ◌<◌, ◌≤◌, ◌&&◌, nat_le, nat_lt};
+ghost use Rattle.std.specs.Prelude.{if◌then◌else◌, Some, None};
 ghost use Rattle.sgm_base.specs.Columns.{left_column};
 
 use crate::Span;
@@ -18,7 +19,9 @@ impl Overlap {
         ensures indices { result.skipped + result.len ≤ span.count }
         ensures columns { result.start + result.len ≤ width }
         ensures each { (d : ℕ) → d < span.count → left_column width span.first at d
-            ≡ (if nat_le result.skipped d && nat_lt d (result.skipped + result.len) then Some (result.start + (d - result.skipped)) else None) }
+            ≡ (if nat_le result.skipped d
+            && nat_lt d (result.skipped + result.len)
+            then Some (result.start + (d - result.skipped)) else None) }
     {
         let shift = span.first.unsigned_abs() as usize;
         let count = span.count as usize;

@@ -31,7 +31,8 @@ impl Plane {
         Ok(Plane { size, entries })
     }
 
-    /// The plane with these entries; None exactly where they are not width * height. Takes no memory.
+    /// The plane with these entries; None exactly where they are not width * height. Takes no
+    /// memory.
     pub fn make(size: Size, entries: Vec<Option<u16>>) -> Option<Plane>
         ensures exact { IsSome result ↔ (length entries.items ≡ size.width * size.height) }
         ensures made { IfSome result (λ p. p ≡ values_of size.width size.height entries.items) }

@@ -4,7 +4,8 @@ ghost use Rattle.sgm_base.specs.Disparities.{Disparities, IsCount, IsFirst};
 use crate::limits::{MAX_COUNT, MAX_FIRST, MIN_FIRST};
 use std::marker::Model;
 
-/// The disparities that are tried: `count` of them from `first` on. The index `d` stands for `first + d`.
+/// The disparities that are tried: `count` of them from `first` on. The index `d` stands for
+/// `first + d`.
 #[derive(Clone, Copy, PartialEq, Eq)]
 pub struct Span {
     pub first: i32,

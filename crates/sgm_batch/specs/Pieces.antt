@@ -5,7 +5,7 @@ use Rattle.sgm_pgm.specs.Read.{Reads}
 use Rattle.sgm_pgm.specs.declared.fault.PgmFault.{PgmFault}
 use Rattle.sgm_calib.specs.Calibration.{Calibration}
 use Rattle.sgm_calib.specs.declared.keys.CalibFault.{CalibFault}
-use Rattle.sgm_refine.specs.Refining.{plain}
+use Rattle.sgm_base.specs.Refining.{plain}
 use Rattle.sgm_app.specs.declared.made.MadeTexts.{MadeTexts}
 use Rattle.sgm_app.specs.declared.stops.TextsError.{TextsError}
 use Rattle.sgm_app.specs.Inputs.{InputBytes}
@@ -13,10 +13,11 @@ use Rattle.sgm_app.specs.Judge.{CalibReads, StopsFor}
 use Rattle.sgm_app.specs.Made.{texts_in}
 use Rattle.sgm_app.specs.Verdict.{texts_for}
 
--- the texts are those that the inputs call for where nothing is removed or filled, whatever their readings; or they are refused
--- as the inputs are; or there was no memory
+-- the texts are those that the inputs call for where nothing is removed or filled, whatever their
+-- readings; or they are refused as the inputs are; or there was no memory
 abbrev pub IsMadeOf : InputBytes → Result MadeTexts TextsError → Type 0
-IsMadeOf inputs made = (left right : Result Picture PgmFault) (calib : Result Calibration CalibFault)
+IsMadeOf inputs made = (left right : Result Picture PgmFault)
+    (calib : Result Calibration CalibFault)
     → Reads inputs.left left → Reads inputs.right right → CalibReads inputs.calib calib
     → MatchResult made
     (λ texts. texts_for left right calib plain ≡ Ok (texts_in texts))

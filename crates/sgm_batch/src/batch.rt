@@ -1,6 +1,7 @@
 //! The batch.
 ghost use Rattle.std.specs.Prelude.{◌≡◌, ◌≤◌, ◌<◌, ℕ, [], map, None, Some, IfOk};
-ghost use Rattle.std.specs.Prelude.{All, length, slice_get, slice_index_or, replicate, vec_capacity, vec_len};
+ghost use Rattle.std.specs.Prelude.{All, length, slice_get, slice_index_or, replicate};
+ghost use Rattle.std.specs.Prelude.{vec_capacity, vec_len};
 ghost use Rattle.sgm_draws.specs.Tickets.{AreNew, IsTicketOf, new_ticket, parts_of, tickets_of};
 ghost use Rattle.sgm_draws.specs.declared.limits.TheConstants.{MAX_NUMBERS, MAX_TICKETS};
 ghost use Rattle.sgm_queue.specs.Queues.{HasBoth, IsQueuePassOf, log_of};
@@ -39,11 +40,14 @@ fn worker_of(
     pass: QueuePass<Piece>,
 ) -> Result<Worker, AllocError>
     requires job { IsJob job.now × (0 < length job.now.inputs.now) }
-    requires ticket { IsTicketOf job.now.draws.now ticket × (parts_of ticket ≡ new_ticket (parts_of ticket).number) }
-    requires pass { IsQueuePassOf job.now.queue.now pass × (log_of pass ≡ log (log_of pass).shares [] []) }
+    requires ticket { IsTicketOf job.now.draws.now ticket
+        × (parts_of ticket ≡ new_ticket (parts_of ticket).number) }
+    requires pass { IsQueuePassOf job.now.queue.now pass
+        × (log_of pass ≡ log (log_of pass).shares [] []) }
     ensures can_work { IfOk result (CanWork job.now) }
     ensures shares { IfOk result (λ worker. (log_of worker.pass).shares ≡ (log_of pass).shares) }
-    ensures gathered { IfOk result (λ worker. (parts_of worker.ticket).gathered ≡ (parts_of ticket).gathered) }
+    ensures gathered { IfOk result (λ worker. (parts_of worker.ticket).gathered
+        ≡ (parts_of ticket).gathered) }
 {
     let kept = places(alloc, job.inputs.len())?;
     Ok(Worker { ticket, pass, kept })
@@ -56,7 +60,8 @@ fn one_worker(
     ticket: Ticket,
     pass: QueuePass<Piece>,
 ) -> Result<Vec<Worker>, AllocError>
-    requires job { IsJob job.now × (0 < length job.now.inputs.now) × (tickets_of job.now.draws.now ≡ 1) }
+    requires job { IsJob job.now × (0 < length job.now.inputs.now)
+        × (tickets_of job.now.draws.now ≡ 1) }
     requires ticket { IsTicketOf job.now.draws.now ticket × (parts_of ticket ≡ new_ticket 0) }
     requires pass { IsQueuePassOf job.now.queue.now pass × (log_of pass ≡ first) }
     ensures can_work { IfOk result (λ crew. All (CanWork job.now) crew.items) }
@@ -77,7 +82,8 @@ fn two_workers(
     other: Ticket,
     mut pass: QueuePass<Piece>,
 ) -> Result<Vec<Worker>, AllocError>
-    requires job { IsJob job.now × (0 < length job.now.inputs.now) × (tickets_of job.now.draws.now ≡ 2) }
+    requires job { IsJob job.now × (0 < length job.now.inputs.now)
+        × (tickets_of job.now.draws.now ≡ 2) }
     requires one { IsTicketOf job.now.draws.now one × (parts_of one ≡ new_ticket 0) }
     requires other { IsTicketOf job.now.draws.now other × (parts_of other ≡ new_ticket 1) }
     requires pass { IsQueuePassOf job.now.queue.now pass × (log_of pass ≡ first) }
@@ -102,7 +108,8 @@ fn crew_of(
     pass: QueuePass<Piece>,
 ) -> Result<Vec<Worker>, AllocError>
     requires job { IsJob job.now × (0 < length job.now.inputs.now) }
-    requires count { (vec_len tickets ≡ tickets_of job.now.draws.now) × (1 ≤ vec_len tickets) × (vec_len tickets ≤ MAX_TICKETS) }
+    requires count { (vec_len tickets ≡ tickets_of job.now.draws.now) × (1 ≤ vec_len tickets)
+        × (vec_len tickets ≤ MAX_TICKETS) }
     requires tickets { AreNew job.now.draws.now tickets.items }
     requires pass { IsQueuePassOf job.now.queue.now pass × (log_of pass ≡ first) }
     ensures can_work { IfOk result (λ crew. All (CanWork job.now) crew.items) }
@@ -150,7 +157,9 @@ fn run_all<R: Threads + Wait + Sync, G: Gate + Sync>(
 fn take_over(places: &mut [Option<Piece>], mut kept: Vec<Option<Piece>>)
     requires count { vec_len kept ≡ length places.old }
     ensures count { length places.new ≡ length places.old }
-    ensures each { (place : ℕ) → slice_get places.new place ≡ chosen (slice_get kept.items place) (slice_get places.old place) }
+    ensures each { (place : ℕ)
+        → slice_get places.new place
+        ≡ chosen (slice_get kept.items place) (slice_get places.old place) }
 {
     for place in 0..kept.len() {
         if let Some(piece) = kept[place].take() {
@@ -222,10 +231,10 @@ fn collect(places: Vec<Option<Piece>>, mut pieces: Vec<Piece>) -> Vec<Piece>
     pieces
 }
 
-/// A piece for each of the inputs, in their order, made by so many workers: each draws entries until none
-/// is left, comes to the gate with each, and makes its piece in one strip. At most
-/// [`sgm_draws::MAX_NUMBERS`] inputs and [`sgm_draws::MAX_TICKETS`] workers. An error comes before a worker
-/// starts.
+/// A piece for each of the inputs, in their order, made by so many workers: each draws entries
+/// until none is left, comes to the gate with each, and makes its piece in one strip. At most
+/// [`sgm_draws::MAX_NUMBERS`] inputs and [`sgm_draws::MAX_TICKETS`] workers. An error comes before
+/// a worker starts.
 pub fn work_batch<R: Threads + Wait + Sync, G: Gate + Sync>(
     rt: &R,
     alloc: Global,
@@ -236,7 +245,8 @@ pub fn work_batch<R: Threads + Wait + Sync, G: Gate + Sync>(
     requires inputs { (1 ≤ length inputs.now) × (length inputs.now ≤ MAX_NUMBERS) }
     requires workers { (1 ≤ workers) × (workers ≤ MAX_TICKETS) }
     ensures count { IfOk result (λ pieces. vec_len pieces ≡ length inputs.now) }
-    ensures each { IfOk result (λ pieces. (entry : ℕ) (piece : PieceParts) → slice_get pieces.items entry ≡ Some piece
+    ensures each { IfOk result (λ pieces. (entry : ℕ) (piece : PieceParts)
+        → slice_get pieces.items entry ≡ Some piece
         → (piece.entry ≡ entry) × IsPieceOf inputs.now piece) }
 {
     let count = inputs.len();

@@ -9,8 +9,8 @@ use std::marker::Model;
 use std::snapshot::Snapshot;
 use std::thread::Threads;
 
-/// What a worker made of the inputs of an entry: their texts, unless they are refused or there was no
-/// memory.
+/// What a worker made of the inputs of an entry: their texts, unless they are refused or there was
+/// no memory.
 #[derive(Drop)]
 pub struct Piece {
     entry: u32,
@@ -24,13 +24,19 @@ impl Model for Piece {
 
     ghost Value = { PieceParts };
 
-    ghost view = { λ p. record { entry = p.entry; worker = p.worker; inputs = p.inputs.value; made = p.made } };
+    ghost view = { λ p. record {
+      entry = p.entry;
+      worker = p.worker;
+      inputs = p.inputs.value;
+      made = p.made;
+    } };
 
     ghost invariant = { λ p. IsMadeOf p.inputs.value p.made };
 }
 
 impl Piece {
-    /// The piece of the entry with which a worker came to the gate, made by that worker in one strip.
+    /// The piece of the entry with which a worker came to the gate, made by that worker in one
+    /// strip.
     pub(crate) fn make<R: Threads + Sync, G>(
         rt: &R,
         alloc: Global,

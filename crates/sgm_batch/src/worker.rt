@@ -2,7 +2,8 @@
 ghost use Rattle.std.specs.Prelude.{◌≡◌, ◌<◌, length};
 ghost use Rattle.sgm_draws.specs.Tickets.{parts_of};
 ghost use Rattle.sgm_queue.specs.Queues.{log_of};
-ghost use Rattle.sgm_batch.specs.Batches.{CanWork, Covers, HasPiece, IsAtWork, IsDone, IsJob, IsSameWorker};
+ghost use Rattle.sgm_batch.specs.Batches.{CanWork, Covers, HasPiece, IsAtWork, IsDone, IsJob};
+ghost use Rattle.sgm_batch.specs.Batches.{IsSameWorker};
 
 use crate::piece::Piece;
 use sgm_app::Inputs;
@@ -13,8 +14,8 @@ use std::alloc::Global;
 use std::sync::Wait;
 use std::thread::Threads;
 
-/// A worker's own place: what it draws with, whose number is the worker's, what it pushes with, and by entry
-/// the pieces that the queue didn't take.
+/// A worker's own place: what it draws with, whose number is the worker's, what it pushes with, and
+/// by entry the pieces that the queue didn't take.
 #[derive(Drop)]
 pub struct Worker {
     pub ticket: Ticket,

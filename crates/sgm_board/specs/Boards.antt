@@ -49,8 +49,8 @@ pub record IsIdle (p : PassParts) : Type 0 where
 abbrev pub HasAll : ℕ → PassParts → Type 0
 HasAll made p = (number : ℕ) → number < made → p.gathered number ≡ true
 
--- the parcel is that of the strip that the pass holds, of the board's scene and cut, with the directions done that the pass
--- shows
+-- the parcel is that of the strip that the pass holds, of the board's scene and cut, with the
+-- directions done that the pass shows
 pub record IsHeld (board : Board) (p : PassParts) (parcel : ParcelParts) : Type 0 where
   pub of_board : IsOf (scene_of board) (cut_of board) parcel
   pub held : p.strip ≡ Some parcel.strip
@@ -62,4 +62,5 @@ IsFrontOn board front = (front.scene ≡ scene_of board) × (front.cut ≡ cut_o
 
 -- the front went through this strip last, with this worker
 abbrev pub IsLastBy : FrontParts → ℕ → ℕ → Type 0
-IsLastBy front strip worker = slice_get front.visits (length front.visits - 1) ≡ Some (visit_of strip worker)
+IsLastBy front strip worker = slice_get front.visits (length front.visits - 1)
+    ≡ Some (visit_of strip worker)

@@ -12,4 +12,5 @@ pub record IsDealt (table : TableId) (about : About) (number : ℕ) (pass : Pass
 
 -- the new passes 0, 1, 2 and so on
 abbrev pub AreDealt : TableId → About → List Pass → Type 0
-AreDealt table about passes = (number : ℕ) (pass : Pass) → slice_get passes number ≡ Some pass → IsDealt table about number pass
+AreDealt table about passes = (number : ℕ) (pass : Pass) → slice_get passes number ≡ Some pass
+    → IsDealt table about number pass

@@ -10,7 +10,8 @@ use Rattle.sgm_board.specs.declared.slot.Slot.TheVariants.{OfStrip, OfFront}
 
 -- the first six slots have fronts, and those of so many strips have parcels
 abbrev pub HaveFronts : List Slot → Type 0
-HaveFronts slots = (place : ℕ) → place < 6 → (front : FrontParts) × (get_elem? slots place ≡ some (OfFront front))
+HaveFronts slots = (place : ℕ) → place < 6
+    → (front : FrontParts) × (get_elem? slots place ≡ some (OfFront front))
 
 abbrev pub HaveParcels : List Slot → ℕ → Type 0
 HaveParcels slots strips = (strip : ℕ) → strip < strips
@@ -22,5 +23,6 @@ AreFirstFronts slots fronts = (place : ℕ) (front : FrontParts) → slice_get f
     → get_elem? slots place ≡ some (OfFront front)
 
 abbrev pub AreFirstParcels : List Slot → List ParcelParts → Type 0
-AreFirstParcels slots parcels = (strip : ℕ) (parcel : ParcelParts) → slice_get parcels strip ≡ Some parcel
+AreFirstParcels slots parcels = (strip : ℕ) (parcel : ParcelParts)
+    → slice_get parcels strip ≡ Some parcel
     → get_elem? slots (strip_word strip) ≡ some (OfStrip parcel)

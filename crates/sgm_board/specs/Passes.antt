@@ -1,6 +1,7 @@
 -- What contracts see of a pass, and what each kind of step leaves of it.
 use Rattle.std.specs.Prelude.{◌≡◌, ℕ, ◌+◌, ◌*◌, ◌≤◌, ◌<◌, Bool, true, false}
-use Rattle.std.specs.Prelude.{◌||◌, ◌==◌, nat_lt, Option, Some, None, slice_index, max, if◌then◌else◌}
+use Rattle.std.specs.Prelude.{◌||◌, ◌==◌, nat_lt, Option, Some, None, slice_index, max}
+use Rattle.std.specs.Prelude.{if◌then◌else◌}
 use Rattle.sgm_energy.specs.declared.dir.Dir.{Dir}
 use Rattle.sgm_energy.specs.Dirs.{is_level, number_of}
 use Rattle.sgm_handover.specs.Handover.{changed}
@@ -15,7 +16,8 @@ pub record PassParts : Type 0 where
   -- the strip that it holds, and the direction whose front it has
   pub strip : Option ℕ
   pub front : Option Dir
-  -- which directions it shows as done in the strip held, and which words of directions it has read since its claim
+  -- which directions it shows as done in the strip held, and which words of directions it has read
+  -- since its claim
   pub done : Dir → Bool
   pub read : Dir → Bool
   -- by word the value last seen, and how often the pass looked at it
@@ -61,12 +63,20 @@ new_pass number = record {
 -- one look at a word, which was found so
 abbrev pub after_look : PassParts → ℕ → ℕ → PassParts
 after_look p word found =
-    record p { seen = changed (λ n. n) p.seen word found; looks = changed (λ n. n) p.looks word (p.looks word + 1) }
+    record p {
+      seen = changed (λ n. n) p.seen word found;
+      looks = changed (λ n. n) p.looks word (p.looks word + 1);
+    }
 
 -- the strip is held, with these directions done. No direction's word was read since
 abbrev pub after_claim : PassParts → ℕ → (Dir → Bool) → PassParts
 after_claim p strip done =
-    record p { strip = Some strip; done = done; read = λ _. false; claims = changed (λ n. n) p.claims strip (p.claims strip + 1) }
+    record p {
+      strip = Some strip;
+      done = done;
+      read = λ _. false;
+      claims = changed (λ n. n) p.claims strip (p.claims strip + 1);
+    }
 
 -- the strip is given back. Nothing is shown of it any more
 abbrev pub after_return : PassParts → PassParts
@@ -75,7 +85,11 @@ after_return p = record p { strip = None; done = λ _. false; read = λ _. false
 -- one try more of this direction at this strip
 abbrev pub after_try : PassParts → ℕ → Dir → PassParts
 after_try p strip dir =
-    record p { tries = changed (λ n. n) p.tries strip (changed number_of (p.tries strip) dir (p.tries strip dir + 1)) }
+    record p {
+      tries =
+          changed (λ n. n) p.tries strip
+          (changed number_of (p.tries strip) dir (p.tries strip dir + 1));
+    }
 
 -- the pass has the front of this direction
 abbrev pub after_take : PassParts → Dir → PassParts
@@ -83,10 +97,14 @@ after_take p dir = record p { front = Some dir }
 
 -- the front is put back, and its direction is done in the strip held
 abbrev pub after_put : PassParts → Dir → PassParts
-after_put p dir = record p { front = None; done = changed number_of p.done dir true; puts = p.puts + 1 }
+after_put p dir = record p {
+  front = None;
+  done = changed number_of p.done dir true;
+  puts = p.puts + 1;
+}
 
--- The pass has read the word of each direction that is not level, each once, and has made no other step. No such word was
--- above twice the number of strips
+-- The pass has read the word of each direction that is not level, each once, and has made no other
+-- step. No such word was above twice the number of strips
 pub record HasReadAll (strips : ℕ) (p q : PassParts) : Type 0 where
   pub most : (word : ℕ) → word < 6 → q.seen word ≤ 2 * strips
   pub read : q ≡ record p {
@@ -95,8 +113,9 @@ pub record HasReadAll (strips : ℕ) (p q : PassParts) : Type 0 where
     looks = λ word. if nat_lt word 6 then p.looks word + 1 else p.looks word;
   }
 
--- The pass has gathered the numbers of both, and of each direction's word it has the later value seen, which is the greater.
--- Of the values of a strip's word, and of looks, claims, tries and puts, nothing is said
+-- The pass has gathered the numbers of both, and of each direction's word it has the later value
+-- seen, which is the greater. Of the values of a strip's word, and of looks, claims, tries and
+-- puts, nothing is said
 pub record HasJoined (p other q : PassParts) : Type 0 where
   pub same_number : q.number ≡ p.number
   pub gathered : (number : ℕ) → q.gathered number ≡ (p.gathered number || other.gathered number)

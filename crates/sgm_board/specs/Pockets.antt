@@ -1,5 +1,6 @@
 -- What the seat of a pass has between two calls. No public clause speaks of this.
-use Rattle.std.specs.Prelude.{◌≡◌, ℕ, ◌+◌, ◌*◌, ◌<◌, ◌≤◌, true, false, List, [], ◌∷◌, slice_index, Option, Some, None}
+use Rattle.std.specs.Prelude.{◌≡◌, ℕ, ◌+◌, ◌*◌, ◌<◌, ◌≤◌, true, false, List, [], ◌∷◌, slice_index}
+use Rattle.std.specs.Prelude.{Option, Some, None}
 use Rattle.sgm_energy.specs.declared.dir.Dir.{Dir}
 use Rattle.sgm_energy.specs.Dirs.{is_level}
 use Rattle.sgm_board.specs.Tallies.{has}
@@ -9,8 +10,8 @@ use Rattle.sgm_board.specs.declared.view.View.{View}
 use Rattle.sgm_board.specs.declared.slot.Slot.{Slot}
 use Rattle.sgm_board.specs.declared.slot.Slot.TheVariants.{Empty}
 
--- the slots that a pass has out: that of the strip held and then that of the front. They are empty, since the pass has the
--- parcel and the front themselves
+-- the slots that a pass has out: that of the strip held and then that of the front. They are empty,
+-- since the pass has the parcel and the front themselves
 abbrev pub pocket : Option ℕ → Option Dir → List (ℕ × Slot)
 pocket None front = []
 pocket (Some strip) None = (strip_word strip, Empty) ∷ []
@@ -18,7 +19,8 @@ pocket (Some strip) (Some dir) = (dir_word dir, Empty) ∷ (strip_word strip, Em
 
 -- a pass that holds a strip has read the word of each direction since it claimed it
 abbrev pub ReadsAll : View → Type 0
-ReadsAll v = (strip : ℕ) (dir : Dir) → v.strip ≡ Some strip → is_level dir ≡ false → has_read v dir ≡ true
+ReadsAll v = (strip : ℕ) (dir : Dir) → v.strip ≡ Some strip → is_level dir ≡ false
+    → has_read v dir ≡ true
 
 -- w is what v becomes where the words below k, of k directions, are read one after the other
 pub record HasRead (strips k : ℕ) (v w : View) : Type 0 where

@@ -1,5 +1,6 @@
 -- Lists as sets of numbers, and as numbers by place.
-use Rattle.std.specs.Prelude.{ℕ, zero, suc, ◌+◌, Bool, false, ◌||◌, ◌==◌, List, [], ◌∷◌, slice_index, max}
+use Rattle.std.specs.Prelude.{ℕ, zero, suc, ◌+◌, Bool, false, ◌||◌, ◌==◌, List, [], ◌∷◌}
+use Rattle.std.specs.Prelude.{slice_index, max}
 
 abbrev pub has : List ℕ → ℕ → Bool
 has [] x = false

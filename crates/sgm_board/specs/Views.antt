@@ -1,5 +1,6 @@
 -- What a pass knows, and how each of its steps changes that.
-use Rattle.std.specs.Prelude.{◌≡◌, ℕ, ◌+◌, ◌*◌, Bool, true, ◌&&◌, ◌||◌, List, [], ◌∷◌, ◌++◌, Option, Some, None, is_some}
+use Rattle.std.specs.Prelude.{◌≡◌, ℕ, ◌+◌, ◌*◌, Bool, true, ◌&&◌, ◌||◌, List, [], ◌∷◌, ◌++◌, Option}
+use Rattle.std.specs.Prelude.{Some, None, is_some}
 use Rattle.sgm_energy.specs.declared.dir.Dir.{Dir}
 use Rattle.sgm_energy.specs.Dirs.{is_level}
 use Rattle.sgm_strip.specs.Parcels.{is_done}
@@ -55,16 +56,29 @@ dealt_view v = dealer_of v.about v.gathered
 
 -- a pass with the numbers of both, and with the later value seen of each direction's word
 abbrev pub joined_view : View → View → View
-joined_view v w = record v { gathered = v.gathered ++ w.gathered; seen = greater v.seen w.seen; looks = greater v.looks w.looks }
+joined_view v w = record v {
+  gathered = v.gathered ++ w.gathered;
+  seen = greater v.seen w.seen;
+  looks = greater v.looks w.looks;
+}
 
 -- one look at a word, which was found so
 abbrev pub after_look : View → ℕ → ℕ → View
-after_look v word found = record v { seen = put_at v.seen word found; looks = one_more v.looks word }
+after_look v word found = record v {
+  seen = put_at v.seen word found;
+  looks = one_more v.looks word;
+}
 
 -- a strip is held, in whose parcel these directions are done. No direction's word was read since
 abbrev pub after_claim : View → ℕ → List Bool → View
 after_claim v strip done =
-    record v { strip = Some strip; done_at_claim = done; put_since = []; read_since = []; claims = one_more v.claims strip }
+    record v {
+      strip = Some strip;
+      done_at_claim = done;
+      put_since = [];
+      read_since = [];
+      claims = one_more v.claims strip;
+    }
 
 -- the word of one direction more was read since the claim
 abbrev pub after_read : View → ℕ → View
@@ -86,10 +100,14 @@ after_take v dir = record v { front = Some dir }
 
 -- the front is put back, and its direction is done in the strip held
 abbrev pub after_put : View → Dir → View
-after_put v dir = record v { front = None; put_since = dir_word dir ∷ v.put_since; puts = v.puts + 1 }
+after_put v dir = record v {
+  front = None;
+  put_since = dir_word dir ∷ v.put_since;
+  puts = v.puts + 1;
+}
 
--- whether the direction is done in the parcel of the strip held: it was when the strip was claimed, or its front was put
--- since
+-- whether the direction is done in the parcel of the strip held: it was when the strip was claimed,
+-- or its front was put since
 abbrev pub is_known_done : View → Dir → Bool
 is_known_done v dir = is_done v.done_at_claim dir || has v.put_since (dir_word dir)
 
@@ -97,7 +115,7 @@ is_known_done v dir = is_done v.done_at_claim dir || has v.put_since (dir_word d
 abbrev pub has_read : View → Dir → Bool
 has_read v dir = has v.read_since (dir_word dir)
 
--- whether the pass shows the direction as done in the strip held: the level ones always, the others once it has read their
--- words
+-- whether the pass shows the direction as done in the strip held: the level ones always, the others
+-- once it has read their words
 abbrev pub shows_done : View → Dir → Bool
 shows_done v dir = is_some v.strip && (is_level dir || (has_read v dir && is_known_done v dir))

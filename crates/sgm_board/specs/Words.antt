@@ -3,7 +3,8 @@ use Rattle.std.specs.Prelude.{ℕ, ◌+◌, ◌-◌}
 use Rattle.sgm_energy.specs.declared.dir.Dir.{Dir}
 use Rattle.sgm_energy.specs.Dirs.{number_of}
 
--- those of a direction that is not level have the number of its front, 0 to 5. Nothing is said of a level one
+-- those of a direction that is not level have the number of its front, 0 to 5. Nothing is said of a
+-- level one
 abbrev pub dir_word : Dir → ℕ
 dir_word dir = number_of dir - 2
 

@@ -11,10 +11,10 @@ use atomic_table::Table;
 use sgm_strip::{Cut, Front, Parcel};
 use std::alloc::Global;
 
-/// The parcels and the fronts of a scene, which passes hand to one another: a word and a slot for each of
-/// the six fronts, and then one of each for each strip. The word of a front's direction is twice the
-/// number of strips that the front has passed, and 1 more while a pass has the front. That of a strip is
-/// 1 while a pass holds it, else 0.
+/// The parcels and the fronts of a scene, which passes hand to one another: a word and a slot for
+/// each of the six fronts, and then one of each for each strip. The word of a front's direction is
+/// twice the number of strips that the front has passed, and 1 more while a pass has the front.
+/// That of a strip is 1 while a pass holds it, else 0.
 #[derive(Drop)]
 pub struct Board {
     pub(crate) table: Table<Slot, View, Plan, HandOver, Global>,

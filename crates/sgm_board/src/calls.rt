@@ -23,9 +23,9 @@ impl Board {
         self.cut.strips
     }
 
-    /// Claims a strip that nobody holds, and gives its parcel: the pass then holds the strip, shows the
-    /// directions done in the parcel, and has read the word of each direction. None only where the word
-    /// of the strip, which was looked at once in this call, was 1.
+    /// Claims a strip that nobody holds, and gives its parcel: the pass then holds the strip, shows
+    /// the directions done in the parcel, and has read the word of each direction. None only where
+    /// the word of the strip, which was looked at once in this call, was 1.
     pub fn try_claim(&self, pass: &mut Pass, strip: u32) -> Option<Parcel>
         requires own { IsPassOf self.now pass.old }
         requires idle { IsIdle (parts_of pass.old) }
@@ -37,14 +37,15 @@ impl Board {
         ensures some { let looked = after_look (parts_of pass.old) (strip_word strip) 0 in
             IfSome result (λ parcel. let claimed = after_claim looked strip (is_done parcel.done) in
             HasReadAll (strips_of self.now) claimed (parts_of pass.new)) }
-        ensures none { IfNone result (parts_of pass.new ≡ after_look (parts_of pass.old) (strip_word strip) 1) }
+        ensures none { IfNone result (parts_of pass.new
+            ≡ after_look (parts_of pass.old) (strip_word strip) 1) }
     {
         steps::claim(&self.table.shared, &mut pass.seat, strip)
     }
 
-    /// Takes the front of a direction that is not level, if the strip held is the one that comes next for
-    /// it and no pass has it. None only where the direction's word, which was looked at once in this call,
-    /// was not twice the strip's position.
+    /// Takes the front of a direction that is not level, if the strip held is the one that comes
+    /// next for it and no pass has it. None only where the direction's word, which was looked at
+    /// once in this call, was not twice the strip's position.
     pub fn try_take(&self, pass: &mut Pass, parcel: &Parcel, dir: Dir) -> Option<Front>
         requires own { IsPassOf self.now pass.old }
         requires bare { (parts_of pass.old).front ≡ None }
@@ -57,20 +58,22 @@ impl Board {
             IfSome result (λ front. length front.visits ≡ position) }
         ensures left { IfSome result (λ _. is_done parcel.now.done dir ≡ false) }
         ensures some { let due = 2 * position_of dir parcel.now.strip (strips_of self.now) in
-            let tried = after_try (after_look (parts_of pass.old) (dir_word dir) due) parcel.now.strip dir in
+            let tried =
+            after_try (after_look (parts_of pass.old) (dir_word dir) due) parcel.now.strip dir in
             IfSome result (λ _. parts_of pass.new ≡ after_take tried dir) }
         ensures none { let due = 2 * position_of dir parcel.now.strip (strips_of self.now) in
             IfNone result ((found : ℕ) × (found ≢ due)
             × (parts_of pass.new
-            ≡ after_try (after_look (parts_of pass.old) (dir_word dir) found) parcel.now.strip dir)) }
+            ≡ after_try
+            (after_look (parts_of pass.old) (dir_word dir) found) parcel.now.strip dir)) }
     {
         let strips = self.strips();
         let strip = parcel.strip();
         steps::take(&self.table.shared, &mut pass.seat, dir, strip, strips)
     }
 
-    /// Puts back a front that went through the strip held, its visit signed with the number of the pass. It
-    /// can't fail.
+    /// Puts back a front that went through the strip held, its visit signed with the number of the
+    /// pass. It can't fail.
     pub fn put(&self, pass: &mut Pass, parcel: &Parcel, front: Front)
         requires own { IsPassOf self.now pass.old }
         requires has_it { (parts_of pass.old).front ≡ Some front.dir }
@@ -80,8 +83,10 @@ impl Board {
         requires visit { IsLastBy front parcel.now.strip (parts_of pass.old).number }
         requires done { is_done parcel.now.done front.dir ≡ true }
         ensures own { IsPassOf self.now pass.new }
-        ensures put { let was = 2 * position_of front.dir parcel.now.strip (strips_of self.now) + 1 in
-            parts_of pass.new ≡ after_put (after_look (parts_of pass.old) (dir_word front.dir) was) front.dir }
+        ensures put { let was = 2 * position_of front.dir parcel.now.strip (strips_of self.now)
+            + 1 in
+            parts_of pass.new
+            ≡ after_put (after_look (parts_of pass.old) (dir_word front.dir) was) front.dir }
     {
         let strips = self.strips();
         let strip = parcel.strip();
@@ -96,21 +101,23 @@ impl Board {
         );
     }
 
-    /// Gives back the parcel of the strip held, with the directions done that the pass shows. The pass
-    /// then holds nothing. It can't fail.
+    /// Gives back the parcel of the strip held, with the directions done that the pass shows. The
+    /// pass then holds nothing. It can't fail.
     pub fn give_back(&self, pass: &mut Pass, parcel: Parcel)
         requires own { IsPassOf self.now pass.old }
         requires bare { (parts_of pass.old).front ≡ None }
         requires parcel { IsHeld self.now (parts_of pass.old) parcel }
         ensures own { IsPassOf self.now pass.new }
         ensures idle { IsIdle (parts_of pass.new) }
-        ensures back { parts_of pass.new ≡ after_return (after_look (parts_of pass.old) (strip_word parcel.strip) 1) }
+        ensures back { parts_of pass.new
+            ≡ after_return (after_look (parts_of pass.old) (strip_word parcel.strip) 1) }
     {
         let strip = parcel.strip();
         steps::give_back(&self.table.shared, &mut pass.seat, strip, parcel);
     }
 
-    /// How many strips the front of a direction that is not level has passed, at one look at its word.
+    /// How many strips the front of a direction that is not level has passed, at one look at its
+    /// word.
     pub fn passed(&self, pass: &mut Pass, dir: Dir) -> u32
         requires own { IsPassOf self.now pass.old }
         requires across { is_level dir ≡ false }

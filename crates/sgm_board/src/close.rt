@@ -1,5 +1,6 @@
 //! How a board is taken apart.
-ghost use Rattle.std.specs.Prelude.{◌≡◌, ℕ, ◌+◌, ◌*◌, ◌<◌, ◌≤◌, false, length, slice_index_or, vec_len, vec_capacity};
+ghost use Rattle.std.specs.Prelude.{◌≡◌, ℕ, ◌+◌, ◌*◌, ◌<◌, ◌≤◌, false, length, slice_index_or};
+ghost use Rattle.std.specs.Prelude.{vec_len, vec_capacity};
 ghost use Rattle.std.specs.Mem.Slots.{slots_items, slots_filled, slots_len};
 ghost use Rattle.std.specs.Mem.Slots.Ownership.{Filled};
 ghost use Rattle.sgm_energy.specs.declared.dir.Dir.{Dir};
@@ -7,7 +8,8 @@ ghost use Rattle.sgm_strip.specs.Fronts.{FrontParts};
 ghost use Rattle.sgm_board.specs.Words.{dir_word, word_count};
 ghost use Rattle.sgm_board.specs.Settled.{AreSettled, IsAt};
 ghost use Rattle.sgm_board.specs.Emptied.{HaveFronts, HaveParcels, AreFirstFronts, AreFirstParcels};
-ghost use Rattle.sgm_board.specs.Boards.{parts_of, scene_of, cut_of, passes_of, IsPassOf, IsIdle, HasAll};
+ghost use Rattle.sgm_board.specs.Boards.{parts_of, scene_of, cut_of, passes_of, IsPassOf, IsIdle};
+ghost use Rattle.sgm_board.specs.Boards.{HasAll};
 
 use crate::board::Board;
 use crate::pass::Pass;
@@ -25,7 +27,8 @@ fn take_fronts(closed: &mut Closed<Slot, Global>, fronts: &mut Vec<Front>)
     ensures slots { (slots_items closed.new.slots ≡ slots_items closed.old.slots)
         × (slots_len closed.new.slots ≡ slots_len closed.old.slots) }
     ensures full { Filled (slots_filled closed.new.slots) 6 (slots_len closed.old.slots) }
-    ensures taken { (k : ℕ) → k < 6 → slice_index_or (slots_filled closed.new.slots) k false ≡ false }
+    ensures taken { (k : ℕ) → k < 6
+        → slice_index_or (slots_filled closed.new.slots) k false ≡ false }
     ensures six { length fronts.new.items ≡ 6 }
     ensures fronts { AreFirstFronts (slots_items closed.old.slots) fronts.new.items }
 {
@@ -42,7 +45,8 @@ fn take_parcels(closed: &mut Closed<Slot, Global>, parcels: &mut Vec<Parcel>, st
     requires room { (vec_len parcels.old ≡ 0) × (strips ≤ vec_capacity parcels.old) }
     requires full { (slots_len closed.old.slots ≡ word_count strips)
         × Filled (slots_filled closed.old.slots) 6 (slots_len closed.old.slots) }
-    requires taken { (k : ℕ) → k < 6 → slice_index_or (slots_filled closed.old.slots) k false ≡ false }
+    requires taken { (k : ℕ) → k < 6
+        → slice_index_or (slots_filled closed.old.slots) k false ≡ false }
     requires each { HaveParcels (slots_items closed.old.slots) strips }
     ensures taken { (k : ℕ) → k < slots_len closed.new.slots
         → slice_index_or (slots_filled closed.new.slots) k false ≡ false }
@@ -58,8 +62,8 @@ fn take_parcels(closed: &mut Closed<Slot, Global>, parcels: &mut Vec<Parcel>, st
 }
 
 impl Board {
-    /// The parcels and the fronts, in order, once a pass that holds nothing has gathered the numbers of
-    /// all passes. Takes no memory.
+    /// The parcels and the fronts, in order, once a pass that holds nothing has gathered the
+    /// numbers of all passes. Takes no memory.
     pub fn close(self, pass: Pass) -> (Vec<Parcel>, Vec<Front>)
         requires own { IsPassOf self pass }
         requires idle { IsIdle (parts_of pass) }

@@ -1,6 +1,6 @@
-//! The board on which workers hand parcels and fronts to one another without a lock. Each step on it is
-//! one legal event of the hand-over machine of `sgm_handover`; what holds at every moment, whatever the
-//! order of the workers' steps, stands in [`laws`].
+//! The board on which workers hand parcels and fronts to one another without a lock. Each step on
+//! it is one legal event of the hand-over machine of `sgm_handover`; what holds at every moment,
+//! whatever the order of the workers' steps, stands in [`laws`].
 #![tactic(auto)]
 
 mod board;

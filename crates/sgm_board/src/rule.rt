@@ -2,7 +2,8 @@
 ghost use Rattle.sgm_board.specs.Shows.{Rule};
 ghost use Rattle.sgm_board.specs.Plans.{about_of};
 ghost use Rattle.sgm_board.specs.Views.{dealer, kept_view, dealt_view, joined_view, spent};
-ghost use Rattle.sgm_board.specs.Plays.{look_told, read_told, claim_told, return_told, take_told, put_told};
+ghost use Rattle.sgm_board.specs.Plays.{look_told, read_told, claim_told, return_told, take_told};
+ghost use Rattle.sgm_board.specs.Plays.{put_told};
 
 use crate::slot::Slot;
 use crate::view::View;
@@ -10,8 +11,8 @@ use atomic_table::{Join, Play, Seat, Shared, Split, TableRule};
 use sgm_strip::Parcel;
 use std::snapshot::Snapshot;
 
-/// What the rule reads, fixed when a table is made: a parcel of the board's scene and cut, and how many
-/// passes are made.
+/// What the rule reads, fixed when a table is made: a parcel of the board's scene and cut, and how
+/// many passes are made.
 #[derive(Drop)]
 pub struct Plan {
     pub sample: Snapshot<Parcel>,

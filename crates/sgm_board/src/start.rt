@@ -1,5 +1,6 @@
 //! How a board is made.
-ghost use Rattle.std.specs.Prelude.{◌≡◌, ◌+◌, ◌≤◌, ◌++◌, map, replicate, length, All, IfOk, vec_len};
+ghost use Rattle.std.specs.Prelude.{◌≡◌, ◌+◌, ◌≤◌, ◌++◌, map, replicate, length, All, IfOk};
+ghost use Rattle.std.specs.Prelude.{vec_len};
 ghost use Rattle.sgm_base.specs.declared.limits.TheConstants.{MAX_WORKERS};
 ghost use Rattle.sgm_strip.specs.Cuts.{CutParts};
 ghost use Rattle.sgm_strip.specs.Scenes.{SceneParts};
@@ -35,7 +36,8 @@ fn zeros(alloc: Global, count: usize) -> Result<Vec<u64>, AllocError>
 
 /// The slots with the fronts and then the parcels.
 fn lay(alloc: Global, parcels: Vec<Parcel>, fronts: Vec<Front>) -> Result<Vec<Slot>, AllocError>
-    ensures slots { IfOk result (λ v. v.items ≡ map OfFront fronts.items ++ map OfStrip parcels.items) }
+    ensures slots { IfOk result (λ v. v.items
+        ≡ map OfFront fronts.items ++ map OfStrip parcels.items) }
     ensures fronts { IfOk result (λ _. All IsFront fronts.items) }
     ensures parcels { IfOk result (λ _. All IsParcel parcels.items) }
 {
@@ -54,20 +56,24 @@ fn lay(alloc: Global, parcels: Vec<Parcel>, fronts: Vec<Front>) -> Result<Vec<Sl
 }
 
 impl Board {
-    /// A board with these parcels and fronts, and so many passes, at most [`MAX_WORKERS`]. The parcels
-    /// are those of all strips of one scene and one cut, in order, with the two level directions done and
-    /// no other; the fronts are the six, in order, without visits. On an error all are dropped.
+    /// A board with these parcels and fronts, and so many passes, at most [`MAX_WORKERS`]. The
+    /// parcels are those of all strips of one scene and one cut, in order, with the two level
+    /// directions done and no other; the fronts are the six, in order, without visits. On an error
+    /// all are dropped.
     pub fn start(
         alloc: Global,
         parcels: Vec<Parcel>,
         fronts: Vec<Front>,
         passes: u32,
     ) -> Result<(Board, Vec<Pass>), AllocError>
-        requires ready { (scene : SceneParts) × (cut : CutParts) × AreReady scene cut parcels.items fronts.items }
+        requires ready { (scene : SceneParts) × (cut : CutParts)
+            × AreReady scene cut parcels.items fronts.items }
         requires passes { (1 ≤ passes) × (passes ≤ MAX_WORKERS) }
-        ensures board { (scene : SceneParts) (cut : CutParts) → AreReady scene cut parcels.items fronts.items
+        ensures board { (scene : SceneParts) (cut : CutParts)
+            → AreReady scene cut parcels.items fronts.items
             → IfOk result (λ made. (scene_of made.0 ≡ scene) × (cut_of made.0 ≡ cut)) }
-        ensures passes { IfOk result (λ made. (passes_of made.0 ≡ passes) × (vec_len made.1 ≡ passes)) }
+        ensures passes { IfOk result (λ made. (passes_of made.0 ≡ passes)
+            × (vec_len made.1 ≡ passes)) }
         ensures new { IfOk result (λ made. AreNew made.0 made.1.items) }
     {
         let strips = parcels.len();

@@ -9,7 +9,8 @@ ghost use Rattle.sgm_board.specs.declared.view.About.{About};
 ghost use Rattle.sgm_board.specs.declared.slot.Slot.TheVariants.{Empty};
 ghost use Rattle.sgm_board.specs.Words.{dir_word, strip_word, word_count};
 ghost use Rattle.sgm_board.specs.Views.{IsLive, joined_view, after_look, after_claim};
-ghost use Rattle.sgm_board.specs.Views.{after_return, after_try, after_take, after_put, is_known_done};
+ghost use Rattle.sgm_board.specs.Views.{after_return, after_try, after_take, after_put};
+ghost use Rattle.sgm_board.specs.Views.{is_known_done};
 ghost use Rattle.sgm_board.specs.Plays.{IsWithin};
 ghost use Rattle.sgm_board.specs.Plans.{about_of};
 ghost use Rattle.sgm_board.specs.Pockets.{HasRead};
@@ -55,10 +56,13 @@ pub(crate) fn claim(shown: &Shown, seat: &mut PassSeat, strip: u32) -> Option<Pa
     ensures table { seat.new.table_id ≡ seat.old.table_id }
     ensures parcel { IfSome result (λ parcel. (due : Dir → Bool)
         × IsParcelAt (about_of shown.now.key) strip due parcel) }
-    ensures slots { IfSome result (λ parcel. seat.new.me.1 ≡ (strip_word strip, Empty) ∷ seat.old.me.1) }
+    ensures slots { IfSome result (λ parcel. seat.new.me.1
+        ≡ (strip_word strip, Empty) ∷ seat.old.me.1) }
     ensures some { IfSome result (λ parcel. HasRead (about_of shown.now.key).cut.strips 6
-        (after_claim (after_look seat.old.me.0 (strip_word strip) 0) strip parcel.done) seat.new.me.0) }
-    ensures none { IfNone result (seat.new.me ≡ (after_look seat.old.me.0 (strip_word strip) 1, seat.old.me.1)) }
+        (after_claim (after_look seat.old.me.0 (strip_word strip) 0) strip parcel.done)
+        seat.new.me.0) }
+    ensures none { IfNone result (seat.new.me
+        ≡ (after_look seat.old.me.0 (strip_word strip) 1, seat.old.me.1)) }
 {
     let word = 6 + strip as usize;
     if shown.compare_exchange::<Claim>(seat, word, 0, 1) != 0 {
@@ -79,7 +83,8 @@ pub(crate) fn give_back(shown: &Shown, seat: &mut PassSeat, strip: u32, parcel: 
     requires holds { (seat.old.me.0.strip ≡ Some strip) × (seat.old.me.0.front ≡ None)
         × (seat.old.me.0.about ≡ Some (about_of shown.now.key)) }
     requires slots { seat.old.me.1 ≡ (strip_word strip, Empty) ∷ [] }
-    requires parcel { IsParcelAt (about_of shown.now.key) strip (is_known_done seat.old.me.0) parcel }
+    requires parcel { IsParcelAt (about_of shown.now.key) strip
+        (is_known_done seat.old.me.0) parcel }
     ensures { (seat.new.table_id ≡ seat.old.table_id)
         × (seat.new.me ≡ (after_return (after_look seat.old.me.0 (strip_word strip) 1), [])) }
 {
@@ -96,21 +101,27 @@ pub(crate) fn take(
     strip: u32,
     strips: u32,
 ) -> Option<Front>
-    requires table { (seat.old.table_id ≡ shown.now.table_id) × (shown.now.table_id.words ≡ word_count strips)
+    requires table { (seat.old.table_id ≡ shown.now.table_id)
+        × (shown.now.table_id.words ≡ word_count strips)
         × ((about_of shown.now.key).cut.strips ≡ strips) }
     requires strip { strip < strips }
     requires holds { (seat.old.me.0.strip ≡ Some strip) × (seat.old.me.0.front ≡ None)
         × (seat.old.me.0.about ≡ Some (about_of shown.now.key)) }
     requires dir { is_level dir ≡ false }
     ensures table { seat.new.table_id ≡ seat.old.table_id }
-    ensures front { IfSome result (IsFrontAt (about_of shown.now.key) dir (position_of dir strip strips)) }
+    ensures front { IfSome result
+        (IsFrontAt (about_of shown.now.key) dir (position_of dir strip strips)) }
     ensures left { IfSome result (λ front. is_known_done seat.old.me.0 dir ≡ false) }
     ensures some { IfSome result (λ front. seat.new.me ≡ (
-      after_take (after_try (after_look seat.old.me.0 (dir_word dir) (2 * position_of dir strip strips)) strip dir) dir,
+      after_take
+          (after_try
+          (after_look seat.old.me.0 (dir_word dir) (2 * position_of dir strip strips))
+          strip dir) dir,
       (dir_word dir, Empty) ∷ seat.old.me.1,
     )) }
     ensures none { IfNone result ((found : ℕ) × (found ≢ 2 * position_of dir strip strips)
-        × (seat.new.me ≡ (after_try (after_look seat.old.me.0 (dir_word dir) found) strip dir, seat.old.me.1))) }
+        × (seat.new.me
+        ≡ (after_try (after_look seat.old.me.0 (dir_word dir) found) strip dir, seat.old.me.1))) }
 {
     let word = word_of(dir);
     let due = 2 * u64::from(dir.position(strip, strips));
@@ -133,17 +144,20 @@ pub(crate) fn put(
     strip: u32,
     strips: u32,
 )
-    requires table { (seat.old.table_id ≡ shown.now.table_id) × (shown.now.table_id.words ≡ word_count strips)
+    requires table { (seat.old.table_id ≡ shown.now.table_id)
+        × (shown.now.table_id.words ≡ word_count strips)
         × ((about_of shown.now.key).cut.strips ≡ strips) }
     requires strip { strip < strips }
     requires holds { (seat.old.me.0.strip ≡ Some strip) × (seat.old.me.0.front ≡ Some dir)
         × (seat.old.me.0.about ≡ Some (about_of shown.now.key)) }
     requires slots { seat.old.me.1 ≡ (dir_word dir, Empty) ∷ (strip_word strip, Empty) ∷ [] }
     requires dir { is_level dir ≡ false }
-    requires front { IsFrontAt (about_of shown.now.key) dir (position_of dir strip strips + 1) front }
+    requires front { IsFrontAt (about_of shown.now.key) dir
+        (position_of dir strip strips + 1) front }
     ensures { (seat.new.table_id ≡ seat.old.table_id)
         × (seat.new.me ≡ (
-          after_put (after_look seat.old.me.0 (dir_word dir) (2 * position_of dir strip strips + 1)) dir,
+          after_put
+              (after_look seat.old.me.0 (dir_word dir) (2 * position_of dir strip strips + 1)) dir,
           (strip_word strip, Empty) ∷ [],
         )) }
 {
@@ -167,9 +181,11 @@ pub(crate) fn look(shown: &Shown, seat: &mut PassSeat, word: usize) -> u64
 
 /// Joins two passes that hold nothing.
 pub(crate) fn join(shown: &Shown, seat: &mut PassSeat, other: PassSeat)
-    requires table { (seat.old.table_id ≡ shown.now.table_id) × (other.table_id ≡ shown.now.table_id)
+    requires table { (seat.old.table_id ≡ shown.now.table_id)
+        × (other.table_id ≡ shown.now.table_id)
         × (0 < shown.now.table_id.words) × (other.me.1 ≡ []) }
-    requires idle { IsLive seat.old.me.0 × (seat.old.me.0.strip ≡ None) × (seat.old.me.0.front ≡ None)
+    requires idle { IsLive seat.old.me.0 × (seat.old.me.0.strip ≡ None)
+        × (seat.old.me.0.front ≡ None)
         × (other.me.0.strip ≡ None) × (other.me.0.front ≡ None) }
     ensures { (seat.new.table_id ≡ seat.old.table_id)
         × (seat.new.me ≡ (joined_view seat.old.me.0 other.me.0, seat.old.me.1)) }

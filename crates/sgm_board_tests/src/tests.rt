@@ -1,4 +1,5 @@
-//! What no clause says of strips, boards and workers, by the worked example: three rows of five pixels.
+//! What no clause says of strips, boards and workers, by the worked example: three rows of five
+//! pixels.
 mod boards;
 mod making;
 mod selecting;

@@ -1,6 +1,7 @@
-//! Certificates that were worked out by hand, over images whose three rows are alike. With a window of 3 x 3 only the
-//! pixels of the middle row have codes, the first and the last excepted; everywhere else each index costs 8. A cost is
-//! 3 for each side, left and right, on which two codes differ.
+//! Certificates that were worked out by hand, over images whose three rows are alike. With a window
+//! of 3 x 3 only the pixels of the middle row have codes, the first and the last excepted;
+//! everywhere else each index costs 8. A cost is 3 for each side, left and right, on which two
+//! codes differ.
 ghost use Rattle.std.specs.Prelude.{◌≡◌, IsTrue, nat_le, unwrap_or};
 ghost use Rattle.std.specs.List.{list_all};
 
@@ -72,7 +73,8 @@ fn scene_of(
     Ok(Scene::make(left, right, span, pen, guide))
 }
 
-/// Five columns with the indices 0 and 1. The costs in the middle row are (8, 8), (6, 8), (6, 0), (6, 0), (8, 8).
+/// Five columns with the indices 0 and 1. The costs in the middle row are (8, 8), (6, 8), (6, 0),
+/// (6, 0), (8, 8).
 fn example(alloc: Global) -> Result<Scene, Fail> {
     let left = [90, 10, 50, 20, 40].map(Some);
     let right = [10, 50, 20, 40, 30].map(Some);
@@ -115,7 +117,8 @@ fn of_example(alloc: Global, dir: Dir, x: u32, y: u32, d: u32) -> Result<Traced,
     traced(alloc, &scene, dir, x, y, d)
 }
 
-/// Along the row the first two pixels cost least with 0 and the third with 1: 8 + 6 + 0 and one change by one.
+/// Along the row the first two pixels cost least with 0 and the third with 1: 8 + 6 + 0 and one
+/// change by one.
 #[test]
 fn along_a_row(rt: HostRuntime) -> Result<(), Fail> {
     let found = of_example(rt.alloc(), Dir::Right, 2, 1, 1)?;
@@ -162,8 +165,9 @@ fn along(
     traced(alloc, &scene, Dir::Right, x, 1, 2)
 }
 
-/// The costs are (8, 8, 8), (3, 3, 8), (6, 3, 3), (0, 0, 3). The sequences 0 0 2 2, 1 1 1 2 and 1 1 2 2 have 20, and
-/// none has less. From the ends backwards the second comes first; from the front the first would.
+/// The costs are (8, 8, 8), (3, 3, 8), (6, 3, 3), (0, 0, 3). The sequences 0 0 2 2, 1 1 1 2 and 1 1
+/// 2 2 have 20, and none has less. From the ends backwards the second comes first; from the front
+/// the first would.
 #[test]
 fn a_tie(rt: HostRuntime) -> Result<(), Fail> {
     let left = [30, 30, 40, 30, 40, 20];
@@ -179,15 +183,16 @@ fn a_tie(rt: HostRuntime) -> Result<(), Fail> {
     Ok(())
 }
 
-/// The certificate of the last index at the third pixel of a row. The costs are (8, 8, 8), (0, 6, 8), (6, 6, 0). From the
-/// second pixel to the third the guide changes by 3.
+/// The certificate of the last index at the third pixel of a row. The costs are (8, 8, 8), (0, 6,
+/// 8), (6, 6, 0). From the second pixel to the third the guide changes by 3.
 fn along_a_guide(alloc: Global, pen: Pen) -> Result<Traced, Fail> {
     let left = [30, 30, 40, 30, 40, 20];
     let guide = [5, 5, 8, 8, 8, 8];
     along(alloc, left, [10, 40, 10, 10, 20, 20], guide, pen, 2)
 }
 
-/// The guide leaves 4 of the penalty 12, so the change from 0 to 2 pays at the third pixel: 8 + 0 + 0 + 4.
+/// The guide leaves 4 of the penalty 12, so the change from 0 to 2 pays at the third pixel:
+/// 8 + 0 + 0 + 4.
 #[test]
 fn a_penalty_that_follows_the_image(rt: HostRuntime) -> Result<(), Fail> {
     let pen = Pen::adaptive(1, 12).ok_or("pen")?;

@@ -1,5 +1,6 @@
 -- What contracts see of a calibration, and what every calibration keeps.
-use Rattle.std.specs.Prelude.{◌≤◌, pos, Bool, false, List, All, Option, None, option_map, IfSome, is_some, IsTrue, length}
+use Rattle.std.specs.Prelude.{◌≤◌, pos, Bool, false, List, All, Option, None, option_map, IfSome}
+use Rattle.std.specs.Prelude.{is_some, IsTrue, length}
 use Rattle.sgm_base.specs.Disparities.{Disparities}
 use Rattle.sgm_base.specs.declared.limits.TheConstants.{MAX_REGIONS}
 use Rattle.sgm_census.specs.Windows.{WindowSides}
@@ -64,8 +65,8 @@ plain = record {
 abbrev pub station_of : Calibration → Option Station
 station_of calib = option_map (λ camera. record { camera = camera; pose = calib.pose }) calib.camera
 
--- the ranges of warps, camera, pose and grid; a camera where there is a grid; a grid where there are
--- regions, and each of them in it
+-- the ranges of warps, camera, pose and grid; a camera where there is a grid; a grid where there
+-- are regions, and each of them in it
 pub record IsCalibration (calib : Calibration) : Type 0 where
   pub left_kept : IsWarp calib.left
   pub right_kept : IsWarp calib.right

@@ -1,6 +1,8 @@
 -- The checks of one key, of one object and of one list. For a key the order is that it is missing,
 -- its type, its range; for an object its type, an unknown name, its keys.
-use Rattle.std.specs.Prelude.{◌≡◌, ⊤, ℕ, ◌≤◌, ◌==◌, ◌*◌, ◌/◌, ◌%◌, nat_le, ℤ, pos, Bool, true, false, ◌&&◌, not, if◌then◌else◌, List, [], ◌∷◌, ◌++◌, length, IsTrue, is_none, is_some, map, Option, Some, None, unwrap_or, Result, Ok, Err}
+use Rattle.std.specs.Prelude.{◌≡◌, ⊤, ℕ, ◌≤◌, ◌==◌, ◌*◌, ◌/◌, ◌%◌, nat_le, ℤ, pos, Bool, true}
+use Rattle.std.specs.Prelude.{false, ◌&&◌, not, if◌then◌else◌, List, [], ◌∷◌, ◌++◌, length, IsTrue}
+use Rattle.std.specs.Prelude.{is_none, is_some, map, Option, Some, None, unwrap_or, Result, Ok, Err}
 use Rattle.std.specs.List.{list_all}
 use Rattle.std.specs.Option.{option_or}
 use Rattle.std.specs.Result.{result_err}
@@ -17,7 +19,9 @@ use Rattle.sgm_calib.specs.declared.sort.Sort.{Sort}
 use Rattle.sgm_calib.specs.declared.sort.Sort.TheVariants.{Version}
 use Rattle.sgm_calib.specs.Keeps.{is_keep}
 use Rattle.sgm_calib.specs.Kinds.{is_kind}
-use Rattle.sgm_calib.specs.Rows.{Row, Form, object as object_form, warps, kind, name as name_form, keep as keep_form, truth, regions, matrix, rotation, nodes, key_at, corners, whole, count_of, is_in_range}
+use Rattle.sgm_calib.specs.Rows.{Row, Form, object as object_form, warps, kind, name as name_form}
+use Rattle.sgm_calib.specs.Rows.{keep as keep_form, truth, regions, matrix, rotation, nodes, key_at}
+use Rattle.sgm_calib.specs.Rows.{corners, whole, count_of, is_in_range}
 use Rattle.sgm_calib.specs.declared.lists.Amount.{Amount}
 use Rattle.sgm_calib.specs.declared.lists.Amount.TheVariants.{Exactly, Corners}
 use Rattle.sgm_report.specs.Areas.{is_region_name}

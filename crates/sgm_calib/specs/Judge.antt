@@ -1,6 +1,7 @@
 -- What the key table says of a value: the calibration, or the first fault. The order is that of the
 -- table's rows; `version` alone comes before the unknown names of the value itself.
-use Rattle.std.specs.Prelude.{Bool, if◌then◌else◌, [], ◌∷◌, map, Option, Some, None, option_map, unwrap_or, Result, Ok, Err}
+use Rattle.std.specs.Prelude.{Bool, if◌then◌else◌, [], ◌∷◌, map, Option, Some, None, option_map}
+use Rattle.std.specs.Prelude.{unwrap_or, Result, Ok, Err}
 use Rattle.std.specs.Option.{option_or}
 use Rattle.std.specs.Result.{result_err}
 use Rattle.serde_json.specs.Data.{Data}
@@ -24,8 +25,10 @@ use Rattle.sgm_calib.specs.Calibration.{Calibration, plain_gridding}
 use Rattle.sgm_calib.specs.Keeps.{keep_named}
 use Rattle.sgm_calib.specs.Table as table
 use Rattle.sgm_calib.specs.Table.{rows_in, span_of, window_of, penalties_of, camera_of, grid_of}
-use Rattle.sgm_calib.specs.Rows.{Row, Form, object, warps, regions, key_at, whole, number_of, count_of, truth_of, is_in_range, is_required, is_since}
-use Rattle.sgm_calib.specs.Checks.{first_of, typed_in, or_out_of_range, object_fault, type_fault, keys_fault, sort_of, value_of, text_of, numbers_at}
+use Rattle.sgm_calib.specs.Rows.{Row, Form, object, warps, regions, key_at, whole, number_of}
+use Rattle.sgm_calib.specs.Rows.{count_of, truth_of, is_in_range, is_required, is_since}
+use Rattle.sgm_calib.specs.Checks.{first_of, typed_in, or_out_of_range, object_fault, type_fault}
+use Rattle.sgm_calib.specs.Checks.{keys_fault, sort_of, value_of, text_of, numbers_at}
 use Rattle.sgm_calib.specs.WarpKeys.{warps_fault, warp_in}
 use Rattle.sgm_calib.specs.RegionKeys.{regions_fault, regions_in}
 

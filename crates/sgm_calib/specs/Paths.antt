@@ -1,5 +1,6 @@
 -- How a key is printed.
-use Rattle.std.specs.Prelude.{ℕ, ◌==◌, Bool, false, ◌||◌, if◌then◌else◌, List, [], ◌++◌, codes, decimal, find, Option}
+use Rattle.std.specs.Prelude.{ℕ, ◌==◌, Bool, false, ◌||◌, if◌then◌else◌, List, [], ◌++◌, codes}
+use Rattle.std.specs.Prelude.{decimal, find, Option}
 use Rattle.std.specs.Option.{option_map_or}
 use Rattle.sgm_calib.specs.declared.keys.Key.{Key}
 use Rattle.sgm_calib.specs.Rows.{Row}

@@ -1,6 +1,7 @@
 -- The keys of the regions: a list of objects, each a rectangle of the grid's cells with its name,
 -- its base and, from version 3 of the calibration on, the rises of the base and an outline.
-use Rattle.std.specs.Prelude.{ℕ, suc, pos, if◌then◌else◌, nat_le, List, [], ◌∷◌, length, map, Option, Some, None, option_map}
+use Rattle.std.specs.Prelude.{ℕ, suc, pos, if◌then◌else◌, nat_le, List, [], ◌∷◌, length, map}
+use Rattle.std.specs.Prelude.{Option, Some, None, option_map}
 use Rattle.serde_json.specs.Data.{Data}
 use Rattle.serde_json.specs.Find.{get, as_array}
 use Rattle.sgm_base.specs.declared.limits.TheConstants.{MAX_REGIONS}
@@ -17,7 +18,8 @@ use Rattle.sgm_calib.specs.declared.sort.Sort.{Sort}
 use Rattle.sgm_calib.specs.Table as table
 use Rattle.sgm_calib.specs.Table.{grid_of}
 use Rattle.sgm_calib.specs.Rows.{Row, key_at, number_of, count_of, is_since}
-use Rattle.sgm_calib.specs.Checks.{first_of, object_fault, type_fault, key_fault, keys_fault, elements, numbers, sort_of, value_of, text_of}
+use Rattle.sgm_calib.specs.Checks.{first_of, object_fault, type_fault, key_fault, keys_fault}
+use Rattle.sgm_calib.specs.Checks.{elements, numbers, sort_of, value_of, text_of}
 use Rattle.sgm_calib.specs.WarpKeys.{pairs}
 
 -- the place of a region of a grid

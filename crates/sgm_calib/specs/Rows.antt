@@ -1,5 +1,7 @@
 -- The rows of the key table: what a row says, and what the code's rows mean.
-use Rattle.std.specs.Prelude.{ℕ, ◌+◌, ◌%◌, ◌==◌, nat_le, ℤ, pos, ◌-ℤ◌, unsigned_abs, int_le, Bool, true, false, ◌&&◌, ◌||◌, List, Option, option_and_then, unwrap_or, is_some}
+use Rattle.std.specs.Prelude.{ℕ, ◌+◌, ◌%◌, ◌==◌, nat_le, ℤ, pos, ◌-ℤ◌, unsigned_abs, int_le, Bool}
+use Rattle.std.specs.Prelude.{true, false, ◌&&◌, ◌||◌, List, Option, option_and_then, unwrap_or}
+use Rattle.std.specs.Prelude.{is_some}
 use Rattle.std.specs.Str.{bytes_eq}
 use Rattle.serde_json.specs.Data.{Data}
 use Rattle.serde_json.specs.Find.{get, as_bool, as_number, as_i64}

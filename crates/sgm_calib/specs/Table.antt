@@ -1,22 +1,34 @@
 -- The key table of calibration files: a row for each key, in the order of the checks. The names of
 -- an object, the keys' paths and the order of the checks follow from it. Behind it stands what the
 -- keys of an object become that holds no other.
-use Rattle.std.specs.Prelude.{ℕ, ◌+◌, ◌==◌, ℤ, pos, neg_ℤ, Bool, ◌&&◌, List, [], ◌∷◌, ◌++◌, codes, filter, map}
+use Rattle.std.specs.Prelude.{ℕ, ◌+◌, ◌==◌, ℤ, pos, neg_ℤ, Bool, ◌&&◌, List, [], ◌∷◌, ◌++◌, codes}
+use Rattle.std.specs.Prelude.{filter, map}
 use Rattle.std.specs.List.{list_any, range_with_len}
 use Rattle.std.specs.Str.{bytes_eq}
 use Rattle.serde_json.specs.Data.{Data}
 use Rattle.sgm_base.specs.Disparities.{Disparities}
-use Rattle.sgm_base.specs.declared.limits.TheConstants.{MAX_COUNT, MAX_FIRST, MAX_GRID_LINES, MAX_PENALTY, MAX_WINDOW_HEIGHT, MAX_WINDOW_WIDTH, MIN_FIRST, MIN_WINDOW_SIDE}
+use Rattle.sgm_base.specs.declared.limits.TheConstants.{MAX_COUNT, MAX_FIRST, MAX_GRID_LINES}
+use Rattle.sgm_base.specs.declared.limits.TheConstants.{MAX_PENALTY, MAX_WINDOW_HEIGHT}
+use Rattle.sgm_base.specs.declared.limits.TheConstants.{MAX_WINDOW_WIDTH, MIN_FIRST}
+use Rattle.sgm_base.specs.declared.limits.TheConstants.{MIN_WINDOW_SIDE}
 use Rattle.sgm_census.specs.Windows.{WindowSides}
 use Rattle.sgm_energy.specs.Pens.{Penalties}
 use Rattle.sgm_calib.specs.declared.sort.Sort.{Sort}
 use Rattle.sgm_grid.specs.declared.grid_spec.GridSpec.{GridSpec}
 use Rattle.sgm_grid.specs.declared.limits.TheConstants.{MAX_BRIDGE, MAX_CELL, MAX_HEIGHT, MAX_PLACE}
 use Rattle.sgm_height.specs.declared.camera.Camera.{Camera}
-use Rattle.sgm_height.specs.declared.limits.TheConstants.{MAX_AXIS, MAX_BASELINE, MAX_DEPTH, MAX_FOCAL, MAX_MOUNT, MAX_OFFSET, MAX_SITE}
+use Rattle.sgm_height.specs.declared.limits.TheConstants.{MAX_AXIS, MAX_BASELINE, MAX_DEPTH}
+use Rattle.sgm_height.specs.declared.limits.TheConstants.{MAX_FOCAL, MAX_MOUNT, MAX_OFFSET}
+use Rattle.sgm_height.specs.declared.limits.TheConstants.{MAX_SITE}
 use Rattle.sgm_report.specs.declared.base.TheConstants.{MAX_RISE}
-use Rattle.sgm_rectify.specs.declared.limits.TheConstants.{MAX_ENTRY, MAX_NODE, MAX_NODE_COUNT, MAX_STEP, MIN_ENTRY, MIN_NODE, MIN_NODE_COUNT, MIN_STEP}
-use Rattle.sgm_calib.specs.Rows.{Form, object, warps, kind, name, keep as keep_form, truth, regions, between, odd, from, column, line, columns_from, lines_from, matrix, rotation, nodes, corners, Presence, required, optional, with, with_either, of_kind, since, optional_since, Row, is_given, number_of, count_of, truth_of}
+use Rattle.sgm_rectify.specs.declared.limits.TheConstants.{MAX_ENTRY, MAX_NODE, MAX_NODE_COUNT}
+use Rattle.sgm_rectify.specs.declared.limits.TheConstants.{MAX_STEP, MIN_ENTRY, MIN_NODE}
+use Rattle.sgm_rectify.specs.declared.limits.TheConstants.{MIN_NODE_COUNT, MIN_STEP}
+use Rattle.sgm_calib.specs.Rows.{Form, object, warps, kind, name, keep as keep_form, truth, regions}
+use Rattle.sgm_calib.specs.Rows.{between, odd, from, column, line, columns_from, lines_from, matrix}
+use Rattle.sgm_calib.specs.Rows.{rotation, nodes, corners, Presence, required, optional, with}
+use Rattle.sgm_calib.specs.Rows.{with_either, of_kind, since, optional_since, Row, is_given}
+use Rattle.sgm_calib.specs.Rows.{number_of, count_of, truth_of}
 
 -- the row of a key of the value itself, and of a key of an object
 abbrev pub entry : ℕ → List ℕ → Form → Presence → Row
@@ -292,8 +304,8 @@ keys =
     ++ (region_list ∷ [])
     ++ (region ∷ all_region_keys)
 
--- their numbers in that order: from 1 to 49, with 51 behind 5, 50 behind 11, 54 to 58 behind 35, and
--- 52 and 53 behind 41; then 59 to 61
+-- their numbers in that order: from 1 to 49, with 51 behind 5, 50 behind 11, 54 to 58 behind 35,
+-- and 52 and 53 behind 41; then 59 to 61
 abbrev pub order : List ℕ
 order =
     range_with_len 1 5 ++ 51 ∷ range_with_len 6 6 ++ 50 ∷ range_with_len 12 24

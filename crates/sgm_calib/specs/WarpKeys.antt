@@ -1,6 +1,7 @@
 -- The keys of the warps: an object with one side each for the left and the right image. A side
 -- names its kind, and has the keys of that kind.
-use Rattle.std.specs.Prelude.{ℕ, ℤ, pos, neg_ℤ, Bool, false, List, [], ◌∷◌, filter, Option, Some, None, unwrap_or}
+use Rattle.std.specs.Prelude.{ℕ, ℤ, pos, neg_ℤ, Bool, false, List, [], ◌∷◌, filter, Option, Some}
+use Rattle.std.specs.Prelude.{None, unwrap_or}
 use Rattle.std.specs.Str.{bytes_eq}
 use Rattle.serde_json.specs.Data.{Data}
 use Rattle.serde_json.specs.Find.{get, as_object}
@@ -17,7 +18,8 @@ use Rattle.sgm_calib.specs.declared.place.TheConstants.{PLAIN, RIGHT_SIDE}
 use Rattle.sgm_calib.specs.Kinds.{kind_name, kind_named}
 use Rattle.sgm_calib.specs.Table as table
 use Rattle.sgm_calib.specs.Rows.{Row, Presence, of_kind, key_at, count_of}
-use Rattle.sgm_calib.specs.Checks.{first_of, object_fault, type_fault, key_fault, keys_fault, numbers_at, value_of, text_of}
+use Rattle.sgm_calib.specs.Checks.{first_of, object_fault, type_fault, key_fault, keys_fault}
+use Rattle.sgm_calib.specs.Checks.{numbers_at, value_of, text_of}
 
 -- the kind of a side
 unfoldable pub kind_of : Data → Kind

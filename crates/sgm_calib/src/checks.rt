@@ -1,6 +1,8 @@
 //! The checks of one key, and of one object.
 
-ghost use Rattle.std.specs.Prelude.{◌≡◌, ◌==◌, ◌&&◌, ◌+◌, ◌<◌, ◌≤ℤ◌, unsigned_abs, map, All, IfOk, IfErr, OnOk, IsTrue, Some, None, Ok, Err, string_bytes, option_map, IsSome, not};
+ghost use Rattle.std.specs.Prelude.{◌≡◌, ◌==◌, ◌&&◌, ◌+◌, ◌<◌, ◌≤ℤ◌, unsigned_abs, map, All, IfOk};
+ghost use Rattle.std.specs.Prelude.{IfErr, OnOk, IsTrue, Some, None, Ok, Err, string_bytes};
+ghost use Rattle.std.specs.Prelude.{option_map, IsSome, not};
 ghost use Rattle.std.specs.BTreeMap.{keys};
 ghost use Rattle.std.specs.List.{list_all, list_any};
 ghost use Rattle.std.specs.Str.{bytes_eq};
@@ -9,9 +11,13 @@ ghost use Rattle.serde_json.specs.View.{view};
 ghost use Rattle.serde_json.specs.Find.{as_bool, as_str, get};
 ghost use Rattle.sgm_calib.specs.Table as table;
 ghost use Rattle.sgm_calib.specs.Table.{is_known};
-ghost use Rattle.sgm_calib.specs.Rows.{key_at, whole, whole_at, number_of, IsCount, least, greatest, has_parity, is_in_range, is_required, is_since, is_given, truth_at, meant, form_meant, presence_meant};
-ghost use Rattle.sgm_calib.specs.Checks.{number_in, typed_in, wholes_fault, object_fault, text_of, sort_of};
-ghost use Rattle.sgm_calib.specs.Judge.{rule_in, columns_in, version_fault, top_fault, itself_fault};
+ghost use Rattle.sgm_calib.specs.Rows.{key_at, whole, whole_at, number_of, IsCount, least};
+ghost use Rattle.sgm_calib.specs.Rows.{greatest, has_parity, is_in_range, is_required, is_since};
+ghost use Rattle.sgm_calib.specs.Rows.{is_given, truth_at, meant, form_meant, presence_meant};
+ghost use Rattle.sgm_calib.specs.Checks.{number_in, typed_in, wholes_fault, object_fault, text_of};
+ghost use Rattle.sgm_calib.specs.Checks.{sort_of};
+ghost use Rattle.sgm_calib.specs.Judge.{rule_in, columns_in, version_fault, top_fault};
+ghost use Rattle.sgm_calib.specs.Judge.{itself_fault};
 
 use crate::keys::{CalibFault, Key};
 use crate::place::{PLAIN, Place};

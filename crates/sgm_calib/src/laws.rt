@@ -1,6 +1,7 @@
 //! What follows from the definitions alone. Each function is a law, and its body is empty.
 
-ghost use Rattle.std.specs.Prelude.{◌≡◌, ◌↔◌, ℕ, List, [], ◌∷◌, Option, Some, Ok, Result, IsTrue, ◌||◌, codes};
+ghost use Rattle.std.specs.Prelude.{◌≡◌, ◌↔◌, ℕ, List, [], ◌∷◌, Option, Some, Ok, Result, IsTrue};
+ghost use Rattle.std.specs.Prelude.{◌||◌, codes};
 ghost use Rattle.std.specs.List.{list_all};
 ghost use Rattle.sgm_calib.specs.Calibration.{Calibration, plain};
 ghost use Rattle.sgm_calib.specs.Table.{keys, order};

@@ -1,13 +1,16 @@
 //! Lists of whole numbers.
 
-ghost use Rattle.std.specs.Prelude.{◌≡◌, ◌+◌, ◌/◌, ◌<◌, ◌&&◌, ◌≤ℤ◌, pos, map, length, All, IfOk, IfErr, IfSome, OnOk, is_some, unwrap_or, Some, None};
+ghost use Rattle.std.specs.Prelude.{◌≡◌, ◌+◌, ◌/◌, ◌<◌, ◌&&◌, ◌≤ℤ◌, pos, map, length, All, IfOk};
+ghost use Rattle.std.specs.Prelude.{IfErr, IfSome, OnOk, is_some, unwrap_or, Some, None};
 ghost use Rattle.std.specs.List.{list_all};
 ghost use Rattle.serde_json.specs.View.{view};
 ghost use Rattle.serde_json.specs.Find.{as_array};
 ghost use Rattle.sgm_calib.specs.declared.lists.Amount.TheVariants.{Exactly};
 ghost use Rattle.sgm_calib.specs.Table as table;
-ghost use Rattle.sgm_calib.specs.Rows.{whole, least, greatest, is_in_range, meant, form_meant, presence_meant};
-ghost use Rattle.sgm_calib.specs.Checks.{Allows, elements, may_have, numbers, numbers_fault, numbers_at, value_of};
+ghost use Rattle.sgm_calib.specs.Rows.{whole, least, greatest, is_in_range, meant, form_meant};
+ghost use Rattle.sgm_calib.specs.Rows.{presence_meant};
+ghost use Rattle.sgm_calib.specs.Checks.{Allows, elements, may_have, numbers, numbers_fault};
+ghost use Rattle.sgm_calib.specs.Checks.{numbers_at, value_of};
 ghost use Rattle.sgm_calib.specs.WarpKeys.{IsWithin32, pairs};
 
 use crate::checks::{is_in_range, key_at};
@@ -116,7 +119,8 @@ pub fn numbers<'a>(
     ensures count { IfOk result (λ items. Allows amount (length items.now)) }
     ensures range { IfOk result (λ items. All (λ item.
         (least (form_meant row.now.form) (view object.now) ≤ℤ unwrap_or (whole (view item)) (pos 0))
-        × (unwrap_or (whole (view item)) (pos 0) ≤ℤ greatest (form_meant row.now.form) place (view object.now)))
+        × (unwrap_or (whole (view item)) (pos 0) ≤ℤ greatest (form_meant row.now.form) place
+        (view object.now)))
         items.now) }
     ensures fault { IfErr result
         (λ f. numbers_fault place (view object.now) (meant row.now) amount ≡ Some f) }
@@ -142,7 +146,8 @@ pub fn nine(object: &Value, row: &Row, place: Place) -> Result<[i64; 9], CalibFa
     requires { row.now.number + place.shift < 256 }
     ensures ok { OnOk result
         (numbers_fault place (view object.now) (meant row.now) (Exactly 9) ≡ None) }
-    ensures value { IfOk result (λ entries. entries ≡ numbers_at (meant row.now) (view object.now)) }
+    ensures value { IfOk result (λ entries. entries
+        ≡ numbers_at (meant row.now) (view object.now)) }
     ensures count { IfOk result (λ entries. length entries ≡ 9) }
     ensures range { IfOk result (λ entries. All (λ z.
         (least (form_meant row.now.form) (view object.now) ≤ℤ z)

@@ -1,6 +1,7 @@
 //! The regions of the grid.
 
-ghost use Rattle.std.specs.Prelude.{◌≡◌, ◌+◌, ◌≤◌, ◌++◌, [], ◌∷◌, map, length, All, IfOk, IfErr, OnOk, IfSome, IsTrue, is_some, Some, None, option_map};
+ghost use Rattle.std.specs.Prelude.{◌≡◌, ◌+◌, ◌≤◌, ◌++◌, [], ◌∷◌, map, length, All, IfOk, IfErr};
+ghost use Rattle.std.specs.Prelude.{OnOk, IfSome, IsTrue, is_some, Some, None, option_map};
 ghost use Rattle.serde_json.specs.View.{view};
 ghost use Rattle.serde_json.specs.Find.{get};
 ghost use Rattle.sgm_grid.specs.Cells.{IsGridSpec};
@@ -9,8 +10,12 @@ ghost use Rattle.sgm_report.specs.Bases.{IsBasePlane};
 ghost use Rattle.sgm_report.specs.Outlines.{IsOutline};
 ghost use Rattle.sgm_calib.specs.Table as table;
 ghost use Rattle.sgm_calib.specs.Rows.{number_of, IsCount};
-ghost use Rattle.sgm_calib.specs.Checks.{first_of, key_fault, keys_fault, text_of, elements, sort_of, IsFaultOf};
-ghost use Rattle.sgm_calib.specs.RegionKeys.{region_place, region_number_keys, rises_fault, parts_fault, outline_fault, region_fault, region_faults, regions_fault_of, regions_fault, base_of, numbers_of, area_in, outline_in, regions_in};
+ghost use Rattle.sgm_calib.specs.Checks.{first_of, key_fault, keys_fault, text_of, elements};
+ghost use Rattle.sgm_calib.specs.Checks.{sort_of, IsFaultOf};
+ghost use Rattle.sgm_calib.specs.RegionKeys.{region_place, region_number_keys, rises_fault};
+ghost use Rattle.sgm_calib.specs.RegionKeys.{parts_fault, outline_fault, region_fault};
+ghost use Rattle.sgm_calib.specs.RegionKeys.{region_faults, regions_fault_of, regions_fault};
+ghost use Rattle.sgm_calib.specs.RegionKeys.{base_of, numbers_of, area_in, outline_in, regions_in};
 ghost use Rattle.sgm_calib.specs.Judge.{grid_in};
 
 use crate::checks::{

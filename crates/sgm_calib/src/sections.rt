@@ -1,11 +1,13 @@
 //! The objects that stand in a calibration file and hold no other.
 
 ghost use Rattle.std.specs.Prelude.{◌≡◌, [], ◌∷◌, ◌≤ℤ◌, ◌%◌, ◌==◌, pos, unsigned_abs};
-ghost use Rattle.std.specs.Prelude.{IsTrue, IfOk, OnOk, IfErr, IfSome, Some, None, is_some, unwrap_or};
+ghost use Rattle.std.specs.Prelude.{IsTrue, IfOk, OnOk, IfErr, IfSome, Some, None, is_some};
+ghost use Rattle.std.specs.Prelude.{unwrap_or};
 ghost use Rattle.serde_json.specs.View.{view};
 ghost use Rattle.serde_json.specs.Find.{get};
 ghost use Rattle.sgm_base.specs.declared.limits.TheConstants.{MIN_FIRST, MAX_FIRST, MAX_COUNT};
-ghost use Rattle.sgm_base.specs.declared.limits.TheConstants.{MAX_PENALTY, MIN_WINDOW_SIDE, MAX_WINDOW_WIDTH};
+ghost use Rattle.sgm_base.specs.declared.limits.TheConstants.{MAX_PENALTY, MIN_WINDOW_SIDE};
+ghost use Rattle.sgm_base.specs.declared.limits.TheConstants.{MAX_WINDOW_WIDTH};
 ghost use Rattle.sgm_base.specs.declared.limits.TheConstants.{MAX_WINDOW_HEIGHT};
 ghost use Rattle.sgm_height.specs.Camera.{IsCamera};
 ghost use Rattle.sgm_grid.specs.Cells.{IsGridSpec};
@@ -14,10 +16,13 @@ ghost use Rattle.sgm_grid.specs.declared.keep.Keep.TheVariants.{Highest};
 ghost use Rattle.sgm_energy.specs.Pens.{penalties_of as seen};
 ghost use Rattle.sgm_calib.specs.Keeps.{keep_named};
 ghost use Rattle.sgm_calib.specs.Table as table;
-ghost use Rattle.sgm_calib.specs.Rows.{number_of, count_of, truth_of, IsCount, meant, form_meant, presence_meant};
+ghost use Rattle.sgm_calib.specs.Rows.{number_of, count_of, truth_of, IsCount, meant, form_meant};
+ghost use Rattle.sgm_calib.specs.Rows.{presence_meant};
 ghost use Rattle.sgm_calib.specs.Checks.{key_fault, keys_fault, text_of, value_of, sort_of};
-ghost use Rattle.sgm_calib.specs.Table.{given_rows, rows_in, span_of, window_of, penalties_of, camera_of, grid_of};
-ghost use Rattle.sgm_calib.specs.Judge.{section_fault, camera_in, grid_in, gridding_in, gridding_of};
+ghost use Rattle.sgm_calib.specs.Table.{given_rows, rows_in, span_of, window_of, penalties_of};
+ghost use Rattle.sgm_calib.specs.Table.{camera_of, grid_of};
+ghost use Rattle.sgm_calib.specs.Judge.{section_fault, camera_in, grid_in, gridding_in};
+ghost use Rattle.sgm_calib.specs.Judge.{gridding_of};
 
 use crate::checks::{
     check_numbers, count_at, is_given, is_since, key_at, number_at, object_in, odd_or_whole,

@@ -1,15 +1,21 @@
 //! The warps of the two images.
 
-ghost use Rattle.std.specs.Prelude.{◌≡◌, [], ◌∷◌, ◌+◌, ◌*◌, ◌/◌, ◌<◌, ◌≤◌, pos, map, length, All, IfOk, IfErr, OnOk, unwrap_or, Some, None};
+ghost use Rattle.std.specs.Prelude.{◌≡◌, [], ◌∷◌, ◌+◌, ◌*◌, ◌/◌, ◌<◌, ◌≤◌, pos, map, length, All};
+ghost use Rattle.std.specs.Prelude.{IfOk, IfErr, OnOk, unwrap_or, Some, None};
 ghost use Rattle.serde_json.specs.View.{view};
 ghost use Rattle.sgm_rectify.specs.Warps.{IsWarp, IsEntry, IsNode, IsCoordinate};
-ghost use Rattle.sgm_rectify.specs.declared.limits.TheConstants.{MIN_STEP, MAX_STEP, MIN_NODE_COUNT, MAX_NODE_COUNT};
+ghost use Rattle.sgm_rectify.specs.declared.limits.TheConstants.{MIN_STEP, MAX_STEP};
+ghost use Rattle.sgm_rectify.specs.declared.limits.TheConstants.{MIN_NODE_COUNT, MAX_NODE_COUNT};
 ghost use Rattle.sgm_calib.specs.declared.kind.Kind.TheVariants.{Mesh};
 ghost use Rattle.sgm_calib.specs.declared.lists.Amount.TheVariants.{Exactly};
 ghost use Rattle.sgm_calib.specs.Table as table;
-ghost use Rattle.sgm_calib.specs.Rows.{whole, number_of, count_of, IsCount, meant, form_meant, presence_meant};
-ghost use Rattle.sgm_calib.specs.Checks.{first_of, object_fault, key_fault, keys_fault, numbers_fault, value_of, IsFaultOf};
-ghost use Rattle.sgm_calib.specs.WarpKeys.{kind_of, rows_of_kind, shape_keys, mesh_fault, matrix_in, pairs, side_fault, side_warp, warp_of_kind, warps_fault, warp_in};
+ghost use Rattle.sgm_calib.specs.Rows.{whole, number_of, count_of, IsCount, meant, form_meant};
+ghost use Rattle.sgm_calib.specs.Rows.{presence_meant};
+ghost use Rattle.sgm_calib.specs.Checks.{first_of, object_fault, key_fault, keys_fault};
+ghost use Rattle.sgm_calib.specs.Checks.{numbers_fault, value_of, IsFaultOf};
+ghost use Rattle.sgm_calib.specs.WarpKeys.{kind_of, rows_of_kind, shape_keys, mesh_fault};
+ghost use Rattle.sgm_calib.specs.WarpKeys.{matrix_in, pairs, side_fault, side_warp, warp_of_kind};
+ghost use Rattle.sgm_calib.specs.WarpKeys.{warps_fault, warp_in};
 
 use crate::checks::{check_numbers, check_object, count_at, key_at, text};
 use crate::keys::{CalibError, CalibFault};

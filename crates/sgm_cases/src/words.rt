@@ -2,9 +2,9 @@
 
 use crate::line::line_of;
 use crate::parts::words_of;
+use sgm_base::Refine;
 use sgm_energy::Dir;
 use sgm_outcome::Outcome;
-use sgm_refine::Refine;
 use sgm_words::{Options, read_words};
 use std::alloc::{AllocError, Global};
 use std::fmt::Write;

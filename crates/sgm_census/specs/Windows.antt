@@ -1,6 +1,7 @@
 -- The window of the census transform.
 use Rattle.std.specs.Prelude.{◌≡◌, ℕ, ◌-◌, ◌*◌, ◌%◌, ◌≤◌}
-use Rattle.sgm_base.specs.declared.limits.TheConstants.{MAX_WINDOW_HEIGHT, MAX_WINDOW_WIDTH, MIN_WINDOW_SIDE}
+use Rattle.sgm_base.specs.declared.limits.TheConstants.{MAX_WINDOW_HEIGHT, MAX_WINDOW_WIDTH}
+use Rattle.sgm_base.specs.declared.limits.TheConstants.{MIN_WINDOW_SIDE}
 
 -- what contracts see of a window
 pub record WindowSides : Type 0 where

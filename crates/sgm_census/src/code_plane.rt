@@ -1,5 +1,7 @@
-ghost use Rattle.std.specs.Prelude.{◌≡◌, ℕ, ◌*◌, ◌^◌, ◌<◌, length, map, is_some, unwrap_or, slice_index, slice_index_or, false, IfOk, OnOk};
-ghost use Rattle.sgm_census.specs.Codes.{Codes, IsCodes, code_at, code_by, codes_of, smoothed_code_at};
+ghost use Rattle.std.specs.Prelude.{◌≡◌, ℕ, ◌*◌, ◌^◌, ◌<◌, length, map, is_some, unwrap_or};
+ghost use Rattle.std.specs.Prelude.{slice_index, slice_index_or, false, IfOk, OnOk};
+ghost use Rattle.sgm_census.specs.Codes.{Codes, IsCodes, code_at, code_by, codes_of};
+ghost use Rattle.sgm_census.specs.Codes.{smoothed_code_at};
 ghost use Rattle.sgm_census.specs.Packed.{codes_in, IsPacked, HoldsAll, HoldsCodes};
 ghost use Rattle.sgm_census.specs.Windows.{greatest_of};
 
@@ -10,13 +12,15 @@ use sgm_base::{Plane, Size};
 use std::alloc::{AllocError, Global};
 use std::marker::Model;
 
-/// For each pixel of a plane its census code, or None where a pixel of its window is void or outside.
+/// For each pixel of a plane its census code, or None where a pixel of its window is void or
+/// outside.
 #[derive(Drop)]
 pub struct CodePlane {
     size: Size,
     window: Window,
     rule: CostRule,
-    // A pixel's code, its first truth value in the highest bit, or no matter what. Each row from right to left.
+    // A pixel's code, its first truth value in the highest bit, or no matter what. Each row from
+    // right to left.
     words: Vec<u64>,
     // Whether the pixel has a code, in the order of the words.
     present: Vec<bool>,
@@ -32,9 +36,11 @@ pub(crate) struct CodeRow<'a> {
 impl Model for CodePlane {
     ghost Value = { Codes };
 
-    ghost view = { λ p. codes_in p.size.width p.size.height p.window p.rule p.words.items p.present.items };
+    ghost view = { λ p.
+        codes_in p.size.width p.size.height p.window p.rule p.words.items p.present.items };
 
-    ghost invariant = { λ p. IsPacked p.size.width p.size.height p.window p.words.items p.present.items };
+    ghost invariant = { λ p.
+        IsPacked p.size.width p.size.height p.window p.words.items p.present.items };
 }
 
 impl CodePlane {
@@ -107,7 +113,9 @@ fn plain_codes(
     requires present_length { length present.old ≡ plane.now.width * plane.now.height }
     requires within { (k : ℕ) → slice_index words.old k < 2 ^ greatest_of window }
     requires none { (k : ℕ) → slice_index_or present.old k false ≡ false }
-    ensures { OnOk result (HoldsAll (greatest_of window) plane.now.width plane.now.height (code_at plane.now window) words.new present.new) }
+    ensures { OnOk result
+        (HoldsAll (greatest_of window) plane.now.width plane.now.height
+        (code_at plane.now window) words.new present.new) }
 {
     let (width, height) = (plane.size().width as usize, plane.size().height as usize);
     let values = values_of(alloc, plane)?;
@@ -135,7 +143,9 @@ fn smoothed_codes(
     requires present_length { length present.old ≡ plane.now.width * plane.now.height }
     requires within { (k : ℕ) → slice_index words.old k < 2 ^ greatest_of window }
     requires none { (k : ℕ) → slice_index_or present.old k false ≡ false }
-    ensures { OnOk result (HoldsAll (greatest_of window) plane.now.width plane.now.height (smoothed_code_at plane.now window) words.new present.new) }
+    ensures { OnOk result
+        (HoldsAll (greatest_of window) plane.now.width plane.now.height
+        (smoothed_code_at plane.now window) words.new present.new) }
 {
     let (width, height) = (plane.size().width as usize, plane.size().height as usize);
     let values = values_of(alloc, plane)?;
@@ -164,7 +174,9 @@ fn write_codes(
     requires present_length { length present.old ≡ plane.now.width * plane.now.height }
     requires within { (k : ℕ) → slice_index words.old k < 2 ^ greatest_of window }
     requires none { (k : ℕ) → slice_index_or present.old k false ≡ false }
-    ensures { OnOk result (HoldsAll (greatest_of window) plane.now.width plane.now.height (code_by rule plane.now window) words.new present.new) }
+    ensures { OnOk result
+        (HoldsAll (greatest_of window) plane.now.width plane.now.height
+        (code_by rule plane.now window) words.new present.new) }
 {
     match rule {
         CostRule::Plain => plain_codes(alloc, plane, window, words, present),
@@ -172,11 +184,12 @@ fn write_codes(
     }
 }
 
-/// The codes of a plane by a rule. A code has a truth value for each pixel of the window round its pixel, row by
-/// row without the centre. By the plain rule it says whether that neighbour is less than the centre, and there is
-/// none where a pixel of the window is void or outside. By the smoothed rule it says whether the neighbour, or the
-/// centre where that is void or outside, is less than the third smallest of the centre and the four pixels beside it,
-/// and there is none where the centre is void.
+/// The codes of a plane by a rule. A code has a truth value for each pixel of the window round its
+/// pixel, row by row without the centre. By the plain rule it says whether that neighbour is less
+/// than the centre, and there is none where a pixel of the window is void or outside. By the
+/// smoothed rule it says whether the neighbour, or the centre where that is void or outside, is
+/// less than the third smallest of the centre and the four pixels beside it, and there is none
+/// where the centre is void.
 pub fn codes(
     alloc: Global,
     plane: &Plane,

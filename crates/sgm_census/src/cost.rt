@@ -1,8 +1,11 @@
-ghost use Rattle.std.specs.Prelude.{◌≡◌, ℕ, ◌+◌, ◌-◌, ◌*◌, ◌^◌, ◌<◌, ◌≤◌, ◌⊎◌, length, slice_index, slice_index_or, All, EachIndex, Some, option_and_then, if◌then◌else◌, false};
+ghost use Rattle.std.specs.Prelude.{◌≡◌, ℕ, ◌+◌, ◌-◌, ◌*◌, ◌^◌, ◌<◌, ◌≤◌, ◌⊎◌, length, slice_index};
+ghost use Rattle.std.specs.Prelude.{slice_index_or, All, EachIndex, Some, option_and_then};
+ghost use Rattle.std.specs.Prelude.{if◌then◌else◌, false};
 ghost use Rattle.sgm_base.specs.Columns.{left_column};
 ghost use Rattle.sgm_lanes.specs.Middles.{smoothed};
 ghost use Rattle.sgm_census.specs.Windows.{greatest_of};
-ghost use Rattle.sgm_census.specs.Costs.{cost_between, missing_cost, single_cost, cost_by, census_cost};
+ghost use Rattle.sgm_census.specs.Costs.{cost_between, missing_cost, single_cost, cost_by};
+ghost use Rattle.sgm_census.specs.Costs.{census_cost};
 ghost use Rattle.sgm_census.specs.Packed.{bits_of, unpacked, HoldsSmall};
 ghost use Rattle.sgm_census.specs.declared.rule.CostRule.TheVariants.{Smoothed};
 
@@ -37,7 +40,8 @@ fn scale_of(rule: CostRule, window: Window) -> Scale
 fn mask(present: &[bool], missing: u8, into: &mut [u8])
     requires { length present.now ≡ length into.old }
     ensures { EachIndex into.new (λ k.
-        slice_index into.new k ≡ (if slice_index_or present.now k false then slice_index into.old k else missing)) }
+        slice_index into.new k
+        ≡ (if slice_index_or present.now k false then slice_index into.old k else missing)) }
 {
     for i in 0..into.len() {
         let cost = into[i];
@@ -53,7 +57,8 @@ fn cost_each(code: u64, words: &[u64], present: &[bool], scale: Scale, into: &mu
     requires code { code < 2 ^ scale.bits }
     requires words { HoldsSmall scale.bits words.now }
     ensures { EachIndex into.new (λ k. slice_index into.new k
-        ≡ cost_between scale.missing (Some (bits_of scale.bits code)) (unpacked scale.bits words.now present.now k)) }
+        ≡ cost_between scale.missing (Some (bits_of scale.bits code))
+        (unpacked scale.bits words.now present.now k)) }
 {
     hamming_to(code, words, into);
     mask(present, scale.missing, into);
@@ -77,7 +82,8 @@ fn cost_pixel(
     requires right_small { HoldsSmall scale.bits right.words.now }
     requires whole { length into.old ≡ span.count }
     ensures { (d : ℕ) → d < span.count → slice_index into.new d
-        ≡ cost_between scale.missing (unpacked scale.bits left.entry.words.now left.entry.present.now place)
+        ≡ cost_between scale.missing
+        (unpacked scale.bits left.entry.words.now left.entry.present.now place)
         (option_and_then (unpacked scale.bits right.entry.words.now right.entry.present.now)
         (left_column (length left.entry.words.now) span.first place d)) }
 {
@@ -108,7 +114,8 @@ fn single_row(left: &CodePlane, right: &CodePlane, span: Span, y: u32, into: &mu
     requires row { y < left.now.height }
     requires whole { length into.old ≡ left.now.width * span.count }
     ensures each { (x d : ℕ) → x < left.now.width → d < span.count
-        → slice_index into.new (x * span.count + d) ≡ single_cost left.now right.now span.first x y d }
+        → slice_index into.new (x * span.count + d)
+        ≡ single_cost left.now right.now span.first x y d }
     ensures most { All (λ c. c ≤ MAX_COST) into.new }
 {
     let count = span.count as usize;
@@ -123,17 +130,20 @@ fn single_row(left: &CodePlane, right: &CodePlane, span: Span, y: u32, into: &mu
     }
 }
 
-/// Smooths the costs of a pixel, which stand from `at` on, between those before it and those of the next
-/// pixel, which follow. Then `before` has the pixel's costs as they were.
+/// Smooths the costs of a pixel, which stand from `at` on, between those before it and those of the
+/// next pixel, which follow. Then `before` has the pixel's costs as they were.
 #[inline(always)]
 fn smooth_at(before: &mut [u8], at: usize, costs: &mut [u8])
     requires room { at + 2 * length before.old ≤ length costs.old }
     requires before_small { All (λ c. c ≤ MAX_COST) before.old }
     requires small { All (λ c. c ≤ MAX_COST) costs.old }
     ensures inside { (d : ℕ) → d < length before.old → slice_index costs.new (at + d)
-        ≡ smoothed (slice_index before.old d) (slice_index costs.old (at + d)) (slice_index costs.old (at + length before.old + d)) }
-    ensures outside { (k : ℕ) → (k < at) ⊎ (at + length before.old ≤ k) → slice_index costs.new k ≡ slice_index costs.old k }
-    ensures kept { (d : ℕ) → d < length before.old → slice_index before.new d ≡ slice_index costs.old (at + d) }
+        ≡ smoothed (slice_index before.old d) (slice_index costs.old (at + d))
+        (slice_index costs.old (at + length before.old + d)) }
+    ensures outside { (k : ℕ) → (k < at) ⊎ (at + length before.old ≤ k)
+        → slice_index costs.new k ≡ slice_index costs.old k }
+    ensures kept { (d : ℕ) → d < length before.old
+        → slice_index before.new d ≡ slice_index costs.old (at + d) }
     ensures before_small { All (λ c. c ≤ MAX_COST) before.new }
     ensures small { All (λ c. c ≤ MAX_COST) costs.new }
 {
@@ -143,14 +153,16 @@ fn smooth_at(before: &mut [u8], at: usize, costs: &mut [u8])
     smooth(before, cells, &after[..count]);
 }
 
-/// Smooths the costs of a row's last pixel, which stand from `at` on, between those before it and its own.
+/// Smooths the costs of a row's last pixel, which stand from `at` on, between those before it and
+/// its own.
 #[inline(always)]
 fn smooth_end(before: &[u8], at: usize, costs: &mut [u8])
     requires room { at + length before.now ≡ length costs.old }
     requires before_small { All (λ c. c ≤ MAX_COST) before.now }
     requires small { All (λ c. c ≤ MAX_COST) costs.old }
     ensures inside { (d : ℕ) → d < length before.now → slice_index costs.new (at + d)
-        ≡ smoothed (slice_index before.now d) (slice_index costs.old (at + d)) (slice_index costs.old (at + d)) }
+        ≡ smoothed (slice_index before.now d) (slice_index costs.old (at + d))
+        (slice_index costs.old (at + d)) }
     ensures outside { (k : ℕ) → k < at → slice_index costs.new k ≡ slice_index costs.old k }
     ensures small { All (λ c. c ≤ MAX_COST) costs.new }
 {
@@ -178,12 +190,13 @@ fn smooth_row(width: usize, count: usize, costs: &mut [u8])
     smooth_end(before, (width - 1) * count, costs);
 }
 
-/// Writes the costs of the row `y`: that of the column x and the index d, which stands for the disparity
-/// `first + d`, at `x * count + d`. By the plain rule it is the single cost: the number of places in which the
-/// left code at (x, y) and the right code at (x - first - d, y) differ, or the window's greatest cost where
-/// either is none or outside. By the smoothed rule it is a quarter, rounded down, of the single costs at x - 1
-/// and x + 1 and twice that at x, where three sevenths of the greatest stand for a missing code, and the pixel
-/// itself for one beside it that lies outside. Takes no memory.
+/// Writes the costs of the row `y`: that of the column x and the index d, which stands for the
+/// disparity `first + d`, at `x * count + d`. By the plain rule it is the single cost: the number
+/// of places in which the left code at (x, y) and the right code at (x - first - d, y) differ, or
+/// the window's greatest cost where either is none or outside. By the smoothed rule it is a
+/// quarter, rounded down, of the single costs at x - 1 and x + 1 and twice that at x, where three
+/// sevenths of the greatest stand for a missing code, and the pixel itself for one beside it that
+/// lies outside. Takes no memory.
 pub fn cost_row(left: &CodePlane, right: &CodePlane, span: Span, y: u32, into: &mut [u8])
     requires same_width { left.now.width ≡ right.now.width }
     requires same_height { left.now.height ≡ right.now.height }
@@ -191,7 +204,8 @@ pub fn cost_row(left: &CodePlane, right: &CodePlane, span: Span, y: u32, into: &
     requires row { y < left.now.height }
     requires whole { length into.old ≡ left.now.width * span.count }
     ensures each { (x d : ℕ) → x < left.now.width → d < span.count
-        → slice_index into.new (x * span.count + d) ≡ census_cost left.now right.now span.first x y d }
+        → slice_index into.new (x * span.count + d)
+        ≡ census_cost left.now right.now span.first x y d }
     ensures most { All (λ c. c ≤ MAX_COST) into.new }
 {
     single_row(left, right, span, y, into);
@@ -228,7 +242,9 @@ fn cost_index(left: CodeRow, right: CodeRow, scale: Scale, span: Span, place: us
     requires right_present { length right.present.now ≡ length left.words.now }
     requires left_small { HoldsSmall scale.bits left.words.now }
     requires right_small { HoldsSmall scale.bits right.words.now }
-    ensures { result ≡ cost_between scale.missing (unpacked scale.bits left.entry.words.now left.entry.present.now place)
+    ensures { result
+        ≡ cost_between scale.missing
+        (unpacked scale.bits left.entry.words.now left.entry.present.now place)
         (option_and_then (unpacked scale.bits right.entry.words.now right.entry.present.now)
         (left_column (length left.entry.words.now) span.first place d)) }
 {
@@ -257,8 +273,8 @@ fn single_at(left: &CodePlane, right: &CodePlane, span: Span, x: u32, y: u32, d:
     cost_index(left, right, scale, span, place, d as usize)
 }
 
-/// The cost of the column `x` and the index `d` in the row `y`: what [`cost_row`] writes there. Takes no
-/// memory.
+/// The cost of the column `x` and the index `d` in the row `y`: what [`cost_row`] writes there.
+/// Takes no memory.
 pub fn cost_at(left: &CodePlane, right: &CodePlane, span: Span, x: u32, y: u32, d: u32) -> u8
     requires same_width { left.now.width ≡ right.now.width }
     requires same_height { left.now.height ≡ right.now.height }

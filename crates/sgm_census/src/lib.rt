@@ -1,6 +1,6 @@
-//! The census transform: for each pixel of a plane a code of truth values, and the cost of matching two
-//! pixels, which is the number of places in which their codes differ, or by the smoothed rule a mean of these
-//! along the row.
+//! The census transform: for each pixel of a plane a code of truth values, and the cost of matching
+//! two pixels, which is the number of places in which their codes differ, or by the smoothed rule a
+//! mean of these along the row.
 #![tactic(auto)]
 
 mod code_plane;

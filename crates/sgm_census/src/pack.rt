@@ -1,18 +1,22 @@
-//! Codes as words, a row of pixels at a time, so that many neighbours are compared with their centres at
-//! once.
+//! Codes as words, a row of pixels at a time, so that many neighbours are compared with their
+//! centres at once.
 
-ghost use Rattle.std.specs.Prelude.{◌≡◌, ℕ, ◌+◌, ◌-◌, ◌*◌, ◌/◌, ◌%◌, ◌^◌, ◌<◌, ◌≤◌, ◌&&◌, nat_lt, length, take, drop, slice_index, slice_index_or, false, EachIndex};
+ghost use Rattle.std.specs.Prelude.{◌≡◌, ℕ, ◌+◌, ◌-◌, ◌*◌, ◌/◌, ◌%◌, ◌^◌, ◌<◌, ◌≤◌, ◌&&◌, nat_lt};
+ghost use Rattle.std.specs.Prelude.{length, take, drop, slice_index, slice_index_or, false};
+ghost use Rattle.std.specs.Prelude.{EachIndex};
 ghost use Rattle.std.specs.Int.{from_bool};
 ghost use Rattle.std.specs.List.{list_all};
 ghost use Rattle.sgm_census.specs.Windows.{greatest_of};
 ghost use Rattle.sgm_census.specs.Codes.{code_at};
 ghost use Rattle.sgm_base.specs.Values.{IsValues};
-ghost use Rattle.sgm_census.specs.Packed.{pushed, lesser, in_rows, all_in, word_to, without, unpacked, word_place, HoldsPlain};
+ghost use Rattle.sgm_census.specs.Packed.{pushed, lesser, in_rows, all_in, word_to, without};
+ghost use Rattle.sgm_census.specs.Packed.{unpacked, word_place, HoldsPlain};
 
 use crate::Window;
 use sgm_base::{MAX_WINDOW_WIDTH, Plane};
 
-/// A plane's values, row by row, 0 where it is void, whether there is a value, and the plane's sides.
+/// A plane's values, row by row, 0 where it is void, whether there is a value, and the plane's
+/// sides.
 #[derive(Clone, Copy)]
 pub(crate) struct Plain<'a> {
     pub(crate) values: &'a [u16],
@@ -27,7 +31,8 @@ fn push_bits(values: &[u16], centres: &[u16], bits: &mut [u16])
     requires centres_length { length centres.now ≡ length bits.old }
     requires room { (k : ℕ) → k < length bits.old → slice_index bits.old k < 2 ^ 15 }
     ensures { EachIndex bits.new (λ k. slice_index bits.new k
-        ≡ 2 * slice_index bits.old k + from_bool (nat_lt (slice_index values.now k) (slice_index centres.now k))) }
+        ≡ 2 * slice_index bits.old k
+        + from_bool (nat_lt (slice_index values.now k) (slice_index centres.now k))) }
 {
     for k in 0..bits.len() {
         bits[k] = 2 * bits[k] + u16::from(values[k] < centres[k]);
@@ -50,8 +55,10 @@ fn append(bits: &[u16], by: u32, words: &mut [u64])
     requires bits_length { length bits.now ≡ length words.old }
     requires few { by < 16 }
     requires small { (k : ℕ) → k < length words.old → slice_index bits.now k < 2 ^ by }
-    requires room { (k : ℕ) → k < length words.old → (slice_index words.old k + 1) * 2 ^ by ≤ 2 ^ 63 }
-    ensures { EachIndex words.new (λ k. slice_index words.new k ≡ slice_index words.old k * 2 ^ by + slice_index bits.now k) }
+    requires room { (k : ℕ) → k < length words.old
+        → (slice_index words.old k + 1) * 2 ^ by ≤ 2 ^ 63 }
+    ensures { EachIndex words.new (λ k. slice_index words.new k
+        ≡ slice_index words.old k * 2 ^ by + slice_index bits.now k) }
 {
     for k in 0..words.len() {
         words[k] = appended(words[k], bits[k], by);
@@ -80,7 +87,8 @@ fn nine_bits(values: &[u16], at: usize, centre: u16) -> u16
     three_more(six, values, at + 6, centre)
 }
 
-/// Writes nine bits for each place: whether the value there and those after it are less than the centre.
+/// Writes nine bits for each place: whether the value there and those after it are less than the
+/// centre.
 fn write_nine(values: &[u16], centres: &[u16], bits: &mut [u16])
     requires values_length { length bits.old + 8 ≤ length values.now }
     requires centres_length { length centres.now ≡ length bits.old }
@@ -99,7 +107,8 @@ fn push_three(values: &[u16], centres: &[u16], bits: &mut [u16])
     requires centres_length { length centres.now ≡ length bits.old }
     requires room { (k : ℕ) → k < length bits.old → slice_index bits.old k < 2 ^ 13 }
     ensures { EachIndex bits.new (λ k. slice_index bits.new k
-        ≡ pushed (slice_index bits.old k) (lesser (slice_index centres.now k) (take 3 (drop k values.now)))) }
+        ≡ pushed (slice_index bits.old k)
+        (lesser (slice_index centres.now k) (take 3 (drop k values.now)))) }
 {
     for k in 0..bits.len() {
         bits[k] = three_more(bits[k], values, k, centres[k]);
@@ -126,16 +135,18 @@ fn write_threes(row: &[u16], centres: &[u16], threes: usize, bits: &mut [u16])
     }
 }
 
-/// Pushes to each word the bits of a row of its window, which is so wide. What `bits` holds before does
-/// not matter.
+/// Pushes to each word the bits of a row of its window, which is so wide. What `bits` holds before
+/// does not matter.
 fn push_row(row: &[u16], centres: &[u16], wide: usize, bits: &mut [u16], words: &mut [u64])
     requires wide { wide ≤ MAX_WINDOW_WIDTH }
     requires row_length { length row.now + 1 ≡ length words.old + wide }
     requires centres_length { length centres.now ≡ length words.old }
     requires bits_length { length bits.old ≡ length words.old }
-    requires room { (k : ℕ) → k < length words.old → (slice_index words.old k + 1) * 2 ^ wide ≤ 2 ^ 63 }
+    requires room { (k : ℕ) → k < length words.old
+        → (slice_index words.old k + 1) * 2 ^ wide ≤ 2 ^ 63 }
     ensures { EachIndex words.new (λ k. slice_index words.new k
-        ≡ pushed (slice_index words.old k) (lesser (slice_index centres.now k) (take wide (drop k row.now)))) }
+        ≡ pushed (slice_index words.old k)
+        (lesser (slice_index centres.now k) (take wide (drop k row.now)))) }
 {
     let len = bits.len();
     let threes = wide / 3;
@@ -197,15 +208,17 @@ pub(crate) fn without_centre(word: u64, half: u32) -> u64
 /// Takes the bits of the centres out.
 fn drop_centres(words: &mut [u64], half: u32)
     requires { half < 32 }
-    ensures { EachIndex words.new (λ k. slice_index words.new k ≡ without half (slice_index words.old k)) }
+    ensures { EachIndex words.new (λ k. slice_index words.new k
+        ≡ without half (slice_index words.old k)) }
 {
     for word in words.iter_mut() {
         *word = without_centre(*word, half);
     }
 }
 
-/// Writes for each column the bits of all values of the window whose first column it is and whose first
-/// row is `top`: whether they are less than the column's centre. What `bits` holds before does not matter.
+/// Writes for each column the bits of all values of the window whose first column it is and whose
+/// first row is `top`: whether they are less than the column's centre. What `bits` holds before
+/// does not matter.
 fn window_words(
     plain: Plain,
     window: Window,
@@ -219,7 +232,9 @@ fn window_words(
     requires centres_length { length centres.now ≡ length words.old }
     requires bits_length { length bits.old ≡ length words.old }
     ensures { EachIndex words.new (λ k. slice_index words.new k
-        ≡ pushed 0 (lesser (slice_index centres.now k) (in_rows plain.entry.width plain.entry.values.now window k top))) }
+        ≡ pushed 0
+        (lesser (slice_index centres.now k)
+        (in_rows plain.entry.width plain.entry.values.now window k top))) }
 {
     let width = plain.width;
     let (wide, high) = (window.width as usize, window.height as usize);
@@ -236,8 +251,9 @@ fn window_words(
     }
 }
 
-/// Writes the words of a row of codes whose windows have their first row at `top`: those of the columns whose
-/// windows lie in the plane, each against its centre, from right to left. The centres stand from left to right.
+/// Writes the words of a row of codes whose windows have their first row at `top`: those of the
+/// columns whose windows lie in the plane, each against its centre, from right to left. The centres
+/// stand from left to right.
 pub(crate) fn code_words(
     plain: Plain,
     window: Window,
@@ -251,7 +267,8 @@ pub(crate) fn code_words(
     requires centres_length { length centres.now ≡ length words.old }
     requires bits_length { length bits.old ≡ length words.old }
     ensures { (k : ℕ) → k < length words.new → slice_index words.new k
-        ≡ word_to plain.entry.width plain.entry.values.now window (slice_index centres.now (length words.new - 1 - k))
+        ≡ word_to plain.entry.width plain.entry.values.now window
+        (slice_index centres.now (length words.new - 1 - k))
         (length words.new - 1 - k) top }
 {
     window_words(plain, window, top, centres, bits, words);
@@ -275,8 +292,8 @@ fn window_marks(plain: Plain, window: Window, top: usize, present: &mut [bool])
     }
 }
 
-/// Writes the marks of a row of windows whose first row is `top`: whether all values of the window are there,
-/// from right to left.
+/// Writes the marks of a row of windows whose first row is `top`: whether all values of the window
+/// are there, from right to left.
 pub(crate) fn code_marks(plain: Plain, window: Window, top: usize, present: &mut [bool])
     requires rows { (top + window.height) * plain.width ≤ length plain.there.now }
     requires columns { length present.old + window.width ≡ plain.width + 1 }
@@ -287,8 +304,8 @@ pub(crate) fn code_marks(plain: Plain, window: Window, top: usize, present: &mut
     present.reverse();
 }
 
-/// Writes the plain codes of the plane, row by row, each row from right to left. What `bits`, as wide as the plane,
-/// holds before does not matter.
+/// Writes the plain codes of the plane, row by row, each row from right to left. What `bits`, as
+/// wide as the plane, holds before does not matter.
 pub(crate) fn code_rows(
     plane: &Plane,
     window: Window,
@@ -297,7 +314,8 @@ pub(crate) fn code_rows(
     words: &mut [u64],
     present: &mut [bool],
 )
-    requires holds { HoldsPlain plane.now plain.values.now plain.there.now plain.width plain.height }
+    requires holds { HoldsPlain plane.now plain.values.now plain.there.now plain.width
+        plain.height }
     requires kept { IsValues plane.now }
     requires bits_length { length bits.old ≡ plane.now.width }
     requires words_length { length words.old ≡ plane.now.width * plane.now.height }
@@ -305,7 +323,8 @@ pub(crate) fn code_rows(
     requires within { (k : ℕ) → slice_index words.old k < 2 ^ greatest_of window }
     requires none { (k : ℕ) → slice_index_or present.old k false ≡ false }
     ensures each { (x y : ℕ) → x < plane.now.width → y < plane.now.height
-        → unpacked (greatest_of window) words.new present.new (word_place plane.now.width x y) ≡ code_at plane.now window x y }
+        → unpacked (greatest_of window) words.new present.new (word_place plane.now.width x y)
+        ≡ code_at plane.now window x y }
     ensures within { (k : ℕ) → slice_index words.new k < 2 ^ greatest_of window }
 {
     let (width, height) = (plain.width, plain.height);

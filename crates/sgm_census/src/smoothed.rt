@@ -1,11 +1,15 @@
-//! Codes of the smoothed rule: neighbours against the middle of five values, and a pixel's own value in the place of
-//! neighbours that are void or outside. Where all of a window is there, its code is made with those of its row.
+//! Codes of the smoothed rule: neighbours against the middle of five values, and a pixel's own
+//! value in the place of neighbours that are void or outside. Where all of a window is there, its
+//! code is made with those of its row.
 
-ghost use Rattle.std.specs.Prelude.{◌≡◌, ◌≢◌, ℕ, ◌+◌, ◌-◌, ◌*◌, ◌/◌, ◌^◌, ◌<◌, ◌≤◌, nat_lt, length, map, option_map, slice_index, slice_index_or, unwrap_or, Some, true, false, IfSome};
+ghost use Rattle.std.specs.Prelude.{◌≡◌, ◌≢◌, ℕ, ◌+◌, ◌-◌, ◌*◌, ◌/◌, ◌^◌, ◌<◌, ◌≤◌, nat_lt, length};
+ghost use Rattle.std.specs.Prelude.{map, option_map, slice_index, slice_index_or, unwrap_or, Some};
+ghost use Rattle.std.specs.Prelude.{true, false, IfSome};
 ghost use Rattle.std.specs.List.{flat_map, range_with_len};
 ghost use Rattle.sgm_base.specs.Values.{IsValues, value_at};
 ghost use Rattle.sgm_census.specs.Codes.{middle_at, smoothed_code_at, three_by_three, value_near};
-ghost use Rattle.sgm_census.specs.Packed.{HoldsPlain, bits_of, pushed, unpacked, word_place, word_to};
+ghost use Rattle.sgm_census.specs.Packed.{HoldsPlain, bits_of, pushed, unpacked, word_place};
+ghost use Rattle.sgm_census.specs.Packed.{word_to};
 ghost use Rattle.sgm_census.specs.Smoothing.{HasMiddles, IsInside, IsWhole, word_by};
 ghost use Rattle.sgm_census.specs.Windows.{greatest_of};
 ghost use Rattle.sgm_lanes.specs.Middles.{middle_of};
@@ -44,8 +48,8 @@ fn pixel(plane: &Plane, x: usize, y: usize) -> Option<u16>
     }
 }
 
-/// The value in the column `i` and the row `j` of the window round the pixel (x, y), none where it is void or
-/// outside.
+/// The value in the column `i` and the row `j` of the window round the pixel (x, y), none where it
+/// is void or outside.
 #[inline]
 fn near(plane: &Plane, window: Window, x: usize, y: usize, i: usize, j: usize) -> Option<u16>
     requires column { x + i < 2 ^ 16 }
@@ -91,7 +95,8 @@ fn middle_near(plane: &Plane, x: usize, y: usize, own: u16) -> u16
 fn write_middle(plane: &Plane, x: usize, y: usize, into: &mut [u16])
     requires column { x < length into.old }
     requires small { (x < 2 ^ 15) × (y < 2 ^ 15) }
-    ensures written { (own : ℕ) → value_at plane.now x y ≡ Some own → slice_index into.new x ≡ middle_at plane.now x y own }
+    ensures written { (own : ℕ) → value_at plane.now x y ≡ Some own
+        → slice_index into.new x ≡ middle_at plane.now x y own }
     ensures others { (k : ℕ) → k ≢ x → slice_index into.new k ≡ slice_index into.old k }
 {
     if let Some(own) = pixel(plane, x, y) {
@@ -111,13 +116,16 @@ fn each_middle(plane: &Plane, y: usize, into: &mut [u16])
     }
 }
 
-/// Writes the middles of the row `y` but for its first and its last column, where all values in it, above it and
-/// below it are there.
+/// Writes the middles of the row `y` but for its first and its last column, where all values in it,
+/// above it and below it are there.
 fn inner_middles(plain: Plain, y: usize, into: &mut [u16])
     requires wide { (length into.old ≡ plain.width) × (3 ≤ plain.width) }
     requires rows { (1 ≤ y) × ((y + 2) * plain.width ≤ length plain.values.now) }
-    ensures { (k : ℕ) → k + 2 < plain.entry.width → let value : ℕ → ℕ → ℕ = λ r q. slice_index plain.entry.values.now (r * plain.entry.width + q) in
-        slice_index into.new (k + 1) ≡ middle_of (value y (k + 1)) (value y (k + 2)) (value y k) (value (y + 1) (k + 1)) (value (y - 1) (k + 1)) }
+    ensures { (k : ℕ) → k + 2 < plain.entry.width → let value : ℕ → ℕ
+        → ℕ = λ r q. slice_index plain.entry.values.now (r * plain.entry.width + q) in
+        slice_index into.new (k + 1)
+        ≡ middle_of (value y (k + 1)) (value y (k + 2)) (value y k) (value (y + 1) (k + 1))
+        (value (y - 1) (k + 1)) }
 {
     let (width, values) = (plain.width, plain.values);
     let len = width - 2;
@@ -136,7 +144,8 @@ fn inner_middles(plain: Plain, y: usize, into: &mut [u16])
 
 /// Writes the middles of the row `y`.
 fn row_middles(plane: &Plane, plain: Plain, y: usize, into: &mut [u16])
-    requires holds { HoldsPlain plane.now plain.values.now plain.there.now plain.width plain.height }
+    requires holds { HoldsPlain plane.now plain.values.now plain.there.now plain.width
+        plain.height }
     requires wide { length into.old ≡ plane.now.width }
     requires row { y < plane.now.height }
     ensures { HasMiddles plane.now y into.new }
@@ -161,7 +170,9 @@ fn push_near(plane: &Plane, window: Window, at: Centre, j: usize, word: u64) -> 
     requires pixel { (at.x < 2 ^ 15) × (at.y < 2 ^ 15) }
     requires row { j < window.height }
     requires room { (word + 1) * 2 ^ window.width ≤ 2 ^ 63 }
-    ensures { result ≡ pushed word (map (λ i. nat_lt (unwrap_or (value_near plane.now window at.x at.y i j) at.own) at.middle)
+    ensures { result
+        ≡ pushed word
+        (map (λ i. nat_lt (unwrap_or (value_near plane.now window at.x at.y i j) at.own) at.middle)
         (range_with_len 0 window.width)) }
 {
     let mut word = word;
@@ -172,7 +183,8 @@ fn push_near(plane: &Plane, window: Window, at: Centre, j: usize, word: u64) -> 
     word
 }
 
-/// The code of a pixel as a word, each neighbour that is void or outside with the pixel's own value.
+/// The code of a pixel as a word, each neighbour that is void or outside with the pixel's own
+/// value.
 fn near_word(plane: &Plane, window: Window, at: Centre) -> u64
     requires pixel { (at.x < 2 ^ 15) × (at.y < 2 ^ 15) }
     ensures { result ≡ word_by plane.now window at.x at.y at.own at.middle }
@@ -187,8 +199,10 @@ fn near_word(plane: &Plane, window: Window, at: Centre) -> u64
 /// The code of the pixel (x, y), whose middle is given, as a word.
 fn coded(plane: &Plane, window: Window, x: usize, y: usize, middle: u16) -> Option<u64>
     requires pixel { (x < 2 ^ 15) × (y < 2 ^ 15) }
-    requires middle { (own : ℕ) → value_at plane.now x y ≡ Some own → middle ≡ middle_at plane.now x y own }
-    ensures code { option_map (bits_of (greatest_of window)) result ≡ smoothed_code_at plane.now window x y }
+    requires middle { (own : ℕ) → value_at plane.now x y ≡ Some own
+        → middle ≡ middle_at plane.now x y own }
+    ensures code { option_map (bits_of (greatest_of window)) result
+        ≡ smoothed_code_at plane.now window x y }
     ensures within { IfSome result (λ word. word < 2 ^ greatest_of window) }
 {
     // Known from here on: the window's range.
@@ -203,9 +217,11 @@ fn put(word: Option<u64>, place: usize, words: &mut [u64], present: &mut [bool])
     requires place { (place < length words.old) × (place < length present.old) }
     requires none { slice_index_or present.old place false ≡ false }
     ensures put { (n : ℕ) → unpacked n words.new present.new place ≡ option_map (bits_of n) word }
-    ensures within { (limit : ℕ) → IfSome word (λ w. w < limit) → slice_index words.old place < limit → slice_index words.new place < limit }
+    ensures within { (limit : ℕ) → IfSome word (λ w. w < limit)
+        → slice_index words.old place < limit → slice_index words.new place < limit }
     ensures words { (k : ℕ) → k ≢ place → slice_index words.new k ≡ slice_index words.old k }
-    ensures present { (k : ℕ) → k ≢ place → slice_index_or present.new k false ≡ slice_index_or present.old k false }
+    ensures present { (k : ℕ) → k ≢ place
+        → slice_index_or present.new k false ≡ slice_index_or present.old k false }
 {
     if let Some(word) = word {
         words[place] = word;
@@ -228,10 +244,13 @@ fn complete(
     requires words_length { length words.old ≡ plane.now.width }
     requires present_length { length present.old ≡ plane.now.width }
     requires within { (k : ℕ) → slice_index words.old k < 2 ^ greatest_of window }
-    requires marked { (x : ℕ) → x < plane.now.width → slice_index_or present.old (plane.now.width - 1 - x) false ≡ true
-        → unpacked (greatest_of window) words.old present.old (plane.now.width - 1 - x) ≡ smoothed_code_at plane.now window x y }
+    requires marked { (x : ℕ) → x < plane.now.width
+        → slice_index_or present.old (plane.now.width - 1 - x) false ≡ true
+        → unpacked (greatest_of window) words.old present.old (plane.now.width - 1 - x)
+        ≡ smoothed_code_at plane.now window x y }
     ensures each { (x : ℕ) → x < plane.now.width
-        → unpacked (greatest_of window) words.new present.new (plane.now.width - 1 - x) ≡ smoothed_code_at plane.now window x y }
+        → unpacked (greatest_of window) words.new present.new (plane.now.width - 1 - x)
+        ≡ smoothed_code_at plane.now window x y }
     ensures within { (k : ℕ) → slice_index words.new k < 2 ^ greatest_of window }
 {
     let _ = plane.size();
@@ -249,7 +268,8 @@ fn complete(
     }
 }
 
-/// Writes the words of the pixels of the row `y` whose windows lie in the plane, from right to left.
+/// Writes the words of the pixels of the row `y` whose windows lie in the plane, from right to
+/// left.
 fn inner_words(
     plain: Plain,
     window: Window,
@@ -265,7 +285,8 @@ fn inner_words(
     requires within { (k : ℕ) → slice_index words.old k < 2 ^ greatest_of window }
     ensures whole { (x : ℕ) → IsInside plain.entry.width plain.entry.height window x y
         → slice_index words.new (plain.entry.width - 1 - x)
-        ≡ word_to plain.entry.width plain.entry.values.now window (slice_index middles.now x) (x - window.width / 2) (y - window.height / 2) }
+        ≡ word_to plain.entry.width plain.entry.values.now window (slice_index middles.now x)
+        (x - window.width / 2) (y - window.height / 2) }
     ensures within { (k : ℕ) → slice_index words.new k < 2 ^ greatest_of window }
 {
     let (across, down) = (window.width as usize / 2, window.height as usize / 2);
@@ -286,12 +307,14 @@ fn inner_words(
     );
 }
 
-/// Marks the pixels of the row `y` whose windows lie in the plane and are all there, from right to left.
+/// Marks the pixels of the row `y` whose windows lie in the plane and are all there, from right to
+/// left.
 fn inner_marks(plain: Plain, window: Window, y: usize, present: &mut [bool])
     requires there { length plain.there.now ≡ plain.width * plain.height }
     requires present_length { length present.old ≡ plain.width }
     requires none { (k : ℕ) → slice_index_or present.old k false ≡ false }
-    ensures { (x : ℕ) → x < plain.entry.width → slice_index_or present.new (plain.entry.width - 1 - x) false ≡ true
+    ensures { (x : ℕ) → x < plain.entry.width
+        → slice_index_or present.new (plain.entry.width - 1 - x) false ≡ true
         → IsWhole plain.entry.width plain.entry.height plain.entry.there.now window x y }
 {
     let (across, down) = (window.width as usize / 2, window.height as usize / 2);
@@ -304,8 +327,8 @@ fn inner_marks(plain: Plain, window: Window, y: usize, present: &mut [bool])
     code_marks(plain, window, y - down, inner);
 }
 
-/// Writes the smoothed codes of the plane, row by row, each row from right to left. What `room`, twice as wide as
-/// the plane, holds before does not matter.
+/// Writes the smoothed codes of the plane, row by row, each row from right to left. What `room`,
+/// twice as wide as the plane, holds before does not matter.
 pub(crate) fn smoothed_rows(
     plane: &Plane,
     window: Window,
@@ -314,14 +337,16 @@ pub(crate) fn smoothed_rows(
     words: &mut [u64],
     present: &mut [bool],
 )
-    requires holds { HoldsPlain plane.now plain.values.now plain.there.now plain.width plain.height }
+    requires holds { HoldsPlain plane.now plain.values.now plain.there.now plain.width
+        plain.height }
     requires room_length { length room.old ≡ 2 * plane.now.width }
     requires words_length { length words.old ≡ plane.now.width * plane.now.height }
     requires present_length { length present.old ≡ plane.now.width * plane.now.height }
     requires within { (k : ℕ) → slice_index words.old k < 2 ^ greatest_of window }
     requires none { (k : ℕ) → slice_index_or present.old k false ≡ false }
     ensures each { (x y : ℕ) → x < plane.now.width → y < plane.now.height
-        → unpacked (greatest_of window) words.new present.new (word_place plane.now.width x y) ≡ smoothed_code_at plane.now window x y }
+        → unpacked (greatest_of window) words.new present.new (word_place plane.now.width x y)
+        ≡ smoothed_code_at plane.now window x y }
     ensures within { (k : ℕ) → slice_index words.new k < 2 ^ greatest_of window }
 {
     // Known from here on: what the plane keeps, and the window's range.

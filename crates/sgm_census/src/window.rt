@@ -4,7 +4,8 @@ ghost use Rattle.sgm_census.specs.Windows.{WindowSides, IsWindow, greatest_of};
 use sgm_base::{MAX_COST, MAX_WINDOW_HEIGHT, MAX_WINDOW_WIDTH, MIN_WINDOW_SIDE};
 use std::marker::Model;
 
-/// The sides of a census window in pixels, both odd: the width is 3, 5, 7 or 9, the height 3, 5 or 7.
+/// The sides of a census window in pixels, both odd: the width is 3, 5, 7 or 9, the height 3, 5 or
+/// 7.
 #[derive(Clone, Copy, PartialEq, Eq)]
 pub struct Window {
     pub width: u32,
@@ -36,8 +37,8 @@ impl Window {
         }
     }
 
-    /// The greatest cost of two codes, width * height - 1, which is at most [`MAX_COST`]. It is also the
-    /// number of truth values of a code.
+    /// The greatest cost of two codes, width * height - 1, which is at most [`MAX_COST`]. It is
+    /// also the number of truth values of a code.
     pub fn greatest(&self) -> u8
         ensures value { result ≡ greatest_of self.now }
         ensures most { result ≤ MAX_COST }

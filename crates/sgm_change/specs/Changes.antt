@@ -1,6 +1,7 @@
--- What came, what went, and what changed between two grids of the same ground. A cell of both is its
--- height in the earlier and its height in the later one, or none where it is empty.
-use Rattle.std.specs.Prelude.{ℕ, ◌*◌, ◌&&◌, Bool, ℤ, List, count_by, sum_by, is_some, is_none, Option, Some}
+-- What came, what went, and what changed between two grids of the same ground. A cell of both is
+-- its height in the earlier and its height in the later one, or none where it is empty.
+use Rattle.std.specs.Prelude.{ℕ, ◌*◌, ◌&&◌, Bool, ℤ, List, count_by, sum_by, is_some, is_none}
+use Rattle.std.specs.Prelude.{Option, Some}
 use Rattle.std.specs.List.{zip}
 use Rattle.sgm_grid.specs.Cells.{Cells}
 use Rattle.sgm_report.specs.Tallies.{above, below, square}

@@ -1,5 +1,6 @@
 -- The text of a difference of two grids, and that of the volumes between them.
-use Rattle.std.specs.Prelude.{ℕ, ℤ, ◌-ℤ◌, List, [], ◌∷◌, ◌++◌, map, flat_map, codes, decimal, Option, Some, None}
+use Rattle.std.specs.Prelude.{ℕ, ℤ, ◌-ℤ◌, List, [], ◌∷◌, ◌++◌, map, flat_map, codes, decimal}
+use Rattle.std.specs.Prelude.{Option, Some, None}
 use Rattle.std.specs.Fmt.{signed_decimal}
 use Rattle.std.specs.List.{join_with_byte, range_with_len, zip}
 use Rattle.sgm_grid.specs.Cells.{Cells, row_of}
@@ -35,12 +36,15 @@ rows_text earlier later n = flat_map row_text (map (both_row earlier later) (ran
 
 -- the text of the difference of two grids
 abbrev pub grids_text : Cells → Cells → List ℕ
-grids_text earlier later = head_text earlier.spec (difference_text None None) ++ rows_text earlier later earlier.spec.rows
+grids_text earlier later = head_text earlier.spec (difference_text None None)
+    ++ rows_text earlier later earlier.spec.rows
 
 -- the counts and volumes in the order of their names
 abbrev pub volumes_of : Changed → List ℕ
-volumes_of changed = changed.both ∷ changed.come ∷ changed.gone ∷ changed.empty ∷ changed.fill ∷ changed.cut ∷ []
+volumes_of changed = changed.both ∷ changed.come ∷ changed.gone ∷ changed.empty ∷ changed.fill
+    ∷ changed.cut ∷ []
 
 -- the line of their names, and the line of their numbers
 abbrev pub volumes_text : Changed → List ℕ
-volumes_text changed = line (codes "both,come,gone,empty,fill,cut") ++ fields_line (map decimal (volumes_of changed))
+volumes_text changed = line (codes "both,come,gone,empty,fill,cut")
+    ++ fields_line (map decimal (volumes_of changed))

@@ -1,4 +1,5 @@
-ghost use Rattle.std.specs.Prelude.{◌≡◌, ◌+◌, ◌++◌, ◌∷◌, [], ℕ, ℤ, pos, List, Option, All, length, Some};
+ghost use Rattle.std.specs.Prelude.{◌≡◌, ◌+◌, ◌++◌, ◌∷◌, [], ℕ, ℤ, pos, List, Option, All, length};
+ghost use Rattle.std.specs.Prelude.{Some};
 ghost use Rattle.std.specs.List.{zip};
 ghost use Rattle.std.specs.Option.{ForSome};
 ghost use Rattle.sgm_base.specs.Ranges.{IsFromTo};
@@ -37,9 +38,9 @@ struct Counts {
     fallen: u64,
 }
 
-/// What changed between two grids of the same ranges: how many cells have a height in both, in one alone
-/// and in neither, and the volumes by which the cells that have a height in both rose and fell. Takes no
-/// memory.
+/// What changed between two grids of the same ranges: how many cells have a height in both, in one
+/// alone and in neither, and the volumes by which the cells that have a height in both rose and
+/// fell. Takes no memory.
 pub fn change(earlier: &Grid, later: &Grid) -> Changed
     requires { earlier.now.spec ≡ later.now.spec }
     ensures { result ≡ change_of earlier.now later.now }

@@ -3,7 +3,8 @@ ghost use Rattle.std.specs.List.{zip};
 ghost use Rattle.std.specs.Option.{ForSome};
 ghost use Rattle.sgm_grid.specs.Cells.{IsHeight};
 ghost use Rattle.sgm_text.specs.Texts.{StartsAs};
-ghost use Rattle.sgm_change.specs.Texts.{after_spaces, difference_text, grids_text, row_text, rows_text};
+ghost use Rattle.sgm_change.specs.Texts.{after_spaces, difference_text, grids_text, row_text};
+ghost use Rattle.sgm_change.specs.Texts.{rows_text};
 
 use itoa::Buffer;
 use sgm_grid::{Grid, append_head};
@@ -15,13 +16,14 @@ const HEAD_ROOM: usize = 256;
 /// The most bytes of a difference and what follows it.
 const DIFFERENCE_ROOM: usize = 12;
 
-/// What stands for a cell that hasn't a height in both grids. No difference of two heights is as low.
+/// What stands for a cell that hasn't a height in both grids. No difference of two heights is as
+/// low.
 const NODATA: &[u8] = b"-9999999999";
 
-/// Adds the text of the difference of two grids of the same ranges: six lines on their ranges, then a line
-/// for each row from the north, with a space between each two differences. A difference is the later
-/// height less the earlier one in micrometres, and -9999999999 where a cell hasn't a height in both.
-/// `into` is unchanged on Err.
+/// Adds the text of the difference of two grids of the same ranges: six lines on their ranges, then
+/// a line for each row from the north, with a space between each two differences. A difference is
+/// the later height less the earlier one in micrometres, and -9999999999 where a cell hasn't a
+/// height in both. `into` is unchanged on Err.
 pub fn write_difference(earlier: &Grid, later: &Grid, into: &mut Vec<u8>) -> Result<(), AllocError>
     requires { earlier.now.spec ≡ later.now.spec }
     ensures ok { OnOk result (into.new.items ≡ into.old.items ++ grids_text earlier.now later.now) }
@@ -71,7 +73,8 @@ fn append_row(
     requires lengths { length later.now ≡ length earlier.now }
     requires earlier { All (λ height. ForSome height IsHeight) earlier.now }
     requires later { All (λ height. ForSome height IsHeight) later.now }
-    ensures ok { OnOk result (into.new.items ≡ into.old.items ++ row_text (zip earlier.now later.now)) }
+    ensures ok { OnOk result (into.new.items
+        ≡ into.old.items ++ row_text (zip earlier.now later.now)) }
     ensures err { OnErr result (StartsAs into.old.items into.new.items) }
 {
     append_difference(earlier[0], later[0], into)?;
@@ -89,7 +92,8 @@ fn append_rest(
     requires lengths { length later.now ≡ length earlier.now }
     requires earlier { All (λ height. ForSome height IsHeight) earlier.now }
     requires later { All (λ height. ForSome height IsHeight) later.now }
-    ensures ok { OnOk result (into.new.items ≡ into.old.items ++ after_spaces (zip earlier.now later.now)) }
+    ensures ok { OnOk result (into.new.items
+        ≡ into.old.items ++ after_spaces (zip earlier.now later.now)) }
     ensures err { OnErr result (StartsAs into.old.items into.new.items) }
 {
     for (before, after) in earlier.iter().zip(later) {

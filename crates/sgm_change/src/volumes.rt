@@ -9,8 +9,8 @@ use csv::{Error, Writer, WriterBuilder};
 use itoa::Buffer;
 use std::alloc::{AllocError, Global};
 
-/// Adds a line with the names of the counts and volumes, then a line with their numbers, with commas
-/// between the fields. `into` is unchanged on Err.
+/// Adds a line with the names of the counts and volumes, then a line with their numbers, with
+/// commas between the fields. `into` is unchanged on Err.
 pub fn write_volumes(changed: &Changed, into: &mut Vec<u8>) -> Result<(), AllocError>
     ensures ok { OnOk result (into.new.items ≡ into.old.items ++ volumes_text changed.now) }
     ensures err { OnErr result (into.new.items ≡ into.old.items) }

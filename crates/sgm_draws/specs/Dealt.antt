@@ -12,4 +12,5 @@ pub record IsDealt (table : TableId) (plan : Plan) (number : ℕ) (ticket : Tick
 
 -- the new tickets 0, 1, 2 and so on
 abbrev pub AreDealt : TableId → Plan → List Ticket → Type 0
-AreDealt table plan tickets = (number : ℕ) (ticket : Ticket) → slice_get tickets number ≡ Some ticket → IsDealt table plan number ticket
+AreDealt table plan tickets = (number : ℕ) (ticket : Ticket)
+    → slice_get tickets number ≡ Some ticket → IsDealt table plan number ticket

@@ -1,5 +1,6 @@
 -- What the table of the draws keeps between any two steps, whoever makes them.
-use Rattle.std.specs.Prelude.{◌≡◌, ℕ, ◌+◌, ◌≤◌, ◌⊎◌, List, All, length, min, nat_le, slice_index, if◌then◌else◌}
+use Rattle.std.specs.Prelude.{◌≡◌, ℕ, ◌+◌, ◌≤◌, ◌⊎◌, List, All, length, min, nat_le, slice_index}
+use Rattle.std.specs.Prelude.{if◌then◌else◌}
 use Rattle.std.specs.List.{sum_by}
 use Rattle.atomic_table.specs.Table.{State}
 use Rattle.sgm_draws.specs.Numbers.{times, once_below}
@@ -13,7 +14,8 @@ times_drawn views number = sum_by (λ v. times v.drawn number) views
 abbrev pub times_gathered : List View → ℕ → ℕ
 times_gathered views number = sum_by (λ v. times v.gathered number) views
 
--- how many numbers of tickets all tickets have gathered, and those that saw the end: the count, or more
+-- how many numbers of tickets all tickets have gathered, and those that saw the end: the count, or
+-- more
 abbrev pub all_gathered : List View → ℕ
 all_gathered views = sum_by (λ v. length v.gathered) views
 
@@ -27,13 +29,13 @@ ends_seen count views = sum_by (gathered_at_end count) views
 abbrev pub word_of : State (Unit {0}) View → ℕ
 word_of s = slice_index s.words 0
 
--- Of so many numbers, and so many tickets that were made. A ticket that was joined to another has handed all over, so it
--- stands in no sum.
+-- Of so many numbers, and so many tickets that were made. A ticket that was joined to another has
+-- handed all over, so it stands in no sum.
 pub record Rule (count made : ℕ) (s : State (Unit {0}) View) : Type 0 where
   pub one_word : length s.words ≡ 1
   pub tickets : All (λ v. (v ≡ spent) ⊎ IsLive count made v) s.views
-  -- the lists together are the numbers below both the word and the count, each once: none has a number twice, and no two
-  -- have one in common
+  -- the lists together are the numbers below both the word and the count, each once: none has a
+  -- number twice, and no two have one in common
   pub drawn : (number : ℕ) → times_drawn s.views number ≡ once_below (min (word_of s) count) number
   -- the numbers gathered are those of the tickets made, and each is gathered by one ticket
   pub gathered : (number : ℕ) → times_gathered s.views number ≡ once_below made number

@@ -18,7 +18,13 @@ pub record TicketParts : Type 0 where
   pub gathered : List ℕ
 
 abbrev pub parts_of_view : View → TicketParts
-parts_of_view v = record { number = v.number; drawn = v.drawn; seen = v.seen; looks = v.looks; gathered = v.gathered }
+parts_of_view v = record {
+  number = v.number;
+  drawn = v.drawn;
+  seen = v.seen;
+  looks = v.looks;
+  gathered = v.gathered;
+}
 
 abbrev pub parts_of : Ticket → TicketParts
 parts_of ticket = parts_of_view ticket.seat.me.0
@@ -40,7 +46,13 @@ pub record IsTicketOf (draws : Draws) (ticket : Ticket) : Type 0 where
 
 -- a ticket that has made no step
 abbrev pub new_ticket : ℕ → TicketParts
-new_ticket number = record { number = number; drawn = []; seen = 0; looks = 0; gathered = number ∷ [] }
+new_ticket number = record {
+  number = number;
+  drawn = [];
+  seen = 0;
+  looks = 0;
+  gathered = number ∷ [];
+}
 
 -- the tickets are new ones of these draws, with the numbers 0, 1, 2 and so on
 abbrev pub AreNew : Draws → List Ticket → Type 0
@@ -53,7 +65,11 @@ HasAll made t = (number : ℕ) → number < made → 1 ≤ times t.gathered numb
 
 -- the number was drawn
 abbrev pub after_draw : TicketParts → ℕ → TicketParts
-after_draw t number = record t { drawn = t.drawn ++ number ∷ []; seen = number; looks = t.looks + 1 }
+after_draw t number = record t {
+  drawn = t.drawn ++ number ∷ [];
+  seen = number;
+  looks = t.looks + 1;
+}
 
 -- none was left: this value was seen
 abbrev pub after_end : TicketParts → ℕ → TicketParts

@@ -3,10 +3,19 @@ use Rattle.std.specs.Prelude.{◌≡◌, ℕ, zero, suc, ◌+◌, ◌≤◌, Lis
 use Rattle.sgm_draws.specs.Numbers.{times}
 use Rattle.sgm_draws.specs.declared.view.View.{View}
 
--- a ticket that has drawn nothing, of so many numbers and so many tickets made, which has gathered these tickets' numbers
+-- a ticket that has drawn nothing, of so many numbers and so many tickets made, which has gathered
+-- these tickets' numbers
 abbrev pub new_view : ℕ → ℕ → ℕ → List ℕ → View
 new_view count made number gathered =
-    record { number = number; count = count; made = made; gathered = gathered; drawn = []; seen = 0; looks = 0 }
+    record {
+      number = number;
+      count = count;
+      made = made;
+      gathered = gathered;
+      drawn = [];
+      seen = 0;
+      looks = 0;
+    }
 
 -- a ticket that was joined to another: it has handed all over
 abbrev pub spent : View
@@ -44,7 +53,11 @@ dealt_view v = dealer_of v.count v.made v.gathered
 
 -- a number was drawn
 abbrev pub after_draw : View → ℕ → View
-after_draw v number = record v { drawn = v.drawn ++ number ∷ []; seen = number; looks = v.looks + 1 }
+after_draw v number = record v {
+  drawn = v.drawn ++ number ∷ [];
+  seen = number;
+  looks = v.looks + 1;
+}
 
 -- all numbers were drawn before: the word was this one
 abbrev pub after_end : View → ℕ → View

@@ -7,9 +7,9 @@ use crate::view::View;
 use atomic_table::Table;
 use std::alloc::Global;
 
-/// Numbers that tickets draw: those below a count, each once, whoever draws and in whatever order. A word
-/// counts the draws. A ticket that is answered None draws no more, so the word never passes the count and
-/// the number of tickets together.
+/// Numbers that tickets draw: those below a count, each once, whoever draws and in whatever order.
+/// A word counts the draws. A ticket that is answered None draws no more, so the word never passes
+/// the count and the number of tickets together.
 #[derive(Drop)]
 pub struct Draws {
     pub(crate) table: Table<(), View, Plan, Drawing, Global>,

@@ -1,4 +1,5 @@
-//! Numbers that several threads draw, each once: a word that only grows, on which each draw is one step.
+//! Numbers that several threads draw, each once: a word that only grows, on which each draw is one
+//! step.
 #![tactic(auto)]
 
 mod calls;

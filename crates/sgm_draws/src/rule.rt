@@ -6,7 +6,8 @@ ghost use Rattle.sgm_draws.specs.Views.{dealer, dealt_view, joined_view, kept_vi
 use crate::view::View;
 use atomic_table::{Join, Play, Seat, Shared, Split, TableRule};
 
-/// What the rule reads, fixed when a table is made: how many numbers are drawn, and for how many tickets.
+/// What the rule reads, fixed when a table is made: how many numbers are drawn, and for how many
+/// tickets.
 #[derive(Clone, Copy)]
 pub struct Plan {
     pub count: u32,

@@ -39,12 +39,13 @@ fn deal(
 }
 
 impl Draws {
-    /// Draws of the numbers below `count`, with so many tickets, whose numbers are 0, 1 and so on. At most
-    /// [`MAX_NUMBERS`] numbers and [`MAX_TICKETS`] tickets.
+    /// Draws of the numbers below `count`, with so many tickets, whose numbers are 0, 1 and so on.
+    /// At most [`MAX_NUMBERS`] numbers and [`MAX_TICKETS`] tickets.
     pub fn start(alloc: Global, count: u32, passes: u32) -> Result<(Draws, Vec<Ticket>), AllocError>
         requires count { (1 ≤ count) × (count ≤ MAX_NUMBERS) }
         requires passes { (1 ≤ passes) × (passes ≤ MAX_TICKETS) }
-        ensures draws { IfOk result (λ made. (count_of made.0 ≡ count) × (tickets_of made.0 ≡ passes)) }
+        ensures draws { IfOk result (λ made. (count_of made.0 ≡ count)
+            × (tickets_of made.0 ≡ passes)) }
         ensures tickets { IfOk result (λ made. vec_len made.1 ≡ passes) }
         ensures new { IfOk result (λ made. AreNew made.0 made.1.items) }
     {

@@ -1,7 +1,7 @@
 -- The laws of path values.
 use Rattle.std.proofs.Common.{◌≡◌, ℕ, ◌+◌, ◌<◌, ◌≤◌, List, [], ◌∷◌, ◌++◌, map, Option, Some, None, refl, sym, ap, ◌∙◌, arith}
 use Rattle.sgm_base.specs.Values.{Values, value_at}
-use Rattle.sgm_terms.specs.Step.{IsStepped}
+use Rattle.sgm_energy.specs.Step.{IsStepped}
 use Rattle.sgm_energy.specs.declared.dir.Dir.{Dir}
 use Rattle.sgm_energy.specs.Pens.{Penalties}
 use Rattle.sgm_energy.specs.Rays.{Pixel, Problem, IsInside, guided_problem, predecessor, ray, before}

@@ -2,7 +2,7 @@
 use Rattle.std.proofs.Common.{◌≡◌, ℕ, ◌+◌, ◌-◌, ◌<◌, ◌≤◌, refl, ap, inl, inr, arith}
 use Rattle.std.proofs.lemmas.Bool.Decides.{nat_tests}
 use Rattle.std.proofs.lemmas.Bool.{cases_eq}
-use Rattle.sgm_terms.specs.Step.{carried}
+use Rattle.sgm_energy.specs.Step.{carried}
 use Rattle.sgm_energy.specs.Energies.{change}
 
 pub change_same : (p1 far a b : ℕ) → a ≡ b → change p1 far a b ≡ 0

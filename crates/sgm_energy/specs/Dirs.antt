@@ -1,7 +1,10 @@
--- The eight directions in which rays run: steps, numbers, fronts and the order in which strips are visited.
-use Rattle.std.specs.Prelude.{ℕ, ◌-◌, Bool, true, false, List, [], ◌∷◌, Option, Some, None, slice_get, ℤ, pos, negsuc, if◌then◌else◌}
+-- The eight directions in which rays run: steps, numbers, fronts and the order in which strips are
+-- visited.
+use Rattle.std.specs.Prelude.{ℕ, ◌-◌, Bool, true, false, List, [], ◌∷◌, Option, Some, None}
+use Rattle.std.specs.Prelude.{slice_get, ℤ, pos, negsuc, if◌then◌else◌}
 use Rattle.sgm_energy.specs.declared.dir.Dir.{Dir}
-use Rattle.sgm_energy.specs.declared.dir.Dir.TheVariants.{Right, Left, Down, DownRight, DownLeft, Up, UpRight, UpLeft}
+use Rattle.sgm_energy.specs.declared.dir.Dir.TheVariants.{Right, Left, Down, DownRight, DownLeft}
+use Rattle.sgm_energy.specs.declared.dir.Dir.TheVariants.{Up, UpRight, UpLeft}
 
 -- all directions, by their numbers 0 to 7
 abbrev pub directions : List Dir
@@ -49,8 +52,8 @@ goes_down DownRight = true
 goes_down DownLeft = true
 goes_down _ = false
 
--- where a strip stands in the order in which a direction visits the strips: from the top downwards, or from
--- the bottom upwards
+-- where a strip stands in the order in which a direction visits the strips: from the top downwards,
+-- or from the bottom upwards
 abbrev pub position_of : Dir → ℕ → ℕ → ℕ
 position_of dir strip strips = if goes_down dir then strip else strips - 1 - strip
 

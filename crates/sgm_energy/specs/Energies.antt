@@ -1,5 +1,7 @@
 -- Sequences of indices along a ray, their energies, and the values of paths.
-use Rattle.std.specs.Prelude.{ℕ, ◌+◌, ◌-◌, ◌<◌, ◌≤◌, min, Bool, false, ◌||◌, ◌==◌, List, [], ◌∷◌, ◌++◌, length, map, filter, sum_by, zero, suc, if◌then◌else◌, unwrap_or}
+use Rattle.std.specs.Prelude.{ℕ, ◌+◌, ◌-◌, ◌<◌, ◌≤◌, min, Bool, false, ◌||◌, ◌==◌, List, [], ◌∷◌}
+use Rattle.std.specs.Prelude.{◌++◌, length, map, filter, sum_by, zero, suc, if◌then◌else◌}
+use Rattle.std.specs.Prelude.{unwrap_or}
 use Rattle.std.specs.List.{flat_map, range_with_len, reduce}
 use Rattle.sgm_energy.specs.declared.dir.Dir.{Dir}
 use Rattle.sgm_energy.specs.Dirs.{directions}
@@ -54,8 +56,8 @@ least_of_all g ps = least (map (energy g ps) (sequences g.count (length ps)))
 unfoldable pub least_ending : Problem → List Pixel → ℕ → ℕ
 least_ending g ps d = least (map (energy g ps) (filter (ends_in d) (sequences g.count (length ps))))
 
--- the value of the path that comes to p and ends in d: the least energy along the ray, less that of the
--- ray before p
+-- the value of the path that comes to p and ends in d: the least energy along the ray, less that of
+-- the ray before p
 unfoldable pub path_value : Problem → Dir → Pixel → ℕ → ℕ
 path_value g dir p d = least_ending g (ray g dir p) d - least_of_all g (before g dir p)
 

@@ -3,3 +3,4 @@ pub mod Pens
 pub mod Rays
 pub mod Energies
 pub mod Rows
+pub mod Step

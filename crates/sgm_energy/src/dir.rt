@@ -1,5 +1,6 @@
 ghost use Rattle.std.specs.Prelude.{◌≡◌, ◌-◌, ◌<◌, IfSome, false};
-ghost use Rattle.sgm_energy.specs.Dirs.{offset, is_level, front_of, dir_of_front, goes_down, position_of};
+ghost use Rattle.sgm_energy.specs.Dirs.{offset, is_level, front_of, dir_of_front, goes_down};
+ghost use Rattle.sgm_energy.specs.Dirs.{position_of};
 ghost use Rattle.sgm_energy.specs.Rays.{column_before, row_before};
 
 /// The direction in which a ray runs through the image. The numbers 0 to 7 follow this order.

@@ -1,5 +1,6 @@
-//! The worked example, of which the tests of several crates take what they need: a pair of 5 x 3 pixels and
-//! its calibration. The same calibration is a file of `sgm_cli`, where the tests outside the crates take it.
+//! The worked example, of which the tests of several crates take what they need: a pair of 5 x 3
+//! pixels and its calibration. The same calibration is a file of `sgm_cli`, where the tests outside
+//! the crates take it.
 #![tactic(auto)]
 
 /// The left image as PGM: three times the row 90 10 50 20 40.
@@ -10,8 +11,8 @@ pub const LEFT: &[u8] =
 pub const RIGHT: &[u8] =
     b"P5\n5 3\n255\n\x0a\x32\x14\x28\x1e\x0a\x32\x14\x28\x1e\x0a\x32\x14\x28\x1e";
 
-/// What the calibration begins with: what has to stand in each. The other parts follow in the order of
-/// these constants, each of the first three or none, and then [`END`].
+/// What the calibration begins with: what has to stand in each. The other parts follow in the order
+/// of these constants, each of the first three or none, and then [`END`].
 pub const SETTINGS: &str =
     "{\"version\":1,\"disparities\":{\"first\":0,\"count\":2},\n \"census\":{\"width\":3,\"height\":3},\"penalties\":{\"p1\":1,\"p2\":3}";
 

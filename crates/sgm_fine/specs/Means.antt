@@ -1,5 +1,6 @@
 -- The means of a map's values over those around them that lie near.
-use Rattle.std.specs.Prelude.{ℕ, ◌%◌, ◌/◌, List, length, sum, Option, option_map, unsigned_abs, pos, ◌+ℤ◌}
+use Rattle.std.specs.Prelude.{ℕ, ◌%◌, ◌/◌, List, length, sum, Option, option_map, unsigned_abs, pos}
+use Rattle.std.specs.Prelude.{◌+ℤ◌}
 use Rattle.std.specs.List.{filter_map, range_with_len}
 use Rattle.sgm_base.specs.Rounding.{rounded}
 use Rattle.sgm_base.specs.Values.{Values, row_by_row, value_at, values_of}

@@ -1,6 +1,8 @@
 -- The samples of a window that lies along the surface: on the left, and at three offsets on the
 -- right.
-use Rattle.std.specs.Prelude.{◌≡◌, ℕ, ◌<◌, ◌^◌, All, ◌+◌, ◌-◌, ◌*◌, ◌/◌, ◌%◌, ◌==◌, ◌&&◌, Bool, if◌then◌else◌, List, map, Option, Some, is_some, option_and_then, option_map, unwrap_or, unsigned_abs, ℤ, pos, neg_ℤ, ◌+ℤ◌, ◌-ℤ◌, ◌*ℤ◌}
+use Rattle.std.specs.Prelude.{◌≡◌, ℕ, ◌<◌, ◌^◌, All, ◌+◌, ◌-◌, ◌*◌, ◌/◌, ◌%◌, ◌==◌, ◌&&◌, Bool}
+use Rattle.std.specs.Prelude.{if◌then◌else◌, List, map, Option, Some, is_some, option_and_then}
+use Rattle.std.specs.Prelude.{option_map, unwrap_or, unsigned_abs, ℤ, pos, neg_ℤ, ◌+ℤ◌, ◌-ℤ◌, ◌*ℤ◌}
 use Rattle.std.specs.Int.{int_div_euclid, int_rem_euclid}
 use Rattle.std.specs.List.{list_all, range_with_len}
 use Rattle.sgm_base.specs.Columns.{column_within}

@@ -1,5 +1,6 @@
 -- How well the right window explains the left one.
-use Rattle.std.specs.Prelude.{◌≡◌, ℕ, ◌≤◌, ◌⊎◌, ◌-◌, ◌*◌, ◌/◌, ◌&&◌, if◌then◌else◌, unsigned_abs, ℤ, pos, ◌+ℤ◌, ◌-ℤ◌, ◌*ℤ◌, int_lt, int_le}
+use Rattle.std.specs.Prelude.{◌≡◌, ℕ, ◌≤◌, ◌⊎◌, ◌-◌, ◌*◌, ◌/◌, ◌&&◌, if◌then◌else◌, unsigned_abs, ℤ}
+use Rattle.std.specs.Prelude.{pos, ◌+ℤ◌, ◌-ℤ◌, ◌*ℤ◌, int_lt, int_le}
 use Rattle.sgm_base.specs.Ranges.{IsFromTo}
 use Rattle.sgm_fine.specs.Windows.{number, over, products}
 use Rattle.sgm_fine.specs.declared.scores.Fit.{Fit}

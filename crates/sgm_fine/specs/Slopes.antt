@@ -1,5 +1,6 @@
 -- How the values of a map rise around a pixel.
-use Rattle.std.specs.Prelude.{◌≡◌, ℕ, ◌+◌, ◌%◌, ◌/◌, ◌&&◌, nat_le, if◌then◌else◌, Option, Some, None, unwrap_or, is_some, ℤ, pos, ◌-ℤ◌, ◌*ℤ◌}
+use Rattle.std.specs.Prelude.{◌≡◌, ℕ, ◌+◌, ◌%◌, ◌/◌, ◌&&◌, nat_le, if◌then◌else◌, Option, Some}
+use Rattle.std.specs.Prelude.{None, unwrap_or, is_some, ℤ, pos, ◌-ℤ◌, ◌*ℤ◌}
 use Rattle.std.specs.Ordering.{int_eq}
 use Rattle.sgm_base.specs.Ranges.{IsFromTo, Within}
 use Rattle.sgm_base.specs.Rounding.{rounded}

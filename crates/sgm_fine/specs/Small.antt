@@ -1,5 +1,6 @@
 -- Samples made small.
-use Rattle.std.specs.Prelude.{◌≡◌, ℕ, ◌<◌, ◌≤◌, ◌-◌, ◌/◌, ◌^◌, ◌++◌, nat_lt, min, List, unwrap_or, slice_index, ℤ, pos, neg_ℤ}
+use Rattle.std.specs.Prelude.{◌≡◌, ℕ, ◌<◌, ◌≤◌, ◌-◌, ◌/◌, ◌^◌, ◌++◌, nat_lt, min, List, unwrap_or}
+use Rattle.std.specs.Prelude.{slice_index, ℤ, pos, neg_ℤ}
 use Rattle.std.specs.List.{All, Contains, find, list_all, range_with_len, reduce}
 use Rattle.sgm_base.specs.Ranges.{IsFromTo}
 use Rattle.sgm_fine.specs.Samples.{Centre, half, lefts, rights}

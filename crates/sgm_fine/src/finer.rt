@@ -1,10 +1,13 @@
 //! The finer value of a pixel.
 
-ghost use Rattle.std.specs.Prelude.{◌≡◌, ℕ, ◌+◌, ◌-◌, ◌*◌, ◌/◌, ◌^◌, ◌<◌, ◌≤◌, pos, ◌≤ℤ◌, ◌+ℤ◌, unsigned_abs, if◌then◌else◌, length, option_map, slice_index_or, None, IfSome, EachIndex};
+ghost use Rattle.std.specs.Prelude.{◌≡◌, ℕ, ◌+◌, ◌-◌, ◌*◌, ◌/◌, ◌^◌, ◌<◌, ◌≤◌, pos, ◌≤ℤ◌, ◌+ℤ◌};
+ghost use Rattle.std.specs.Prelude.{unsigned_abs, if◌then◌else◌, length, option_map};
+ghost use Rattle.std.specs.Prelude.{slice_index_or, None, IfSome, EachIndex};
 ghost use Rattle.sgm_base.specs.Disparities.{IsFirst};
 ghost use Rattle.sgm_base.specs.Ranges.{IsFromTo, Within};
 ghost use Rattle.sgm_base.specs.Values.{AtMost, value_at};
-ghost use Rattle.sgm_fine.specs.Finer.{ArePixelSums, AreSmallSums, best, finer_value, fits, place_score, tells};
+ghost use Rattle.sgm_fine.specs.Finer.{ArePixelSums, AreSmallSums, best, finer_value, fits};
+ghost use Rattle.sgm_fine.specs.Finer.{place_score, tells};
 ghost use Rattle.sgm_fine.specs.Samples.{Centre, centre};
 ghost use Rattle.sgm_fine.specs.Scores.{IsAbove, IsSums};
 

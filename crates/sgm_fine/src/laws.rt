@@ -1,7 +1,8 @@
 //! What follows from the definitions alone. Each function is a law: its clauses speak of all
 //! numbers and samples of windows, and its body is empty.
 
-ghost use Rattle.std.specs.Prelude.{◌≡◌, ℕ, ◌-◌, ◌<◌, List, ◌++◌, slice_index, ℤ, pos, neg_ℤ, ◌+ℤ◌, ◌*ℤ◌, ◌≤ℤ◌};
+ghost use Rattle.std.specs.Prelude.{◌≡◌, ℕ, ◌-◌, ◌<◌, List, ◌++◌, slice_index, ℤ, pos, neg_ℤ, ◌+ℤ◌};
+ghost use Rattle.std.specs.Prelude.{◌*ℤ◌, ◌≤ℤ◌};
 ghost use Rattle.std.specs.List.{All};
 ghost use Rattle.sgm_fine.specs.Samples.{Centre, half, lefts, rights};
 ghost use Rattle.sgm_fine.specs.Scores.{covariance};

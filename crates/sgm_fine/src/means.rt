@@ -1,6 +1,7 @@
 //! The mean of the values around a pixel that lie near its own.
 
-ghost use Rattle.std.specs.Prelude.{◌≡◌, ◌^◌, ◌<◌, length, option_map, slice_index_or, None, Some, EachIndex};
+ghost use Rattle.std.specs.Prelude.{◌≡◌, ◌^◌, ◌<◌, length, option_map, slice_index_or, None, Some};
+ghost use Rattle.std.specs.Prelude.{EachIndex};
 ghost use Rattle.sgm_base.specs.Values.{value_at};
 ghost use Rattle.sgm_fine.specs.Means.{mean_value, near_at};
 

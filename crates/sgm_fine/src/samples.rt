@@ -1,13 +1,17 @@
 //! The samples of a window on the left, and those on the right at three offsets.
 
-ghost use Rattle.std.specs.Prelude.{◌≡◌, ℕ, ◌+◌, ◌-◌, ◌*◌, ◌/◌, ◌%◌, ◌^◌, ◌<◌, ◌≤◌, ℤ, pos, neg_ℤ, ◌+ℤ◌, ◌-ℤ◌, ◌*ℤ◌, if◌then◌else◌, IfSome, is_some, length, slice_index, Some, None};
+ghost use Rattle.std.specs.Prelude.{◌≡◌, ℕ, ◌+◌, ◌-◌, ◌*◌, ◌/◌, ◌%◌, ◌^◌, ◌<◌, ◌≤◌, ℤ, pos, neg_ℤ};
+ghost use Rattle.std.specs.Prelude.{◌+ℤ◌, ◌-ℤ◌, ◌*ℤ◌, if◌then◌else◌, IfSome, is_some, length};
+ghost use Rattle.std.specs.Prelude.{slice_index, Some, None};
 ghost use Rattle.std.specs.Ordering.{int_eq};
 ghost use Rattle.sgm_base.specs.Disparities.{IsFirst};
 ghost use Rattle.sgm_base.specs.Ranges.{IsFromTo, Within};
 ghost use Rattle.sgm_base.specs.Rounding.{rounded};
 ghost use Rattle.sgm_base.specs.Values.{Values, value_at};
-ghost use Rattle.sgm_fine.specs.Samples.{AreRights, Centre, HoldsLie, HoldsPlace, HoldsRights, HoldsSamples};
-ghost use Rattle.sgm_fine.specs.Samples.{IsLie, IsPlace, IsWindow, centre, has, has_all, has_rights, sample};
+ghost use Rattle.sgm_fine.specs.Samples.{AreRights, Centre, HoldsLie, HoldsPlace, HoldsRights};
+ghost use Rattle.sgm_fine.specs.Samples.{HoldsSamples};
+ghost use Rattle.sgm_fine.specs.Samples.{IsLie, IsPlace, IsWindow, centre, has, has_all};
+ghost use Rattle.sgm_fine.specs.Samples.{has_rights, sample};
 ghost use Rattle.sgm_fine.specs.Slopes.{HoldsSlopes, IsSlope, step_at};
 ghost use Rattle.sgm_fine.specs.Windows.{number};
 

@@ -1,8 +1,10 @@
 //! How well the right window explains the left one at each of seventeen places.
 
-ghost use Rattle.std.specs.Prelude.{◌≡◌, ℕ, ◌<◌, ◌≤◌, ◌-◌, ◌^◌, ℤ, pos, ◌+ℤ◌, ◌-ℤ◌, ◌*ℤ◌, ◌≤ℤ◌, false, unsigned_abs, if◌then◌else◌, int_lt};
+ghost use Rattle.std.specs.Prelude.{◌≡◌, ℕ, ◌<◌, ◌≤◌, ◌-◌, ◌^◌, ℤ, pos, ◌+ℤ◌, ◌-ℤ◌, ◌*ℤ◌, ◌≤ℤ◌};
+ghost use Rattle.std.specs.Prelude.{false, unsigned_abs, if◌then◌else◌, int_lt};
 ghost use Rattle.sgm_base.specs.Ranges.{IsFromTo, Within};
-ghost use Rattle.sgm_fine.specs.Scores.{HoldsSide, HoldsSums, IsAbove, IsFitOf, IsSums, blended, covariance, score};
+ghost use Rattle.sgm_fine.specs.Scores.{HoldsSide, HoldsSums, IsAbove, IsFitOf, IsSums, blended};
+ghost use Rattle.sgm_fine.specs.Scores.{covariance, score};
 ghost use Rattle.sgm_fine.specs.Small.{IsSmall};
 ghost use Rattle.sgm_fine.specs.Windows.{number, over, products};
 

@@ -1,5 +1,7 @@
 -- The reading of a grid's text: the grid that it tells, or the first fault.
-use Rattle.std.specs.Prelude.{◌≡◌, ⊤, ℕ, ◌+◌, ◌*◌, ◌==◌, ◌&&◌, List, [], ◌∷◌, length, drop, codes, Bool, true, ℤ, pos, neg_ℤ, int_le, slice_get, unwrap_or, is_some, unsigned_abs, Option, Some, None, Result, Ok, Err, if◌then◌else◌}
+use Rattle.std.specs.Prelude.{◌≡◌, ⊤, ℕ, ◌+◌, ◌*◌, ◌==◌, ◌&&◌, List, [], ◌∷◌, length, drop, codes}
+use Rattle.std.specs.Prelude.{Bool, true, ℤ, pos, neg_ℤ, int_le, slice_get, unwrap_or, is_some}
+use Rattle.std.specs.Prelude.{unsigned_abs, Option, Some, None, Result, Ok, Err, if◌then◌else◌}
 use Rattle.std.specs.Option.{option_and_then}
 use Rattle.std.specs.Ordering.{int_eq}
 use Rattle.std.specs.Str.{str_eq_ignore_ascii_case}

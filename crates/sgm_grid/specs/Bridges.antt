@@ -1,5 +1,7 @@
 -- Heights of empty cells, bridged from those of the nearest cells that have one.
-use Rattle.std.specs.Prelude.{ℕ, ◌+◌, ℤ, pos, ◌+ℤ◌, ◌-ℤ◌, ◌*ℤ◌, Bool, int_le, unsigned_abs, List, [], ◌∷◌, drop, take, reverse, filter_map, map, Option, Some, None, if◌then◌else◌}
+use Rattle.std.specs.Prelude.{ℕ, ◌+◌, ℤ, pos, ◌+ℤ◌, ◌-ℤ◌, ◌*ℤ◌, Bool, int_le, unsigned_abs, List}
+use Rattle.std.specs.Prelude.{[], ◌∷◌, drop, take, reverse, filter_map, map, Option, Some, None}
+use Rattle.std.specs.Prelude.{if◌then◌else◌}
 use Rattle.std.specs.Option.{option_or}
 use Rattle.std.specs.List.{range_with_len}
 use Rattle.sgm_base.specs.Rounding.{rounded}

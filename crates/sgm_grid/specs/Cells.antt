@@ -1,5 +1,6 @@
 -- The ranges of a grid and of a height, and what contracts see of a grid.
-use Rattle.std.specs.Prelude.{◌≡◌, ℕ, ◌+◌, ◌*◌, ◌≤◌, ℤ, pos, neg_ℤ, List, length, All, take, drop, slice_get, Option, None, unwrap_or}
+use Rattle.std.specs.Prelude.{◌≡◌, ℕ, ◌+◌, ◌*◌, ◌≤◌, ℤ, pos, neg_ℤ, List, length, All, take, drop}
+use Rattle.std.specs.Prelude.{slice_get, Option, None, unwrap_or}
 use Rattle.std.specs.Option.{ForSome}
 use Rattle.sgm_grid.specs.declared.grid_spec.GridSpec.{GridSpec}
 use Rattle.sgm_base.specs.Ranges.{IsFromTo}

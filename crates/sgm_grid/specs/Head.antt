@@ -1,5 +1,6 @@
 -- Words of the reader's own functions over the head of a text. No public clause cites them.
-use Rattle.std.specs.Prelude.{◌≡◌, ℕ, List, ◌∷◌, true, ℤ, pos, neg_ℤ, Option, Some, None, codes, unsigned_abs, if◌then◌else◌}
+use Rattle.std.specs.Prelude.{◌≡◌, ℕ, List, ◌∷◌, true, ℤ, pos, neg_ℤ, Option, Some, None, codes}
+use Rattle.std.specs.Prelude.{unsigned_abs, if◌then◌else◌}
 use Rattle.std.specs.Str.{str_eq_ignore_ascii_case}
 use Rattle.sgm_base.specs.declared.limits.TheConstants.{MAX_GRID_LINES}
 use Rattle.sgm_grid.specs.declared.asc_fault.AscFault.{AscFault}

@@ -1,5 +1,6 @@
 -- What a cell keeps of the heights of its points, and the grid of a list of points.
-use Rattle.std.specs.Prelude.{ℕ, ℤ, pos, ◌+ℤ◌, ◌≤◌, List, [], ◌∷◌, fold, filter, length, map, Option, Some, None}
+use Rattle.std.specs.Prelude.{ℕ, ℤ, pos, ◌+ℤ◌, ◌≤◌, List, [], ◌∷◌, fold, filter, length, map}
+use Rattle.std.specs.Prelude.{Option, Some, None}
 use Rattle.sgm_base.specs.Rounding.{rounded}
 use Rattle.sgm_base.specs.Values.{row_by_row}
 use Rattle.sgm_base.specs.declared.point.Point.{Point}

@@ -1,5 +1,7 @@
 -- Into which cell a point falls, and what a list of points makes of a grid.
-use Rattle.std.specs.Prelude.{ℕ, ◌-◌, ◌*◌, ◌==◌, ◌&&◌, Bool, false, nat_lt, ℤ, pos, negsuc, ◌-ℤ◌, List, [], ◌∷◌, fold, replicate, slice_get, slice_set, Option, Some, None, unwrap_or, if◌then◌else◌}
+use Rattle.std.specs.Prelude.{ℕ, ◌-◌, ◌*◌, ◌==◌, ◌&&◌, Bool, false, nat_lt, ℤ, pos, negsuc, ◌-ℤ◌}
+use Rattle.std.specs.Prelude.{List, [], ◌∷◌, fold, replicate, slice_get, slice_set, Option, Some}
+use Rattle.std.specs.Prelude.{None, unwrap_or, if◌then◌else◌}
 use Rattle.std.specs.Int.{int_div_euclid, int_max}
 use Rattle.sgm_base.specs.declared.point.Point.{Point}
 use Rattle.sgm_grid.specs.declared.grid_spec.GridSpec.{GridSpec}

@@ -3,7 +3,9 @@
 ghost use Rattle.std.specs.Prelude.{◌≡◌, ℕ, ◌+◌, ◌*◌, ◌^◌, ◌≤◌, IfOk, replicate};
 ghost use Rattle.std.specs.Option.{ForSome};
 ghost use Rattle.sgm_base.specs.Ranges.{Within};
-ghost use Rattle.sgm_grid.specs.Binning.{HasRoom, grid_in, height_sums, mean_told, most_points, no_points, no_sum, summed_at, sums_of, with_height, with_point};
+ghost use Rattle.sgm_grid.specs.Binning.{HasRoom, grid_in, height_sums, mean_told, most_points};
+ghost use Rattle.sgm_grid.specs.Binning.{no_points, no_sum, summed_at, sums_of, with_height};
+ghost use Rattle.sgm_grid.specs.Binning.{with_point};
 ghost use Rattle.sgm_grid.specs.Cells.{IsGridSpec, IsHeight, cells_of};
 ghost use Rattle.sgm_grid.specs.Placing.{IsPlaced, spec_in, with_placed};
 

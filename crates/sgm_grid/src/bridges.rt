@@ -1,12 +1,15 @@
 //! Heights for empty cells, from those of the cells around them.
 
-ghost use Rattle.std.specs.Prelude.{◌≡◌, ◌++◌, ◌*◌, ◌+◌, ◌-◌, ◌^◌, ◌<◌, ◌≤◌, ◌∷◌, [], pos, All, IfOk, IfSome, None, OnOk, Some, filter_map, length, map, slice_index_or, take};
+ghost use Rattle.std.specs.Prelude.{◌≡◌, ◌++◌, ◌*◌, ◌+◌, ◌-◌, ◌^◌, ◌<◌, ◌≤◌, ◌∷◌, [], pos, All};
+ghost use Rattle.std.specs.Prelude.{IfOk, IfSome, None, OnOk, Some, filter_map, length, map};
+ghost use Rattle.std.specs.Prelude.{slice_index_or, take};
 ghost use Rattle.std.specs.List.{range_with_len};
 ghost use Rattle.std.specs.Option.{ForSome};
 ghost use Rattle.sgm_base.specs.Ranges.{IsFromTo, Within};
 ghost use Rattle.sgm_base.specs.Rounding.{rounded};
 ghost use Rattle.sgm_grid.specs.Beside.{cells_to};
-ghost use Rattle.sgm_grid.specs.Bridges.{between, bridged, bridged_at, first_pier, is_gentle, span_height, spans_over};
+ghost use Rattle.sgm_grid.specs.Bridges.{between, bridged, bridged_at, first_pier, is_gentle};
+ghost use Rattle.sgm_grid.specs.Bridges.{span_height, spans_over};
 ghost use Rattle.sgm_grid.specs.Cells.{IsCells, IsHeight};
 ghost use Rattle.sgm_grid.specs.Keeping.{mean};
 ghost use Rattle.sgm_grid.specs.declared.limits.TheConstants.{MAX_BRIDGE, MAX_CELL};

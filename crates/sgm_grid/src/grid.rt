@@ -1,7 +1,9 @@
-ghost use Rattle.std.specs.Prelude.{◌≡◌, ◌++◌, ◌*◌, ◌^◌, ◌<◌, ◌<ℤ◌, pos, IfOk, IfSome, OnOk, OnErr, All, length, count_by, is_some};
+ghost use Rattle.std.specs.Prelude.{◌≡◌, ◌++◌, ◌*◌, ◌^◌, ◌<◌, ◌<ℤ◌, pos, IfOk, IfSome, OnOk, OnErr};
+ghost use Rattle.std.specs.Prelude.{All, length, count_by, is_some};
 ghost use Rattle.std.specs.Option.{ForSome};
 ghost use Rattle.std.specs.Int.{int_div_euclid};
-ghost use Rattle.sgm_grid.specs.Cells.{IsGridSpec, IsCells, IsHeight, cells_of, height_at, cell_index, row_of};
+ghost use Rattle.sgm_grid.specs.Cells.{IsGridSpec, IsCells, IsHeight, cells_of, height_at};
+ghost use Rattle.sgm_grid.specs.Cells.{cell_index, row_of};
 ghost use Rattle.sgm_base.specs.Ranges.{Within};
 ghost use Rattle.sgm_grid.specs.Points.{added, cell_of, empty_grid, higher, index_below, raised_at};
 ghost use Rattle.sgm_grid.specs.Placing.{IsPlaced};

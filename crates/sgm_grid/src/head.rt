@@ -5,7 +5,8 @@ ghost use Rattle.sgm_base.specs.Ranges.{IsFromTo};
 ghost use Rattle.sgm_grid.specs.declared.asc_fault.AscFault.TheVariants.{Range};
 ghost use Rattle.sgm_grid.specs.Asc.{is_from_to};
 ghost use Rattle.sgm_grid.specs.Cells.{IsGridSpec};
-ghost use Rattle.sgm_grid.specs.Head.{HasLine, HasNumber, HasNumbers, IsRangeFault, IsWordFault, LacksLine, LacksNumber, first_out, spec_told};
+ghost use Rattle.sgm_grid.specs.Head.{HasLine, HasNumber, HasNumbers, IsRangeFault, IsWordFault};
+ghost use Rattle.sgm_grid.specs.Head.{LacksLine, LacksNumber, first_out, spec_told};
 ghost use Rattle.sgm_text.specs.Words.{words_of};
 
 use crate::numbers::number;

@@ -1,6 +1,7 @@
 ghost use Rattle.std.specs.Prelude.{◌≡◌, ◌++◌, ◌<◌, OnOk, OnErr, length};
 ghost use Rattle.sgm_grid.specs.Cells.{IsGridSpec};
-ghost use Rattle.sgm_grid.specs.Text.{after_spaces, cell_text, corner_text, grid_text, head_text, height_text, row_text, rows_text, size_text};
+ghost use Rattle.sgm_grid.specs.Text.{after_spaces, cell_text, corner_text, grid_text, head_text};
+ghost use Rattle.sgm_grid.specs.Text.{height_text, row_text, rows_text, size_text};
 ghost use Rattle.sgm_text.specs.Texts.{StartsAs, line};
 
 use crate::{Grid, GridSpec};

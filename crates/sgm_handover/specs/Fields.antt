@@ -12,4 +12,9 @@ at_front xs none dir = option_map_or (λ front. slice_index_or xs front none) (f
 -- by front how many strips it has passed and who has it, by strip who holds it
 abbrev pub handover : ℕ → List ℕ → List (Option ℕ) → List (Option ℕ) → Handover
 handover strips passed away holders =
-    record { strips = strips; passed = at_front passed 0; away = at_front away None; holder = λ strip. slice_index_or holders strip None }
+    record {
+      strips = strips;
+      passed = at_front passed 0;
+      away = at_front away None;
+      holder = λ strip. slice_index_or holders strip None;
+    }

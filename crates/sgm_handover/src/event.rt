@@ -1,7 +1,7 @@
 use sgm_energy::Dir;
 
-/// What a worker does: it claims a strip, takes the front of a direction, puts it back, and returns the
-/// strip that it holds.
+/// What a worker does: it claims a strip, takes the front of a direction, puts it back, and returns
+/// the strip that it holds.
 #[derive(Clone, Copy)]
 pub enum Event {
     Claim { worker: u32, strip: u32 },

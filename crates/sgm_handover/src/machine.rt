@@ -1,4 +1,6 @@
-ghost use Rattle.std.specs.Prelude.{◌≡◌, ◌≢◌, ◌↔◌, ℕ, ◌<◌, ◌≤◌, length, slice_index_or, vec_len, true, false, IfOk, IsOk, OnOk, OnErr, Some, None, replicate, if◌then◌else◌};
+ghost use Rattle.std.specs.Prelude.{◌≡◌, ◌≢◌, ◌↔◌, ℕ, ◌<◌, ◌≤◌, length, slice_index_or, vec_len};
+ghost use Rattle.std.specs.Prelude.{true, false, IfOk, IsOk, OnOk, OnErr, Some, None, replicate};
+ghost use Rattle.std.specs.Prelude.{if◌then◌else◌};
 ghost use Rattle.std.proofs.Props.{props};
 ghost use Rattle.sgm_handover.specs.Handover.{Sound, is_worker};
 ghost use Rattle.sgm_handover.specs.Fields.{handover};
@@ -23,8 +25,10 @@ pub struct Machine {
 
 /// Whether the worker stands in the list.
 fn has(list: &[Option<u32>], worker: u32) -> bool
-    ensures no { result ≡ false → (k : ℕ) → k < length list.now → slice_index_or list.now k None ≢ Some worker }
-    ensures yes { result ≡ true → (k : ℕ) × (k < length list.now) × (slice_index_or list.now k None ≡ Some worker) }
+    ensures no { result ≡ false → (k : ℕ) → k < length list.now
+        → slice_index_or list.now k None ≢ Some worker }
+    ensures yes { result ≡ true
+        → (k : ℕ) × (k < length list.now) × (slice_index_or list.now k None ≡ Some worker) }
 {
     for (i, place) in list.iter().enumerate() {
         if *place == Some(worker) {
@@ -37,7 +41,8 @@ fn has(list: &[Option<u32>], worker: u32) -> bool
 /// Takes the worker out of the list.
 fn release(list: &mut Vec<Option<u32>>, worker: u32)
     ensures each { (k : ℕ) → slice_index_or list.new.items k None
-        ≡ (if is_worker worker (slice_index_or list.old.items k None) then None else slice_index_or list.old.items k None) }
+        ≡ (if is_worker worker (slice_index_or list.old.items k None) then None
+        else slice_index_or list.old.items k None) }
     ensures len { vec_len list.new ≡ vec_len list.old }
 {
     for i in 0..list.len() {
@@ -65,8 +70,8 @@ impl Machine {
     ghost use Rattle.sgm_handover.specs.Machines.{state_of};
     ghost use Rattle.sgm_handover.specs.declared.event.Event.TheVariants.{Claim, Take, Put, Return};
 
-    /// The machine before the first event: no strip is held, no front is away, and none has passed a
-    /// strip. `strips` is from 1 to [`MAX_STRIPS`].
+    /// The machine before the first event: no strip is held, no front is away, and none has passed
+    /// a strip. `strips` is from 1 to [`MAX_STRIPS`].
     pub fn new(alloc: Global, strips: u32) -> Result<Machine, AllocError>
         requires { (1 ≤ strips) × (strips ≤ MAX_STRIPS) }
         ensures { IfOk result (λ machine. state_of machine ≡ fresh strips) }
@@ -182,8 +187,8 @@ impl Machine {
         release(&mut self.holders, worker);
     }
 
-    /// Makes the event happen: Ok exactly where it is legal. Otherwise the machine is unchanged. Takes no
-    /// memory.
+    /// Makes the event happen: Ok exactly where it is legal. Otherwise the machine is unchanged.
+    /// Takes no memory.
     pub fn apply(&mut self, event: Event) -> Result<(), Illegal>
         ensures legal { IsOk result ↔ Legal (state_of self.old) event }
         ensures after { OnOk result (state_of self.new ≡ after (state_of self.old) event) }

@@ -27,13 +27,14 @@ impl From<AllocError> for ReplayError {
     }
 }
 
-/// The machine after these events: Ok exactly where each is legal in the state that the earlier ones
-/// leave, otherwise the place of the first that is not. `strips` is from 1 to [`MAX_STRIPS`].
+/// The machine after these events: Ok exactly where each is legal in the state that the earlier
+/// ones leave, otherwise the place of the first that is not. `strips` is from 1 to [`MAX_STRIPS`].
 pub fn replay(alloc: Global, strips: u32, events: &[Event]) -> Result<Machine, ReplayError>
     requires { (1 ≤ strips) × (strips ≤ MAX_STRIPS) }
     ensures legal { IfOk result (λ _. AllLegal (fresh strips) events.now) }
     ensures state { IfOk result (λ machine. state_of machine ≡ run (fresh strips) events.now) }
-    ensures illegal { (at : ℕ) → result ≡ Err (error.Illegal at) → FirstIllegal (fresh strips) events.now at }
+    ensures illegal { (at : ℕ) → result ≡ Err (error.Illegal at)
+        → FirstIllegal (fresh strips) events.now at }
 
     // What follows from the events, whatever they are.
     ensures sound { IfOk result (λ machine. Sound (state_of machine)) }

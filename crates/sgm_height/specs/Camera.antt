@@ -1,10 +1,12 @@
 -- What a camera makes of a pixel and its disparity.
-use Rattle.std.specs.Prelude.{ℕ, ℤ, pos, neg_ℤ, ◌+ℤ◌, ◌-ℤ◌, ◌*ℤ◌, int_lt, int_le, ◌&&◌, Bool, if◌then◌else◌, Option, Some, None}
+use Rattle.std.specs.Prelude.{ℕ, ℤ, pos, neg_ℤ, ◌+ℤ◌, ◌-ℤ◌, ◌*ℤ◌, int_lt, int_le, ◌&&◌, Bool}
+use Rattle.std.specs.Prelude.{if◌then◌else◌, Option, Some, None}
 use Rattle.sgm_base.specs.Ranges.{IsFromTo}
 use Rattle.sgm_base.specs.Rounding.{rounded}
 use Rattle.sgm_base.specs.declared.point.Point.{Point}
 use Rattle.sgm_height.specs.declared.camera.Camera.{Camera}
-use Rattle.sgm_height.specs.declared.limits.TheConstants.{MAX_FOCAL, MAX_BASELINE, MAX_OFFSET, MAX_MOUNT, MAX_DEPTH}
+use Rattle.sgm_height.specs.declared.limits.TheConstants.{MAX_FOCAL, MAX_BASELINE, MAX_OFFSET}
+use Rattle.sgm_height.specs.declared.limits.TheConstants.{MAX_MOUNT, MAX_DEPTH}
 
 -- the ranges of a camera
 pub record IsCamera (camera : Camera) : Type 0 where
@@ -36,11 +38,13 @@ placed camera x y shift = record {
 -- whether there is a point: the shift is above 0, and the depth from near to far
 abbrev pub has_point : Camera → ℤ → Bool
 has_point camera shift =
-    int_lt (pos 0) shift && int_le camera.near (depth_of camera shift) && int_le (depth_of camera shift) camera.far
+    int_lt (pos 0) shift && int_le camera.near (depth_of camera shift)
+    && int_le (depth_of camera shift) camera.far
 
 -- the point of a pixel at that shift, or none
 abbrev pub point_with : Camera → ℕ → ℕ → ℤ → Option Point
-point_with camera x y shift = if has_point camera shift then Some (placed camera x y shift) else None
+point_with camera x y shift = if has_point camera shift then Some (placed camera x y shift)
+    else None
 
 -- the point of a pixel at a disparity in sixteenths of a pixel, or none
 abbrev pub point_of : Camera → ℕ → ℕ → ℤ → Option Point

@@ -1,5 +1,6 @@
 -- What a camera's points are in the frame of the site: east, north and up from a point of it.
-use Rattle.std.specs.Prelude.{ℕ, ◌+◌, ◌^◌, ℤ, pos, neg_ℤ, ◌+ℤ◌, ◌-ℤ◌, ◌*ℤ◌, int_le, Bool, ◌&&◌, if◌then◌else◌, List, get_or, IsTrue, Option, Some, None}
+use Rattle.std.specs.Prelude.{ℕ, ◌+◌, ◌^◌, ℤ, pos, neg_ℤ, ◌+ℤ◌, ◌-ℤ◌, ◌*ℤ◌, int_le, Bool, ◌&&◌}
+use Rattle.std.specs.Prelude.{if◌then◌else◌, List, get_or, IsTrue, Option, Some, None}
 use Rattle.sgm_base.specs.Ranges.{Within}
 use Rattle.sgm_base.specs.Rounding.{rounded}
 use Rattle.sgm_base.specs.declared.point.Point.{Point}

@@ -1,4 +1,5 @@
--- What a camera, and the pose in which it stands where it has one, make of a pixel and its disparity.
+-- What a camera, and the pose in which it stands where it has one, make of a pixel and its
+-- disparity.
 use Rattle.std.specs.Prelude.{ℕ, ℤ, Option, Some, None, option_and_then, IfSome}
 use Rattle.sgm_base.specs.declared.point.Point.{Point}
 use Rattle.sgm_height.specs.Camera.{IsCamera, point_of}

@@ -1,7 +1,9 @@
 ghost use Rattle.std.specs.Prelude.{◌≡◌, ◌^◌, ◌≤◌, ◌+◌, ◌*ℤ◌, pos, IfSome, IsTrue};
 ghost use Rattle.sgm_base.specs.Ranges.{Within};
 ghost use Rattle.sgm_base.specs.Rounding.{rounded};
-ghost use Rattle.sgm_height.specs.Pose.{IsAxis, IsInRange, dot, dot_point, along, is_small, is_nearly_unit, are_nearly_square, is_nearly_rotation, axis_from, axes_of, moved, is_level, site_point};
+ghost use Rattle.sgm_height.specs.Pose.{IsAxis, IsInRange, dot, dot_point, along, is_small};
+ghost use Rattle.sgm_height.specs.Pose.{is_nearly_unit, are_nearly_square, is_nearly_rotation};
+ghost use Rattle.sgm_height.specs.Pose.{axis_from, axes_of, moved, is_level, site_point};
 
 use crate::limits::MAX_SITE;
 use sgm_base::Point;

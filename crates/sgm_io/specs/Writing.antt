@@ -27,7 +27,8 @@ put_all-last_file (one ∷ next ∷ files) file first is =
     put_all-last_file (next ∷ files) file (put one.name one.bytes first) is
 
 -- so is the file being written
-pub put_all-current : (is_open : Bool) (files : List NamedBytes) (file : NamedBytes) (first : Held) →
+pub put_all-current : (is_open : Bool) (files : List NamedBytes) (file : NamedBytes) (first : Held)
+    →
     Some file ≡ current_of is_open files → put_all files first file.name ≡ Some file.bytes
 put_all-current true files file first is = put_all-last_file files file first (sym is)
 put_all-current false files file first is = cc

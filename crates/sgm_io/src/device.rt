@@ -9,8 +9,8 @@ const CHUNK: usize = 65536;
 /// Replaces `into` by all bytes of a stream up to its end, which are at most `most`.
 ///
 /// # Errors
-/// `TooLong` where it has more than `most`, `Failed` where the stream fails before that is known, and
-/// `NoMemory`.
+/// `TooLong` where it has more than `most`, `Failed` where the stream fails before that is known,
+/// and `NoMemory`.
 pub fn read_at_most<R: Read>(
     stream: &mut R,
     most: usize,

@@ -1,4 +1,5 @@
-ghost use Rattle.std.specs.Prelude.{◌≡◌, ◌↔◌, ◌+◌, ◌<◌, ◌≤◌, ℕ, List, [], length, Bool, Option, Some};
+ghost use Rattle.std.specs.Prelude.{◌≡◌, ◌↔◌, ◌+◌, ◌<◌, ◌≤◌, ℕ, List, [], length, Bool, Option};
+ghost use Rattle.std.specs.Prelude.{Some};
 ghost use Rattle.std.specs.Prelude.{IsTrue, IsSome, OnOk, OnErr};
 ghost use Rattle.sgm_io.specs.Held.{Held, HoldsBytes, length_at};
 ghost use Rattle.sgm_io.specs.Counts.{Counts};
@@ -100,8 +101,8 @@ pub trait Shelf {
         ensures writes { KeepWrites (name_of (writing self.old)) result
             (write_faults self.old) (write_faults self.new) };
 
-    /// Ends the file being written, also where it answers Failed; its name is then still unfinished.
-    /// It never answers NoMemory.
+    /// Ends the file being written, also where it answers Failed; its name is then still
+    /// unfinished. It never answers NoMemory.
     fn finish(&mut self) -> Result<(), KeepError>
         requires { IsSome (writing self.old) }
         ensures held { IsTrue tells → held self.new ≡ held self.old }

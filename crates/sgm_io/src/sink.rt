@@ -34,8 +34,8 @@ pub trait Sink {
         ensures faults { SinkFaults result (faults self.old) (faults self.new) };
 }
 
-/// Adds the whole piece, or on an error a part from its front, which is never all of it. It takes no
-/// memory.
+/// Adds the whole piece, or on an error a part from its front, which is never all of it. It takes
+/// no memory.
 pub fn write_whole<O: Sink>(sink: &mut O, piece: &[u8]) -> Result<(), SinkError>
     ensures written { IsTrue O.tells →
         WritesWhole piece.now result (O.written sink.old) (O.written sink.new) }

@@ -30,8 +30,8 @@ impl<W: Write + Drop> Sink for StdSink<W> {
 
     ghost faults = { λ sink. sink.faults };
 
-    /// Hands the bytes on to the stream. Where that tells its bytes, those of the answer were added,
-    /// and none on an error.
+    /// Hands the bytes on to the stream. Where that tells its bytes, those of the answer were
+    /// added, and none on an error.
     fn write(&mut self, piece: &[u8]) -> Result<usize, SinkError>
         ensures count { TakesSome piece.now result }
         ensures faults { SinkFaults result self.old.faults self.new.faults }

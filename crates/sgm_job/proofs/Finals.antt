@@ -17,7 +17,7 @@ use Rattle.sgm_select.proofs.Strips.{full_map}
 use Rattle.sgm_refine.proofs.Kept.{all_kept}
 use Rattle.sgm_strip.specs.Scenes.{SceneParts, problem_of}
 use Rattle.sgm_select.specs.Selection.{disparities_of, matches_of}
-use Rattle.sgm_refine.specs.Refining.{Refining, plain}
+use Rattle.sgm_base.specs.Refining.{Refining, plain}
 use Rattle.sgm_refine.specs.Refined.{refined}
 use Rattle.sgm_refine.specs.Segments.{kept}
 use Rattle.sgm_job.specs.Survey.{disparities, left_plane, made_disparities, problem, refined_disparities, right_plane, survey_of}
@@ -31,12 +31,10 @@ unfolding kept
 kept_height map least = refl
 
 -- the map of a scene's disparities, made finer where that is asked for, by that of the disparities
-pub made_of : (scene : SceneParts) (left right map finer : Values) (span : Disparities) (fine : Bool)
-    → map ≡ disparities_of (problem_of scene) left right scene.span.first → span ≡ scene.span → finer ≡ made_finer fine left right map span
+pub made_of : (scene : SceneParts) (left right map finer : Values) (fine : Bool)
+    → map ≡ disparities_of (problem_of scene) left right scene.span.first → finer ≡ made_finer fine left right map scene.span
     → finer ≡ made_disparities (problem_of scene) left right scene.span fine
-made_of scene left right map finer span fine e s f =
-    f ∙ ap (λ m. made_finer fine left right m span) e
-    ∙ ap (λ n. made_finer fine left right (disparities_of (problem_of scene) left right scene.span.first) n) s
+made_of scene left right map finer fine e f = f ∙ ap (λ m. made_finer fine left right m scene.span) e
 
 -- and its sides are the scene's
 pub made_width : (g : Problem) (left right : Values) (span : Disparities) (fine : Bool) → (made_disparities g left right span fine).width ≡ g.width

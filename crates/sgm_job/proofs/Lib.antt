@@ -1,3 +1,4 @@
+pub mod Crossing
 pub mod Grounds
 pub mod Making
 pub mod Passing

@@ -14,13 +14,14 @@ use Rattle.sgm_census.specs.Windows.{WindowSides}
 use Rattle.sgm_census.specs.declared.rule.CostRule.{CostRule}
 use Rattle.sgm_calib.specs.Calibration.{Calibration}
 use Rattle.sgm_job.specs.Matching.{IsMade}
+use Rattle.sgm_job.specs.declared.pair.Coded.{Coded}
 use Rattle.sgm_job.specs.declared.job.SurveyFault.{SurveyFault}
 use Rattle.sgm_job.specs.declared.job.SurveyFault.TheVariants as fault
 use Rattle.sgm_base.specs.declared.side.Side.TheVariants.{Left, Right}
 use Rattle.sgm_base.specs.Values.{Values}
 use Rattle.sgm_grid.specs.Cells.{Cells}
 use Rattle.sgm_report.specs.declared.volumes.RegionTally.{RegionTally}
-use Rattle.sgm_refine.specs.Refining.{Refining}
+use Rattle.sgm_base.specs.Refining.{Refining}
 use Rattle.sgm_job.specs.Survey.{final, ground, tallies, cells_of, is_too_large, pair_fault, Prepared, prepared, prepared_of, same_sides, side_fault, Survey, survey_of, surveyed, unless}
 
 -- the sides are the same, and neither warp has a fault
@@ -112,17 +113,15 @@ unfolding rectified_values
 plane_height image warp plane e = ap (λ (p : Values). p.height) e
 
 -- and so have its codes
-pub coded_width : (image : Picture) (warp : Warp) (window : WindowSides) (rule : CostRule) (plane : Values) (codes : Codes) → IsMade image warp window rule plane codes → codes.width ≡ image.width
-coded_width image warp window rule plane codes made = ap (λ (c : Codes). c.width) made.coded ∙ plane_width image warp plane made.rectified
+pub coded_width : (image : Picture) (warp : Warp) (window : WindowSides) (rule : CostRule) (made : Coded) → IsMade image warp window rule made → made.codes.width ≡ image.width
+coded_width image warp window rule made is = ap (λ (c : Codes). c.width) is.coded ∙ plane_width image warp made.plane is.rectified
 
-pub coded_height : (image : Picture) (warp : Warp) (window : WindowSides) (rule : CostRule) (plane : Values) (codes : Codes) → IsMade image warp window rule plane codes → codes.height ≡ image.height
-coded_height image warp window rule plane codes made = ap (λ (c : Codes). c.height) made.coded ∙ plane_height image warp plane made.rectified
+pub coded_height : (image : Picture) (warp : Warp) (window : WindowSides) (rule : CostRule) (made : Coded) → IsMade image warp window rule made → made.codes.height ≡ image.height
+coded_height image warp window rule made is = ap (λ (c : Codes). c.height) is.coded ∙ plane_height image warp made.plane is.rectified
 
-pub same_width : (left right : Picture) (a b : Sides) (calib : Calibration) → a ≡ sides_of left → b ≡ sides_of right → Passes a b calib → left.width ≡ right.width
-same_width left right a b calib ea eb pass = ap (λ (s : Sides). s.width) (sym ea ∙ pass.same ∙ eb)
-
-pub same_height : (left right : Picture) (a b : Sides) (calib : Calibration) → a ≡ sides_of left → b ≡ sides_of right → Passes a b calib → left.height ≡ right.height
-same_height left right a b calib ea eb pass = ap (λ (s : Sides). s.height) (sym ea ∙ pass.same ∙ eb)
+-- images with the sides of a pair that passes have the same
+pub one_size : (left right : Picture) (a b : Sides) (calib : Calibration) → a ≡ sides_of left → b ≡ sides_of right → Passes a b calib → sides_of left ≡ sides_of right
+one_size left right a b calib ea eb pass = sym ea ∙ pass.same ∙ eb
 
 pub survey_is : (left right : Picture) (calib : Calibration) (refine : Refining) (disp : Values) (grid : Option Cells) (found : Option (List RegionTally)) → disp ≡ final left right calib refine
     → grid ≡ ground calib disp → found ≡ tallies calib disp

@@ -6,7 +6,7 @@ use Rattle.sgm_calib.specs.Calibration.{Calibration}
 use Rattle.sgm_census.specs.Codes.{Codes, codes_of}
 use Rattle.sgm_census.specs.Matching.{matching_problem, plane_problem}
 use Rattle.sgm_energy.specs.Pens.{guide_of}
-use Rattle.sgm_refine.specs.Refining.{Refining}
+use Rattle.sgm_base.specs.Refining.{Refining}
 use Rattle.sgm_strip.specs.Scenes.{SceneParts, scene_of}
 use Rattle.sgm_job.specs.Answers.{matched_in}
 use Rattle.sgm_job.specs.Survey.{Prepared, final, prepared_of, left_plane, refined_disparities, right_plane}

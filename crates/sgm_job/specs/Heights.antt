@@ -1,5 +1,6 @@
 -- The points that a map of disparities shows, and the grid that they make.
-use Rattle.std.specs.Prelude.{◌≡◌, ℕ, ◌≤◌, ℤ, pos, ◌+ℤ◌, ◌*ℤ◌, All, List, length, filter_map, Option, Some, None, option_and_then}
+use Rattle.std.specs.Prelude.{◌≡◌, ℕ, ◌≤◌, ℤ, pos, ◌+ℤ◌, ◌*ℤ◌, All, List, length, filter_map}
+use Rattle.std.specs.Prelude.{Option, Some, None, option_and_then}
 use Rattle.std.specs.List.{flat_map, range_with_len}
 use Rattle.sgm_base.specs.Values.{Values}
 use Rattle.sgm_base.specs.declared.point.Point.{Point}
@@ -26,7 +27,8 @@ points_of_row station first map y =
 
 -- the points of all pixels, row by row
 unfoldable pub points_of : Station → ℤ → Values → List Point
-points_of station first map = flat_map (points_of_row station first map) (range_with_len 0 map.height)
+points_of station first map = flat_map (points_of_row station first map)
+    (range_with_len 0 map.height)
 
 -- where those of the row y fall, and their heights: of each that falls into the grid
 abbrev pub placed_of_row : Station → GridSpec → ℤ → Values → ℕ → List Placed

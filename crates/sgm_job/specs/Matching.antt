@@ -1,8 +1,8 @@
 -- What stands between the images and the disparities.
 use Rattle.std.specs.Prelude.{◌≡◌, ℕ, List, length, slice_get, Some}
 use Rattle.sgm_base.specs.Picture.{Picture}
-use Rattle.sgm_base.specs.Values.{Values}
-use Rattle.sgm_census.specs.Codes.{Codes, codes_of}
+use Rattle.sgm_calib.specs.Calibration.{Calibration}
+use Rattle.sgm_census.specs.Codes.{codes_of}
 use Rattle.sgm_census.specs.Windows.{WindowSides}
 use Rattle.sgm_census.specs.declared.rule.CostRule.{CostRule}
 use Rattle.sgm_rectify.specs.declared.warp.Warp.{Warp}
@@ -13,14 +13,22 @@ use Rattle.sgm_strip.specs.Cuts.{CutParts}
 use Rattle.sgm_strip.specs.Scenes.{SceneParts}
 use Rattle.sgm_strip.specs.Parcels.{ParcelParts, level_done}
 use Rattle.sgm_strip.specs.Fronts.{FrontParts}
-use Rattle.sgm_strip.specs.Strips.{AreComplete, IsStripOf}
+use Rattle.sgm_strip.specs.Strips.{IsStripOf}
 use Rattle.sgm_board.specs.Ready.{IsNewFront}
+use Rattle.sgm_job.specs.declared.pair.Coded.{Coded}
+use Rattle.sgm_job.specs.declared.pair.CodedPair.{CodedPair}
 
 -- the plane is the rectified image, and the codes are those of its pixels
 pub record IsMade (image : Picture) (warp : Warp) (window : WindowSides) (rule : CostRule)
-    (plane : Values) (codes : Codes) : Type 0 where
-  pub rectified : plane ≡ rectified_values image warp
-  pub coded : codes ≡ codes_of plane window rule
+    (made : Coded) : Type 0 where
+  pub rectified : made.plane ≡ rectified_values image warp
+  pub coded : made.codes ≡ codes_of made.plane window rule
+
+-- both images are so made, by their calibration
+pub record IsPair (left right : Picture) (calib : Calibration) (pair : CodedPair) : Type 0 where
+  pub left_made : IsMade left calib.left calib.window calib.rule pair.left
+  pub right_made : IsMade right calib.right calib.window calib.rule pair.right
+  pub same_maxval : pair.maxval ≡ left.maxval
 
 -- the parcel of a strip, with the two level directions done and no other
 pub record IsNewParcel (scene : SceneParts) (cut : CutParts) (strip : ℕ)
@@ -35,12 +43,3 @@ pub record AreNewFronts (scene : SceneParts) (cut : CutParts)
   pub new : (dir : Dir) (place : ℕ) (front : FrontParts) → front_of dir ≡ Some place
       → slice_get fronts place ≡ Some front
       → IsNewFront scene cut dir front
-
--- the parcels are all strips of a scene, each complete, and the planes have its sides
-pub record CanSelect (left right : Values) (parcels : List ParcelParts) : Type 0 where
-  pub scene : SceneParts
-  pub complete : AreComplete scene parcels
-  pub left_width : left.width ≡ scene.left.width
-  pub left_height : left.height ≡ scene.left.height
-  pub right_width : right.width ≡ scene.left.width
-  pub right_height : right.height ≡ scene.left.height

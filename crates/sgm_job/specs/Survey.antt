@@ -1,6 +1,7 @@
 -- The survey of a pair of images: the disparities, the grid of heights and the tallies, or why the
 -- pair is refused.
-use Rattle.std.specs.Prelude.{ℕ, ◌*◌, Bool, false, ◌==◌, nat_lt, ◌&&◌, not, if◌then◌else◌, List, map, Option, Some, None, option_map, Result, Ok, Err}
+use Rattle.std.specs.Prelude.{ℕ, ◌*◌, Bool, false, ◌==◌, nat_lt, ◌&&◌, not, if◌then◌else◌, List}
+use Rattle.std.specs.Prelude.{map, Option, Some, None, option_map, Result, Ok, Err}
 use Rattle.std.specs.Option.{option_or}
 use Rattle.sgm_base.specs.declared.limits.TheConstants.{MAX_VOLUME}
 use Rattle.sgm_base.specs.declared.side.Side.{Side}
@@ -16,7 +17,7 @@ use Rattle.sgm_census.specs.declared.rule.CostRule.TheVariants.{Plain, Smoothed}
 use Rattle.sgm_census.specs.Matching.{plane_problem}
 use Rattle.sgm_select.specs.Selection.{disparities_of, matches_of}
 use Rattle.sgm_fine.specs.Making.{made_finer}
-use Rattle.sgm_refine.specs.Refining.{Refining}
+use Rattle.sgm_base.specs.Refining.{Refining}
 use Rattle.sgm_refine.specs.Refined.{refined}
 use Rattle.sgm_rectify.specs.declared.warp.Warp.{Warp}
 use Rattle.sgm_rectify.specs.Faults.{warp_fault}
@@ -98,7 +99,8 @@ pub record Survey : Type 0 where
 
 -- the grid of the points that a map shows, where one is asked for
 abbrev pub measured : Calibration → Values → Option Cells
-measured calib disp = grid_of (station_of calib) calib.grid calib.gridding.keep calib.span.first disp
+measured calib disp =
+    grid_of (station_of calib) calib.grid calib.gridding.keep calib.span.first disp
 
 -- the same with its bridges
 abbrev pub ground : Calibration → Values → Option Cells

@@ -1,11 +1,13 @@
 //! From the disparities to finer ones, strip by strip, where they are asked for.
 
-ghost use Rattle.std.specs.Prelude.{◌≡◌, ◌+◌, ◌*◌, ◌<◌, ◌≤◌, ℕ, IfOk, IfSome, Option, length, slice_index_or, None, EachIndex};
-ghost use Rattle.sgm_base.specs.declared.limits.TheConstants.{MAX_STRIPS};
+ghost use Rattle.std.specs.Prelude.{◌≡◌, ◌+◌, ◌*◌, ◌<◌, ◌≤◌, ℕ, IfOk, IfSome, Option, length};
+ghost use Rattle.std.specs.Prelude.{slice_index_or, None, EachIndex};
 ghost use Rattle.sgm_select.specs.Strips.{rows_of_strip};
 ghost use Rattle.sgm_fine.specs.Making.{made_finer};
 ghost use Rattle.sgm_job.specs.Fining.{HoldsMade, made, made_at};
 
+use crate::asked::Asked;
+use crate::pair::ScenePlanes;
 use crate::sharing::{all_of, empty_places};
 use sgm_base::{DispMap, Plane, Span};
 use sgm_fine::{finer_row, mean_row};
@@ -150,32 +152,30 @@ fn made_map<R: Threads + Sync>(
     join_strips(alloc, making.map.size(), &strips)
 }
 
-/// The map, made finer by the planes where `fine` is true, in at most so many threads.
+/// The map, made finer by the planes where `fine` is true, in at most as many threads as workers
+/// are asked for.
 pub(crate) fn finer_map<R: Threads + Sync>(
     rt: &R,
     alloc: Global,
     fine: bool,
-    left: &Plane,
-    right: &Plane,
+    planes: &ScenePlanes,
     map: DispMap,
-    span: Span,
-    strips: u32,
-    threads: usize,
+    asked: Asked,
 ) -> Result<DispMap, AllocError>
-    requires strips { (1 ≤ strips) × (strips ≤ MAX_STRIPS) }
-    requires threads { 0 < threads }
-    ensures { IfOk result (λ m. m ≡ made_finer fine left.now right.now map span) }
+    ensures { IfOk result (λ m. m
+        ≡ made_finer fine planes.now.left planes.now.right map planes.now.scene.span) }
 {
     if !fine {
         return Ok(map);
     }
-    let cut = Cut::even(map.size().height, strips);
+    let cut = Cut::even(map.size().height, asked.strips);
+    let threads = asked.workers as usize;
     let making = Making {
         step: Step::Finer,
-        left,
-        right,
+        left: &planes.left,
+        right: &planes.right,
         map: &map,
-        span,
+        span: planes.scene.span(),
     };
     let finer = made_map(rt, alloc, &making, cut, threads)?;
     let making = Making {

@@ -10,7 +10,7 @@ ghost use Rattle.sgm_report.specs.Tallies.{tally_of};
 ghost use Rattle.sgm_job.specs.Survey.{ground, region_tallies, tallies};
 
 use crate::heights::heights;
-use crate::placing::Shown;
+use crate::shown::Shown;
 use sgm_base::DispMap;
 use sgm_calib::Calib;
 use sgm_grid::{Grid, bridge};
@@ -74,8 +74,8 @@ fn tallies_over(
     Ok(Some(tallies))
 }
 
-/// A grid of heights, bridged over at most `most` cells to each side of an empty one, and not at all
-/// for 0, and the tallies of regions over it. Err is want of memory.
+/// A grid of heights, bridged over at most `most` cells to each side of an empty one, and not at
+/// all for 0, and the tallies of regions over it. Err is want of memory.
 pub fn tally_ground(
     alloc: Global,
     measured: Grid,

@@ -1,26 +1,29 @@
 ghost use Rattle.std.specs.Prelude.{◌≡◌, ◌≤◌, IfOk, Some, None};
 ghost use Rattle.sgm_rectify.specs.Warps.{IsWarp};
 ghost use Rattle.sgm_base.specs.Values.{AtMost};
-ghost use Rattle.sgm_base.specs.declared.limits.TheConstants.{MAX_DISPARITY, MAX_STRIPS, MAX_WORKERS};
+ghost use Rattle.sgm_base.specs.declared.limits.TheConstants.{MAX_DISPARITY, MAX_STRIPS};
+ghost use Rattle.sgm_base.specs.declared.limits.TheConstants.{MAX_WORKERS};
 ghost use Rattle.sgm_census.specs.Matching.{matching_problem};
 ghost use Rattle.sgm_energy.specs.Pens.{guide_of};
 ghost use Rattle.sgm_strip.specs.Scenes.{problem_of};
-ghost use Rattle.sgm_refine.specs.Refining.{plain};
-ghost use Rattle.sgm_job.specs.Survey.{is_too_large, pair_fault, prepared, refined_disparities, side_fault, surveyed};
+ghost use Rattle.sgm_base.specs.Refining.{plain};
+ghost use Rattle.sgm_job.specs.Survey.{is_too_large, pair_fault, prepared, refined_disparities};
+ghost use Rattle.sgm_job.specs.Survey.{side_fault, surveyed};
 ghost use Rattle.sgm_job.specs.Answers.{Answers, Prepares};
 
+use crate::asked::Asked;
 use crate::fining::finer_map;
 use crate::ground::ground_of;
 use crate::matching::complete_parcels;
-use crate::planes::{Coded, guided_scene, prepare_both, prepare_each};
+use crate::pair::{CodedPair, ScenePlanes};
+use crate::planes::{guided_scene, prepare_both, prepare_each};
 use crate::refining::refined_map;
 use crate::selecting::select_all;
-use sgm_base::{DispMap, Image, MAX_VOLUME, Plane, Side, Size};
+use sgm_base::{DispMap, Image, MAX_VOLUME, Refine, Side, Size};
 use sgm_calib::Calib;
 use sgm_census::CostRule;
 use sgm_grid::Grid;
 use sgm_rectify::{Warp, WarpFault};
-use sgm_refine::Refine;
 use sgm_report::RegionTally;
 use sgm_strip::Scene;
 use sgm_work::Gate;
@@ -121,86 +124,41 @@ fn pair_fault(left: Size, right: Size, calib: &Calib) -> Option<SurveyFault>
 fn scene_map<R: Threads + Sync, G: Gate + Sync>(
     rt: &R,
     alloc: Global,
-    scene: &Scene,
-    left: &Plane,
-    right: &Plane,
-    strips: u32,
-    workers: u32,
+    planes: &ScenePlanes,
     fine: bool,
-    refine: Refine,
+    asked: Asked,
     gate: &G,
 ) -> Result<DispMap, AllocError>
-    requires left_width { left.now.width ≡ scene.now.left.width }
-    requires left_height { left.now.height ≡ scene.now.left.height }
-    requires right_width { right.now.width ≡ scene.now.left.width }
-    requires right_height { right.now.height ≡ scene.now.left.height }
-    requires strips { (1 ≤ strips) × (strips ≤ MAX_STRIPS) }
-    requires workers { (1 ≤ workers) × (workers ≤ MAX_WORKERS) }
-    ensures { IfOk result (λ m. m
-        ≡ refined_disparities (problem_of scene.now) left.now right.now scene.now.span fine
-        refine) }
+    ensures { IfOk result (λ m. m ≡ refined_disparities (problem_of planes.now.scene)
+        planes.now.left planes.now.right planes.now.scene.span fine asked.refine) }
 {
-    let parcels = complete_parcels(rt, alloc, scene, strips, workers, gate)?;
-    let map = select_all(rt, alloc, left, right, &parcels, workers as usize)?;
-    let finer = finer_map(
-        rt,
-        alloc,
-        fine,
-        left,
-        right,
-        map,
-        scene.span(),
-        strips,
-        workers as usize,
-    )?;
-    refined_map(alloc, scene, &parcels, left, finer, refine)
+    let refine = asked.refine;
+    let parcels = complete_parcels(rt, alloc, &planes.scene, asked.strips, asked.workers, gate)?;
+    let map = select_all(rt, alloc, planes, &parcels, asked.workers as usize)?;
+    let finer = finer_map(rt, alloc, fine, planes, map, asked)?;
+    refined_map(alloc, planes, &parcels, finer, refine)
 }
 
-/// The refined disparity of each pixel of the left plane, whose values go up to `maxval`.
+/// The refined disparity of each pixel of the left image of a pair.
 fn disparity_map<R: Threads + Sync, G: Gate + Sync>(
     rt: &R,
     alloc: Global,
-    left: Coded,
-    right: Coded,
+    pair: CodedPair,
     calib: &Calib,
-    maxval: u16,
-    strips: u32,
-    workers: u32,
-    refine: Refine,
+    asked: Asked,
     gate: &G,
 ) -> Result<DispMap, AllocError>
-    requires same_width { left.codes.width ≡ right.codes.width }
-    requires same_height { left.codes.height ≡ right.codes.height }
-    requires same_window { left.codes.window ≡ right.codes.window }
-    requires same_rule { left.codes.rule ≡ right.codes.rule }
-    requires left_width { left.plane.width ≡ left.codes.width }
-    requires left_height { left.plane.height ≡ left.codes.height }
-    requires right_width { right.plane.width ≡ left.codes.width }
-    requires right_height { right.plane.height ≡ left.codes.height }
-    requires maxval { 1 ≤ maxval }
-    requires values { AtMost maxval left.plane.entries }
-    requires strips { (1 ≤ strips) × (strips ≤ MAX_STRIPS) }
-    requires workers { (1 ≤ workers) × (workers ≤ MAX_WORKERS) }
     ensures exact { IfOk result (λ m. m ≡ refined_disparities
-        (matching_problem left.codes right.codes calib.now.span calib.now.penalties (guide_of left.plane maxval)) left.plane right.plane calib.now.span calib.now.fine refine) }
+        (matching_problem pair.left.codes pair.right.codes calib.now.span calib.now.penalties
+        (guide_of pair.left.plane pair.maxval)) pair.left.plane pair.right.plane calib.now.span
+        calib.now.fine asked.refine) }
     ensures bound { IfOk result (λ m. AtMost MAX_DISPARITY m.entries) }
 {
     let span = calib.span();
     // Known from here on: the range of the span.
     let _ = &span.count;
-    let scene = guided_scene(alloc, left.codes, right.codes, calib, &left.plane, maxval)?;
-    scene_map(
-        rt,
-        alloc,
-        &scene,
-        &left.plane,
-        &right.plane,
-        strips,
-        workers,
-        calib.fine(),
-        refine,
-        gate,
-    )
+    let planes = guided_scene(alloc, pair, calib)?;
+    scene_map(rt, alloc, &planes, calib.fine(), asked, gate)
 }
 
 /// Surveys a pair of images: rectifies them, matches them, and gives for each pixel of the left one
@@ -256,13 +214,13 @@ pub fn survey_refined<R: Threads + Sync, G: Gate + Sync>(
     if let Some(fault) = pair_fault(left.size(), right.size(), calib) {
         return Err(SurveyError::Fault(fault));
     }
-    let maxval = left.maxval();
-    // Known from here on: that no sample of the left image is above it.
-    let _samples = left.samples();
-    let (left, right) = prepare_both(rt, alloc, left, right, calib)?;
-    let disp = disparity_map(
-        rt, alloc, left, right, calib, maxval, strips, workers, refine, gate,
-    )?;
+    let pair = prepare_both(rt, alloc, left, right, calib)?;
+    let asked = Asked {
+        strips,
+        workers,
+        refine,
+    };
+    let disp = disparity_map(rt, alloc, pair, calib, asked, gate)?;
     let ground = ground_of(rt, alloc, calib, &disp, workers as usize)?;
     Ok(Surveyed {
         disp,
@@ -284,9 +242,6 @@ pub fn prepare(
     if let Some(fault) = pair_fault(left.size(), right.size(), calib) {
         return Err(SurveyError::Fault(fault));
     }
-    let maxval = left.maxval();
-    // Known from here on: that no sample of the left image is above it.
-    let _samples = left.samples();
-    let (left, right) = prepare_each(alloc, left, right, calib)?;
-    Ok(guided_scene(alloc, left.codes, right.codes, calib, &left.plane, maxval)?)
+    let pair = prepare_each(alloc, left, right, calib)?;
+    Ok(guided_scene(alloc, pair, calib)?.scene)
 }

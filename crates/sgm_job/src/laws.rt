@@ -4,7 +4,7 @@
 ghost use Rattle.std.specs.Prelude.{◌≡◌};
 ghost use Rattle.sgm_base.specs.Picture.{Picture, IsPicture};
 ghost use Rattle.sgm_calib.specs.Calibration.{Calibration};
-ghost use Rattle.sgm_refine.specs.Refining.{plain};
+ghost use Rattle.sgm_base.specs.Refining.{plain};
 ghost use Rattle.sgm_job.specs.Survey.{disparities, survey_of};
 
 /// Where nothing is to be removed and nothing to be filled, the map of a survey is that of the

@@ -1,6 +1,7 @@
 //! From the codes of two planes to complete parcels.
 
-ghost use Rattle.std.specs.Prelude.{◌≡◌, ◌≤◌, ◌<◌, ℕ, IfOk, IfSome, All, Option, length, slice_index_or};
+ghost use Rattle.std.specs.Prelude.{◌≡◌, ◌≤◌, ◌<◌, ℕ, IfOk, IfSome, All, Option, length};
+ghost use Rattle.std.specs.Prelude.{slice_index_or};
 ghost use Rattle.sgm_base.specs.declared.limits.TheConstants.{MAX_STRIPS, MAX_WORKERS};
 ghost use Rattle.sgm_strip.specs.Parcels.{ParcelParts, level_done};
 ghost use Rattle.sgm_strip.specs.Scenes.{scene_of};
@@ -15,7 +16,7 @@ use std::alloc::{AllocError, Global};
 use std::thread::{Threads, for_each_mut};
 
 /// The number of fronts: one for each direction that is not level.
-const FRONTS: usize = 6;
+const FRONTS: usize = Dir::FRONTS.len();
 
 /// The parcel of a strip; None where there is no memory.
 fn parcel_at(alloc: Global, scene: &Scene, cut: Cut, strip: usize) -> Option<Parcel>

@@ -1,56 +1,33 @@
 //! Points whose places in a grid are found side by side, row by row of the map, and whose heights
 //! are added there after that, in the order of the pixels.
 
-ghost use Rattle.std.specs.Prelude.{◌≡◌, ℕ, ◌+◌, ◌*◌, ◌<◌, ◌≤◌, All, IfOk, IfSome, fold, length, Option, option_and_then, slice_get, slice_index_or, None, Some};
+ghost use Rattle.std.specs.Prelude.{◌≡◌, ℕ, ◌+◌, ◌*◌, ◌<◌, ◌≤◌, All, IfOk, IfSome, fold, length};
+ghost use Rattle.std.specs.Prelude.{Option, option_and_then, slice_get, slice_index_or, None, Some};
 ghost use Rattle.std.specs.List.{filter_map, range_with_len};
-ghost use Rattle.sgm_base.specs.Disparities.{IsFirst};
 ghost use Rattle.sgm_base.specs.Values.{AtMost};
 ghost use Rattle.sgm_base.specs.declared.limits.TheConstants.{MAX_DISPARITY, MAX_SIDE};
-ghost use Rattle.sgm_height.specs.Station.{IsStation};
 ghost use Rattle.sgm_grid.specs.Binning.{HasRoom, with_point};
-ghost use Rattle.sgm_grid.specs.Cells.{IsGridSpec};
 ghost use Rattle.sgm_grid.specs.Placing.{IsPlaced, placed, spec_in, with_placed};
 ghost use Rattle.sgm_job.specs.Heights.{IsPlacedRow, point_at, points_of};
 
-use crate::heights::pixel_point;
 use crate::sharing::{all_of, empty_places};
-use sgm_base::{DispMap, Span};
-use sgm_grid::{Bins, GridSpec, Placed};
-use sgm_height::Station;
+use crate::shown::{Shown, pixel_point};
+use sgm_grid::{Bins, Placed};
 use std::alloc::{AllocError, Global};
 use std::thread::{Threads, for_each_mut};
 
-/// The points that a map shows from a station, and the grid into which they fall.
-#[derive(Clone, Copy)]
-pub(crate) struct Shown<'a> {
-    pub(crate) station: &'a Station,
-    pub(crate) span: Span,
-    pub(crate) map: &'a DispMap,
-    pub(crate) spec: GridSpec,
-}
-
 /// Where the point of a pixel falls, if it has one and that falls into the grid.
-fn place_pixel(
-    station: &Station,
-    first: i32,
-    spec: GridSpec,
-    x: u32,
-    y: u32,
-    value: Option<u16>,
-) -> Option<Placed>
-    requires station { IsStation station.now }
-    requires first { IsFirst first }
-    requires spec { IsGridSpec spec }
+fn place_pixel(shown: &Shown, x: u32, y: u32, value: Option<u16>) -> Option<Placed>
     requires x { x < MAX_SIDE }
     requires y { y < MAX_SIDE }
     requires value { IfSome value (λ v. v ≤ MAX_DISPARITY) }
-    ensures exact { result ≡ option_and_then (placed spec)
-        (option_and_then (point_at station.now first x y) value) }
-    ensures within { IfSome result (IsPlaced spec) }
+    ensures exact { result ≡ option_and_then (placed shown.now.spec)
+        (option_and_then (point_at shown.now.station.now shown.now.span.first x y) value) }
+    ensures within { IfSome result (IsPlaced shown.now.spec) }
 {
-    match pixel_point(station, first, x, y, value) {
+    match pixel_point(shown, x, y, value) {
         None => None,
-        Some(point) => spec.placed(point),
+        Some(point) => shown.spec.placed(point),
     }
 }
 
@@ -58,27 +35,23 @@ fn place_pixel(
 /// the span on.
 fn place_row(
     alloc: Global,
-    station: &Station,
-    span: Span,
-    spec: GridSpec,
+    shown: &Shown,
     y: u32,
     row: &[Option<u16>],
 ) -> Result<Vec<Placed>, AllocError>
-    requires station { IsStation station.now }
-    requires spec { IsGridSpec spec }
     requires y { y < MAX_SIDE }
     requires width { length row.now ≤ MAX_SIDE }
     requires values { AtMost MAX_DISPARITY row.now }
-    ensures exact { IfOk result (λ places. places.items ≡ filter_map (placed spec)
-        (filter_map (λ x. option_and_then (point_at station.now span.first x y)
+    ensures exact { IfOk result (λ places. places.items ≡ filter_map (placed shown.now.spec)
+        (filter_map (λ x. option_and_then (point_at shown.now.station.now shown.now.span.first x y)
         (slice_index_or row.now x None))
         (range_with_len 0 (length row.now)))) }
-    ensures within { IfOk result (λ places. All (IsPlaced spec) places.items) }
+    ensures within { IfOk result (λ places. All (IsPlaced shown.now.spec) places.items) }
     ensures few { IfOk result (λ places. length places.items ≤ length row.now) }
 {
     let mut places = Vec::with_capacity(alloc, row.len())?;
     for x in 0..row.len() {
-        if let Some(placed) = place_pixel(station, span.first, spec, x as u32, y, row[x]) {
+        if let Some(placed) = place_pixel(shown, x as u32, y, row[x]) {
             places.push(placed)?;
         }
     }
@@ -87,17 +60,14 @@ fn place_row(
 
 /// Where the points of a row of the map fall; None where there is no memory.
 fn row_at(alloc: Global, shown: &Shown, y: usize) -> Option<Vec<Placed>>
-    requires station { IsStation shown.now.station.now }
-    requires spec { IsGridSpec shown.now.spec }
-    requires values { AtMost MAX_DISPARITY shown.now.map.now.entries }
-    requires row { y < shown.now.map.now.height }
+    requires { y < shown.now.map.now.height }
     ensures { IfSome result (λ places. IsPlacedRow shown.now.station.now shown.now.spec
         shown.now.span.first shown.now.map.now y places.items) }
 {
     // Known from here on: that it has at most 4096 x 4096 pixels.
     let _size = shown.map.size();
     let row = shown.map.row(y as u32);
-    place_row(alloc, shown.station, shown.span, shown.spec, y as u32, row).ok()
+    place_row(alloc, shown, y as u32, row).ok()
 }
 
 /// Where the points of each row fall, each row in its place, in at most so many threads.
@@ -109,9 +79,6 @@ fn place_rows<R: Threads + Sync>(
     rows: &mut [Option<Vec<Placed>>],
 )
     requires threads { 0 < threads }
-    requires station { IsStation shown.now.station.now }
-    requires spec { IsGridSpec shown.now.spec }
-    requires values { AtMost MAX_DISPARITY shown.now.map.now.entries }
     requires count { length rows.old ≡ shown.now.map.now.height }
     ensures count { length rows.new ≡ shown.now.map.now.height }
     ensures placed { (y : ℕ) (d : _) → y < shown.now.map.now.height
@@ -167,9 +134,6 @@ pub(crate) fn add_shared<R: Threads + Sync>(
     bins: &mut Bins,
 ) -> Result<(), AllocError>
     requires threads { 0 < threads }
-    requires station { IsStation shown.now.station.now }
-    requires spec { IsGridSpec shown.now.spec }
-    requires values { AtMost MAX_DISPARITY shown.now.map.now.entries }
     requires same { spec_in bins.old ≡ shown.now.spec }
     requires room { HasRoom bins.old (shown.now.map.now.height * shown.now.map.now.width) }
     ensures { IfOk result (λ _. bins.new ≡ fold with_point bins.old

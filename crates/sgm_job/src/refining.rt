@@ -7,10 +7,11 @@ ghost use Rattle.sgm_select.specs.Selection.{matches_of};
 ghost use Rattle.sgm_refine.specs.Segments.{kept};
 ghost use Rattle.sgm_refine.specs.Refined.{refined};
 
-use sgm_base::{DispMap, Plane};
-use sgm_refine::{Refine, fill, peaks};
+use crate::pair::ScenePlanes;
+use sgm_base::{DispMap, Refine};
+use sgm_refine::{fill, peaks};
 use sgm_select::matches;
-use sgm_strip::{Parcel, Scene};
+use sgm_strip::Parcel;
 use std::alloc::{AllocError, Global};
 
 /// The map without its segments of fewer than `peak` pixels.
@@ -30,25 +31,23 @@ fn without_peaks(alloc: Global, mut map: DispMap, peak: u32) -> Result<DispMap, 
 /// The refined map. The matches of the right image are found only where pixels are to be filled.
 pub(crate) fn refined_map(
     alloc: Global,
-    scene: &Scene,
+    planes: &ScenePlanes,
     parcels: &[Parcel],
-    left: &Plane,
     map: DispMap,
     refine: Refine,
 ) -> Result<DispMap, AllocError>
-    requires complete { AreComplete scene.now parcels.now }
-    requires map_width { map.width ≡ scene.now.left.width }
-    requires map_height { map.height ≡ scene.now.left.height }
-    requires left_width { left.now.width ≡ scene.now.left.width }
-    requires left_height { left.now.height ≡ scene.now.left.height }
+    requires complete { AreComplete planes.now.scene parcels.now }
+    requires width { map.width ≡ planes.now.scene.left.width }
+    requires height { map.height ≡ planes.now.scene.left.height }
     ensures { IfOk result (λ m. m
-        ≡ refined map (matches_of (problem_of scene.now) scene.now.span.first) left.now
-        scene.now.span.first scene.now.span.count refine) }
+        ≡ refined map (matches_of (problem_of planes.now.scene) planes.now.scene.span.first)
+        planes.now.left planes.now.scene.span.first planes.now.scene.span.count refine) }
 {
     let map = without_peaks(alloc, map, refine.peak)?;
     if !refine.fill {
         return Ok(map);
     }
+    let scene = &planes.scene;
     let matched = matches(alloc, scene, parcels)?;
-    fill(alloc, &map, &matched, left, scene.span())
+    fill(alloc, &map, &matched, &planes.left, scene.span())
 }

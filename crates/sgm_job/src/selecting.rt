@@ -1,15 +1,16 @@
 //! From complete parcels to the disparities, strip by strip.
 
-ghost use Rattle.std.specs.Prelude.{◌≡◌, ◌<◌, ℕ, IfOk, IfSome, List, Option, length, slice_index_or};
+ghost use Rattle.std.specs.Prelude.{◌≡◌, ◌<◌, ℕ, IfOk, IfSome, List, Option, length};
+ghost use Rattle.std.specs.Prelude.{slice_index_or};
 ghost use Rattle.sgm_strip.specs.Cuts.{CutParts};
-ghost use Rattle.sgm_strip.specs.Scenes.{SceneParts, problem_of};
-ghost use Rattle.sgm_strip.specs.Strips.{AreStrips};
+ghost use Rattle.sgm_strip.specs.Scenes.{problem_of};
+ghost use Rattle.sgm_strip.specs.Strips.{AreComplete, AreStrips};
 ghost use Rattle.sgm_select.specs.Selection.{disparities_of};
 ghost use Rattle.sgm_select.specs.Strips.{rows_of_strip};
-ghost use Rattle.sgm_job.specs.Matching.{CanSelect};
 
+use crate::pair::ScenePlanes;
 use crate::sharing::{all_of, empty_places};
-use sgm_base::{DispMap, Plane};
+use sgm_base::DispMap;
 use sgm_select::{join_strips, select_strip};
 use sgm_strip::Parcel;
 use std::alloc::{AllocError, Global};
@@ -18,45 +19,45 @@ use std::thread::{Threads, for_each_mut};
 /// The disparities of a strip's rows; None where there is no memory.
 fn rows_at(
     alloc: Global,
-    left: &Plane,
-    right: &Plane,
+    planes: &ScenePlanes,
     parcels: &[Parcel],
     strip: usize,
 ) -> Option<Vec<Option<u16>>>
-    requires can_select { CanSelect left.now right.now parcels.now }
+    requires complete { AreComplete planes.now.scene parcels.now }
     requires strip { strip < length parcels.now }
-    ensures { (scene : SceneParts) (cut : CutParts) → AreStrips scene cut parcels.now
-        → IfSome result (λ rows. rows.items ≡
-        rows_of_strip (disparities_of (problem_of scene) left.now right.now scene.span.first) cut strip) }
+    ensures { (cut : CutParts) → AreStrips planes.now.scene cut parcels.now
+        → IfSome result (λ rows. rows.items ≡ rows_of_strip
+        (disparities_of (problem_of planes.now.scene) planes.now.left planes.now.right
+        planes.now.scene.span.first) cut strip) }
 {
-    select_strip(alloc, left, right, &parcels[strip]).ok()
+    select_strip(alloc, &planes.left, &planes.right, &parcels[strip]).ok()
 }
 
 /// Finds the disparities of each strip's rows.
-#[tactic(auto, using(sgm_strip::proofs::Crossing::parcel_sync))]
+#[tactic(auto, using(crate::proofs::Crossing::planes_sync, sgm_strip::proofs::Crossing::parcel_sync))]
 fn select_places<R: Threads + Sync>(
     rt: &R,
     alloc: Global,
-    left: &Plane,
-    right: &Plane,
+    planes: &ScenePlanes,
     parcels: &[Parcel],
     threads: usize,
     places: &mut [Option<Vec<Option<u16>>>],
 )
     requires threads { 0 < threads }
-    requires can_select { CanSelect left.now right.now parcels.now }
+    requires complete { AreComplete planes.now.scene parcels.now }
     requires count { length places.old ≡ length parcels.now }
     ensures count { length places.new ≡ length parcels.now }
-    ensures found { (scene : SceneParts) (cut : CutParts) → AreStrips scene cut parcels.now
+    ensures found { (cut : CutParts) → AreStrips planes.now.scene cut parcels.now
         → (strip : ℕ) (d : _) → strip < length parcels.now
-        → IfSome (slice_index_or places.new strip d) (λ rows. rows.items ≡
-        rows_of_strip (disparities_of (problem_of scene) left.now right.now scene.span.first) cut strip) }
+        → IfSome (slice_index_or places.new strip d) (λ rows. rows.items ≡ rows_of_strip
+        (disparities_of (problem_of planes.now.scene) planes.now.left planes.now.right
+        planes.now.scene.span.first) cut strip) }
 {
     for_each_mut(
         rt,
         places,
         threads,
-        &|strip, place| { *place = rows_at(alloc, left, right, parcels, strip) },
+        &|strip, place| { *place = rows_at(alloc, planes, parcels, strip) },
     );
 }
 
@@ -64,29 +65,17 @@ fn select_places<R: Threads + Sync>(
 pub(crate) fn select_all<R: Threads + Sync>(
     rt: &R,
     alloc: Global,
-    left: &Plane,
-    right: &Plane,
+    planes: &ScenePlanes,
     parcels: &[Parcel],
     threads: usize,
 ) -> Result<DispMap, AllocError>
     requires threads { 0 < threads }
-    requires can_select { CanSelect left.now right.now parcels.now }
-    ensures { (scene : SceneParts) (cut : CutParts) → AreStrips scene cut parcels.now
-        → left.now.width ≡ scene.left.width
-        → left.now.height ≡ scene.left.height
-        → IfOk result (λ map. map ≡ disparities_of
-        (problem_of scene) left.now right.now scene.span.first) }
+    requires complete { AreComplete planes.now.scene parcels.now }
+    ensures { IfOk result (λ map. map ≡ disparities_of (problem_of planes.now.scene)
+        planes.now.left planes.now.right planes.now.scene.span.first) }
 {
     let mut places = empty_places(alloc, parcels.len())?;
-    select_places(
-        rt,
-        alloc,
-        left,
-        right,
-        parcels,
-        threads,
-        places.as_mut_slice(),
-    );
+    select_places(rt, alloc, planes, parcels, threads, places.as_mut_slice());
     let strips = all_of(alloc, places)?;
-    join_strips(alloc, left.size(), &strips)
+    join_strips(alloc, planes.left.size(), &strips)
 }

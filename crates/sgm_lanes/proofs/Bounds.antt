@@ -1,7 +1,7 @@
 -- How great what a step gives can be.
 use Rattle.std.proofs.Common.{ℕ, ◌+◌, ◌≤◌, List, length, slice_index, arith}
 use Rattle.std.proofs.lemmas.Bool.Decides.{nat_tests}
-use Rattle.sgm_terms.specs.Step.{carried}
+use Rattle.sgm_energy.specs.Step.{carried}
 use Rattle.sgm_lanes.specs.Steps.{StepsTo}
 
 carried_le : (prev : ℕ → ℕ) (count p1 far low d : ℕ) → carried prev count p1 far low d ≤ low + far

@@ -1,10 +1,13 @@
 -- The middle of five values, by which version 3 codes a pixel, and costs smoothed along a row.
-use Rattle.std.specs.Prelude.{ℕ, ◌+◌, ◌*◌, ◌/◌, Bool, ◌&&◌, nat_lt, nat_le, List, [], ◌∷◌, unwrap_or}
+use Rattle.std.specs.Prelude.{ℕ, ◌+◌, ◌*◌, ◌/◌, Bool, ◌&&◌, nat_lt, nat_le, List, [], ◌∷◌}
+use Rattle.std.specs.Prelude.{unwrap_or}
 use Rattle.std.specs.List.{count_by, find}
 
--- whether v is the third smallest of five values: fewer than three are less than it, and three or more are not above it
+-- whether v is the third smallest of five values: fewer than three are less than it, and three or
+-- more are not above it
 abbrev pub is_third : List ℕ → ℕ → Bool
-is_third values v = nat_lt (count_by (λ w. nat_lt w v) values) 3 && nat_le 3 (count_by (λ w. nat_le w v) values)
+is_third values v = nat_lt (count_by (λ w. nat_lt w v) values) 3
+    && nat_le 3 (count_by (λ w. nat_le w v) values)
 
 -- the third smallest of five values
 unfoldable pub middle_of : ℕ → ℕ → ℕ → ℕ → ℕ → ℕ

@@ -1,9 +1,10 @@
 -- What one step asks of its arguments, and what it writes.
 use Rattle.std.specs.Prelude.{◌≡◌, ℕ, ◌≤◌, List, length, slice_index, All}
 use Rattle.sgm_base.specs.declared.limits.TheConstants.{MAX_COST, MAX_PATH_VALUE, MAX_PENALTY}
-use Rattle.sgm_terms.specs.Step.{IsStepped}
+use Rattle.sgm_energy.specs.Step.{IsStepped}
 
--- the values prev, of which floor is the least or less, have a cost each, and all numbers are in their limits
+-- the values prev, of which floor is the least or less, have a cost each, and all numbers are in
+-- their limits
 pub record CanStep (prev : List ℕ) (floor : ℕ) (cost : List ℕ) (p1 p2 : ℕ) : Type 0 where
   pub cost_length : length cost ≡ length prev
   pub floor_least : All (λ x. floor ≤ x) prev

@@ -1,4 +1,5 @@
-ghost use Rattle.std.specs.Prelude.{◌≡◌, ℕ, ◌+◌, ◌*◌, ◌/◌, ◌<◌, ◌≤◌, ◌⊎◌, length, slice_index, EachIndex, count_ones, bit_xor};
+ghost use Rattle.std.specs.Prelude.{◌≡◌, ℕ, ◌+◌, ◌*◌, ◌/◌, ◌<◌, ◌≤◌, ◌⊎◌, length, slice_index};
+ghost use Rattle.std.specs.Prelude.{EachIndex, count_ones, bit_xor};
 
 use std::simd::prelude::*;
 
@@ -18,7 +19,8 @@ pub fn differing(a: u64, b: u64) -> u8
 fn differing_lanes(a: u64x16, b: u64x16) -> u8x16
     requires { (length a ≡ WORDS) × (length b ≡ WORDS) }
     ensures len { length result ≡ WORDS }
-    ensures each { (i : ℕ) → i < WORDS → slice_index result i ≡ count_ones (bit_xor (slice_index a i) (slice_index b i)) }
+    ensures each { (i : ℕ) → i < WORDS
+        → slice_index result i ≡ count_ones (bit_xor (slice_index a i) (slice_index b i)) }
 {
     (a ^ b).count_ones().cast()
 }
@@ -47,7 +49,8 @@ fn repeated(word: u64) -> u64x16
 fn store(lanes: u8x16, at: usize, into: &mut [u8])
     requires { (at + WORDS ≤ length into.old) × (length lanes ≡ WORDS) }
     ensures inside { (i : ℕ) → i < WORDS → slice_index into.new (at + i) ≡ slice_index lanes i }
-    ensures outside { (k : ℕ) → (k < at) ⊎ (at + WORDS ≤ k) → slice_index into.new k ≡ slice_index into.old k }
+    ensures outside { (k : ℕ) → (k < at) ⊎ (at + WORDS ≤ k)
+        → slice_index into.new k ≡ slice_index into.old k }
 {
     lanes.copy_to_slice(&mut into[at..]);
 }
@@ -57,7 +60,8 @@ fn store(lanes: u8x16, at: usize, into: &mut [u8])
 pub fn hamming(a: &[u64], b: &[u64], into: &mut [u8])
     requires a_length { length a.now ≡ length into.old }
     requires b_length { length b.now ≡ length into.old }
-    ensures { EachIndex into.new (λ k. slice_index into.new k ≡ count_ones (bit_xor (slice_index a.now k) (slice_index b.now k))) }
+    ensures { EachIndex into.new (λ k. slice_index into.new k
+        ≡ count_ones (bit_xor (slice_index a.now k) (slice_index b.now k))) }
 {
     let chunks = into.len() / WORDS;
     for number in 0..chunks {
@@ -69,12 +73,13 @@ pub fn hamming(a: &[u64], b: &[u64], into: &mut [u8])
     }
 }
 
-/// Writes, for each place, how many bits of the one word and of the word there differ: [`hamming`] with
-/// that word at each place. The two slices have one length.
+/// Writes, for each place, how many bits of the one word and of the word there differ: [`hamming`]
+/// with that word at each place. The two slices have one length.
 #[inline(always)]
 pub fn hamming_to(word: u64, words: &[u64], into: &mut [u8])
     requires { length words.now ≡ length into.old }
-    ensures { EachIndex into.new (λ k. slice_index into.new k ≡ count_ones (bit_xor word (slice_index words.now k))) }
+    ensures { EachIndex into.new (λ k. slice_index into.new k
+        ≡ count_ones (bit_xor word (slice_index words.now k))) }
 {
     let chunks = into.len() / WORDS;
     let lanes = repeated(word);

@@ -1,5 +1,6 @@
 // Sixteen values of 16 bits side by side, and what each operation on them gives at each lane.
-ghost use Rattle.std.specs.Prelude.{◌≡◌, ◌≢◌, ℕ, ◌<◌, ◌≤◌, ◌+◌, ◌-◌, ◌^◌, ◌⊎◌, length, slice_index, min};
+ghost use Rattle.std.specs.Prelude.{◌≡◌, ◌≢◌, ℕ, ◌<◌, ◌≤◌, ◌+◌, ◌-◌, ◌^◌, ◌⊎◌, length, slice_index};
+ghost use Rattle.std.specs.Prelude.{min};
 
 use std::simd::prelude::*;
 
@@ -20,7 +21,8 @@ pub(crate) fn repeated(value: u16) -> u16x16
 pub(crate) fn lesser(a: u16x16, b: u16x16) -> u16x16
     requires { (length a ≡ LANES) × (length b ≡ LANES) }
     ensures len { length result ≡ LANES }
-    ensures each { (i : ℕ) → i < LANES → slice_index result i ≡ min (slice_index a i) (slice_index b i) }
+    ensures each { (i : ℕ) → i < LANES
+        → slice_index result i ≡ min (slice_index a i) (slice_index b i) }
 {
     a.simd_min(b)
 }
@@ -72,7 +74,8 @@ pub(crate) fn load_bytes(bytes: &[u8], at: usize) -> u16x16
 pub(crate) fn store(lanes: u16x16, at: usize, into: &mut [u16])
     requires { (at + LANES ≤ length into.old) × (length lanes ≡ LANES) }
     ensures inside { (i : ℕ) → i < LANES → slice_index into.new (at + i) ≡ slice_index lanes i }
-    ensures outside { (k : ℕ) → (k < at) ⊎ (at + LANES ≤ k) → slice_index into.new k ≡ slice_index into.old k }
+    ensures outside { (k : ℕ) → (k < at) ⊎ (at + LANES ≤ k)
+        → slice_index into.new k ≡ slice_index into.old k }
 {
     lanes.copy_to_slice(&mut into[at..]);
 }
@@ -81,9 +84,12 @@ pub(crate) fn store(lanes: u16x16, at: usize, into: &mut [u16])
 #[inline(always)]
 pub(crate) fn increase(lanes: u16x16, at: usize, sums: &mut [u16])
     requires inside { (at + LANES ≤ length sums.old) × (length lanes ≡ LANES) }
-    requires fits { (i : ℕ) → i < LANES → slice_index sums.old (at + i) + slice_index lanes i < 2 ^ 16 }
-    ensures inside { (i : ℕ) → i < LANES → slice_index sums.new (at + i) ≡ slice_index sums.old (at + i) + slice_index lanes i }
-    ensures outside { (k : ℕ) → (k < at) ⊎ (at + LANES ≤ k) → slice_index sums.new k ≡ slice_index sums.old k }
+    requires fits { (i : ℕ) → i < LANES
+        → slice_index sums.old (at + i) + slice_index lanes i < 2 ^ 16 }
+    ensures inside { (i : ℕ) → i < LANES
+        → slice_index sums.new (at + i) ≡ slice_index sums.old (at + i) + slice_index lanes i }
+    ensures outside { (k : ℕ) → (k < at) ⊎ (at + LANES ≤ k)
+        → slice_index sums.new k ≡ slice_index sums.old k }
 {
     let both = plus(load(sums, at), lanes);
     store(both, at, sums);

@@ -1,6 +1,6 @@
-//! Kernels over the indices of a pixel, over packed codes and over the values of a row. Each gives what
-//! its plain definition says, for every length: whole chunks of lanes first, then the rest one by one,
-//! or a plain loop where the compiler finds the lanes by itself. None takes memory.
+//! Kernels over the indices of a pixel, over packed codes and over the values of a row. Each gives
+//! what its plain definition says, for every length: whole chunks of lanes first, then the rest one
+//! by one, or a plain loop where the compiler finds the lanes by itself. None takes memory.
 #![tactic(auto)]
 
 mod codes;

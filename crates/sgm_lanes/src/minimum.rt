@@ -1,4 +1,5 @@
-ghost use Rattle.std.specs.Prelude.{◌≡◌, ℕ, ◌*◌, ◌/◌, ◌%◌, ◌<◌, ◌≤◌, length, slice_index, All, Contains};
+ghost use Rattle.std.specs.Prelude.{◌≡◌, ℕ, ◌*◌, ◌/◌, ◌%◌, ◌<◌, ◌≤◌, length, slice_index, All};
+ghost use Rattle.std.specs.Prelude.{Contains};
 
 use crate::lane::{LANES, lesser, load};
 use std::simd::prelude::*;
@@ -25,7 +26,8 @@ fn least_by_lane(v: &[u16]) -> u16x16
     requires { LANES ≤ length v.now }
     ensures len { length result ≡ LANES }
     ensures contained { (i : ℕ) → i < LANES → Contains v.now (slice_index result i) }
-    ensures least { (k : ℕ) → k < LANES * (length v.now / LANES) → slice_index result (k % LANES) ≤ slice_index v.now k }
+    ensures least { (k : ℕ) → k < LANES * (length v.now / LANES)
+        → slice_index result (k % LANES) ≤ slice_index v.now k }
 {
     let mut low = load(v, 0);
     for number in 1..v.len() / LANES {

@@ -1,6 +1,8 @@
 // One step of the recurrence of path values: whole chunks, then the rest index by index.
-ghost use Rattle.std.specs.Prelude.{◌≡◌, ℕ, ◌+◌, ◌-◌, ◌*◌, ◌/◌, ◌^◌, ◌<◌, ◌≤◌, ◌⊎◌, length, slice_index, EachIndex, All, Contains, IsTrue, nat_lt, if◌then◌else◌};
-ghost use Rattle.sgm_terms.specs.Step.{IsStepped};
+ghost use Rattle.std.specs.Prelude.{◌≡◌, ℕ, ◌+◌, ◌-◌, ◌*◌, ◌/◌, ◌^◌, ◌<◌, ◌≤◌, ◌⊎◌, length};
+ghost use Rattle.std.specs.Prelude.{slice_index, EachIndex, All, Contains, IsTrue, nat_lt};
+ghost use Rattle.std.specs.Prelude.{if◌then◌else◌};
+ghost use Rattle.sgm_energy.specs.Step.{IsStepped};
 ghost use Rattle.sgm_lanes.specs.Steps.{CanStep, StepsTo};
 
 use crate::lane::{
@@ -14,8 +16,8 @@ use std::simd::prelude::*;
 /// Stands for a neighbour that is not there: no step is carried from a value so great.
 const ABSENT: u16 = MAX_PATH_VALUE + MAX_PENALTY;
 
-/// What one step is made from: the values of the pixel before, of which `floor` is the least or less,
-/// the costs at the same indices, and the penalties.
+/// What one step is made from: the values of the pixel before, of which `floor` is the least or
+/// less, the costs at the same indices, and the penalties.
 #[derive(Clone, Copy)]
 struct Terms<'a> {
     prev: &'a [u16],
@@ -46,7 +48,8 @@ fn rights(prev: &[u16], at: usize) -> u16x16
     requires inside { at + LANES ≤ length prev.now }
     ensures len { length result ≡ LANES }
     ensures each { (i : ℕ) → i < LANES → slice_index result i
-        ≡ (if nat_lt (at + i + 1) (length prev.now) then slice_index prev.now (at + i + 1) else ABSENT) }
+        ≡ (if nat_lt (at + i + 1) (length prev.now) then slice_index prev.now (at + i + 1)
+        else ABSENT) }
 {
     if at + LANES < prev.len() {
         load(prev, at + 1)
@@ -55,10 +58,10 @@ fn rights(prev: &[u16], at: usize) -> u16x16
     }
 }
 
-/// The step's values at the indices from `at` on, where `left` and `right` are the neighbours of the
-/// values there.
+/// The step's values at the indices from `at` on, where `left` and `right` are the neighbours of
+/// the values there.
 #[inline(always)]
-#[tactic(auto, unfolding(sgm_terms::specs::Step::carried))]
+#[tactic(auto, unfolding(sgm_energy::specs::Step::carried))]
 fn chunk(terms: &Terms, at: usize, left: u16x16, right: u16x16) -> u16x16
     requires inside { at + LANES ≤ length terms.now.prev.now }
     requires left_len { length left ≡ LANES }
@@ -106,7 +109,8 @@ fn put<const ADD: bool>(lanes: u16x16, at: usize, into: &mut [u16], sums: &mut [
 fn step_chunks<const ADD: bool>(terms: &Terms, into: &mut [u16], sums: &mut [u16])
     requires same_length { length terms.now.prev.now ≡ length into.old }
     requires sums_length { IsTrue ADD → length sums.old ≡ length into.old }
-    requires room { IsTrue ADD → EachIndex sums.old (λ k. slice_index sums.old k + MAX_PATH_VALUE < 2 ^ 16) }
+    requires room { IsTrue ADD
+        → EachIndex sums.old (λ k. slice_index sums.old k + MAX_PATH_VALUE < 2 ^ 16) }
     ensures steps { let t = terms.now in (d : ℕ) → d < LANES * (length t.prev.now / LANES)
         → StepsTo t.prev.now t.floor t.cost.now t.p1 t.p2 d (slice_index into.new d) }
     ensures added { IsTrue ADD → (d : ℕ) → d < LANES * (length terms.now.prev.now / LANES)
@@ -135,7 +139,7 @@ fn step_chunks<const ADD: bool>(terms: &Terms, into: &mut [u16], sums: &mut [u16
 
 /// One step's value at the index `d`, which may be the first or the last.
 #[inline(always)]
-#[tactic(auto, unfolding(sgm_terms::specs::Step::carried))]
+#[tactic(auto, unfolding(sgm_energy::specs::Step::carried))]
 fn end_cell(terms: &Terms, d: usize) -> u16
     requires inside { d < length terms.now.prev.now }
     ensures { let t = terms.now in StepsTo t.prev.now t.floor t.cost.now t.p1 t.p2 d result }
@@ -153,7 +157,7 @@ fn end_cell(terms: &Terms, d: usize) -> u16
 
 /// One step's value at an index with another on each side.
 #[inline(always)]
-#[tactic(auto, unfolding(sgm_terms::specs::Step::carried))]
+#[tactic(auto, unfolding(sgm_energy::specs::Step::carried))]
 fn inner_cell(terms: &Terms, d: usize) -> u16
     requires after_first { 0 < d }
     requires before_last { d + 1 < length terms.now.prev.now }
@@ -185,17 +189,19 @@ fn step_rest(terms: &Terms, start: usize, into: &mut [u16])
     into[last] = end_cell(terms, last);
 }
 
-/// The step at all indices, and where `ADD` says so each value is added to the sum at its place while it
-/// is at hand.
+/// The step at all indices, and where `ADD` says so each value is added to the sum at its place
+/// while it is at hand.
 #[inline(always)]
 fn advance<const ADD: bool>(terms: &Terms, into: &mut [u16], sums: &mut [u16])
     requires same_length { length terms.now.prev.now ≡ length into.old }
     requires sums_length { IsTrue ADD → length sums.old ≡ length into.old }
-    requires room { IsTrue ADD → EachIndex sums.old (λ k. slice_index sums.old k + MAX_PATH_VALUE < 2 ^ 16) }
+    requires room { IsTrue ADD
+        → EachIndex sums.old (λ k. slice_index sums.old k + MAX_PATH_VALUE < 2 ^ 16) }
     ensures steps { let t = terms.now in EachIndex into.new
         (λ d. StepsTo t.prev.now t.floor t.cost.now t.p1 t.p2 d (slice_index into.new d)) }
     ensures added { IsTrue ADD
-        → EachIndex sums.new (λ k. slice_index sums.new k ≡ slice_index sums.old k + slice_index into.new k) }
+        → EachIndex sums.new (λ k. slice_index sums.new k
+        ≡ slice_index sums.old k + slice_index into.new k) }
 {
     step_chunks::<ADD>(terms, into, sums);
     let rest = LANES * (terms.prev.len() / LANES);
@@ -206,8 +212,8 @@ fn advance<const ADD: bool>(terms: &Terms, into: &mut [u16], sums: &mut [u16])
 }
 
 /// One step of the recurrence: writes, for each index d, `cost[d]` plus the least of `prev[d]`,
-/// `prev[d - 1] + p1`, `prev[d + 1] + p1` and `floor + p2`, less `floor`. Terms outside the slice are
-/// left out. The three slices have one length, and `floor` is the least of `prev`.
+/// `prev[d - 1] + p1`, `prev[d + 1] + p1` and `floor + p2`, less `floor`. Terms outside the slice
+/// are left out. The three slices have one length, and `floor` is the least of `prev`.
 #[inline(always)]
 pub fn step(prev: &[u16], floor: u16, cost: &[u8], p1: u16, p2: u16, into: &mut [u16])
     requires some { 0 < length into.old }
@@ -218,7 +224,9 @@ pub fn step(prev: &[u16], floor: u16, cost: &[u8], p1: u16, p2: u16, into: &mut 
     requires penalties { (p1 ≤ p2) × (p2 ≤ MAX_PENALTY) }
     requires values { All (λ x. x ≤ MAX_PATH_VALUE) prev.now }
     requires costs { All (λ x. x ≤ MAX_COST) cost.now }
-    ensures { EachIndex into.new (λ d. IsStepped (slice_index prev.now) (length prev.now) p1 p2 floor (slice_index cost.now d) d (slice_index into.new d)) }
+    ensures { EachIndex into.new
+        (λ d. IsStepped (slice_index prev.now) (length prev.now) p1 p2 floor
+        (slice_index cost.now d) d (slice_index into.new d)) }
 {
     let terms = Terms {
         prev,
@@ -230,8 +238,8 @@ pub fn step(prev: &[u16], floor: u16, cost: &[u8], p1: u16, p2: u16, into: &mut 
     advance::<false>(&terms, into, &mut []);
 }
 
-/// One step as [`step`] makes it, whose values are added to the sums at their places while they are at
-/// hand. All four slices have one length, and each sum has room for the greatest path value.
+/// One step as [`step`] makes it, whose values are added to the sums at their places while they are
+/// at hand. All four slices have one length, and each sum has room for the greatest path value.
 #[inline(always)]
 pub fn add_step(
     prev: &[u16],
@@ -252,8 +260,11 @@ pub fn add_step(
     requires values { All (λ x. x ≤ MAX_PATH_VALUE) prev.now }
     requires costs { All (λ x. x ≤ MAX_COST) cost.now }
     requires room { EachIndex sums.old (λ k. slice_index sums.old k + MAX_PATH_VALUE < 2 ^ 16) }
-    ensures steps { EachIndex into.new (λ d. IsStepped (slice_index prev.now) (length prev.now) p1 p2 floor (slice_index cost.now d) d (slice_index into.new d)) }
-    ensures added { EachIndex sums.new (λ k. slice_index sums.new k ≡ slice_index sums.old k + slice_index into.new k) }
+    ensures steps { EachIndex into.new
+        (λ d. IsStepped (slice_index prev.now) (length prev.now) p1 p2 floor
+        (slice_index cost.now d) d (slice_index into.new d)) }
+    ensures added { EachIndex sums.new (λ k. slice_index sums.new k
+        ≡ slice_index sums.old k + slice_index into.new k) }
 {
     let terms = Terms {
         prev,

@@ -1,4 +1,5 @@
-ghost use Rattle.std.specs.Prelude.{◌≡◌, ℕ, ◌+◌, ◌*◌, ◌/◌, ◌^◌, ◌<◌, ◌≤◌, length, slice_index, EachIndex};
+ghost use Rattle.std.specs.Prelude.{◌≡◌, ℕ, ◌+◌, ◌*◌, ◌/◌, ◌^◌, ◌<◌, ◌≤◌, length, slice_index};
+ghost use Rattle.std.specs.Prelude.{EachIndex};
 
 use crate::lane::{LANES, increase, load};
 
@@ -6,9 +7,11 @@ use crate::lane::{LANES, increase, load};
 #[inline(always)]
 pub(crate) fn add_rest(sums: &mut [u16], v: &[u16], start: usize)
     requires same_length { length sums.old ≡ length v.now }
-    requires fits { (k : ℕ) → start ≤ k → k < length sums.old → slice_index sums.old k + slice_index v.now k < 2 ^ 16 }
+    requires fits { (k : ℕ) → start ≤ k → k < length sums.old
+        → slice_index sums.old k + slice_index v.now k < 2 ^ 16 }
     ensures before { (k : ℕ) → k < start → slice_index sums.new k ≡ slice_index sums.old k }
-    ensures each { (k : ℕ) → start ≤ k → k < length sums.old → slice_index sums.new k ≡ slice_index sums.old k + slice_index v.now k }
+    ensures each { (k : ℕ) → start ≤ k → k < length sums.old
+        → slice_index sums.new k ≡ slice_index sums.old k + slice_index v.now k }
 {
     for i in start..sums.len() {
         sums[i] += v[i];
@@ -19,9 +22,12 @@ pub(crate) fn add_rest(sums: &mut [u16], v: &[u16], start: usize)
 #[inline(always)]
 fn add_chunks(sums: &mut [u16], v: &[u16])
     requires same_length { length sums.old ≡ length v.now }
-    requires fits { EachIndex sums.old (λ k. slice_index sums.old k + slice_index v.now k < 2 ^ 16) }
-    ensures each { (k : ℕ) → k < LANES * (length sums.old / LANES) → slice_index sums.new k ≡ slice_index sums.old k + slice_index v.now k }
-    ensures rest { (k : ℕ) → LANES * (length sums.old / LANES) ≤ k → slice_index sums.new k ≡ slice_index sums.old k }
+    requires fits { EachIndex sums.old (λ k. slice_index sums.old k + slice_index v.now k
+        < 2 ^ 16) }
+    ensures each { (k : ℕ) → k < LANES * (length sums.old / LANES)
+        → slice_index sums.new k ≡ slice_index sums.old k + slice_index v.now k }
+    ensures rest { (k : ℕ) → LANES * (length sums.old / LANES) ≤ k
+        → slice_index sums.new k ≡ slice_index sums.old k }
 {
     for number in 0..sums.len() / LANES {
         let at = LANES * number;
@@ -34,7 +40,8 @@ fn add_chunks(sums: &mut [u16], v: &[u16])
 pub fn add(sum: &mut [u16], v: &[u16])
     requires same_length { length sum.old ≡ length v.now }
     requires fits { EachIndex sum.old (λ k. slice_index sum.old k + slice_index v.now k < 2 ^ 16) }
-    ensures { EachIndex sum.new (λ k. slice_index sum.new k ≡ slice_index sum.old k + slice_index v.now k) }
+    ensures { EachIndex sum.new (λ k. slice_index sum.new k
+        ≡ slice_index sum.old k + slice_index v.now k) }
 {
     add_chunks(sum, v);
     add_rest(sum, v, LANES * (sum.len() / LANES));

@@ -1,5 +1,6 @@
 -- Entries that would overwrite one another's files.
-use Rattle.std.specs.Prelude.{ℕ, List, [], ◌∷◌, ◌++◌, Bool, false, ◌||◌, codes, find, length, take, Option, slice_get}
+use Rattle.std.specs.Prelude.{ℕ, List, [], ◌∷◌, ◌++◌, Bool, false, ◌||◌, codes, find, length, take}
+use Rattle.std.specs.Prelude.{Option, slice_get}
 use Rattle.std.specs.List.{list_any, range_with_len}
 use Rattle.std.specs.Option.{option_map_or}
 use Rattle.std.specs.Str.{bytes_eq}
@@ -20,7 +21,8 @@ is_output entries name = list_any (λ entry. is_output_of entry name) entries
 -- an input of the entry is an output of one of the entries
 abbrev pub overwrites : List EntryNames → EntryNames → Bool
 overwrites entries entry =
-    is_output entries entry.left || (is_output entries entry.right || option_map_or (is_output entries) entry.calib false)
+    is_output entries entry.left
+    || (is_output entries entry.right || option_map_or (is_output entries) entry.calib false)
 
 -- OUT is that of one of the first so many entries
 abbrev pub repeats : List EntryNames → ℕ → List ℕ → Bool
@@ -28,10 +30,12 @@ repeats entries before out = list_any (λ earlier. bytes_eq out earlier.out) (ta
 
 -- the entry at that place among the entries of the list of this name clashes
 abbrev pub clashes_at : List ℕ → List EntryNames → ℕ → EntryNames → Bool
-clashes_at list entries place entry = repeats entries place entry.out || (overwrites entries entry || is_output_of entry list)
+clashes_at list entries place entry = repeats entries place entry.out
+    || (overwrites entries entry || is_output_of entry list)
 
 abbrev pub clashes : List ℕ → List EntryNames → ℕ → Bool
-clashes list entries place = option_map_or (clashes_at list entries place) (slice_get entries place) false
+clashes list entries place = option_map_or (clashes_at list entries place)
+    (slice_get entries place) false
 
 -- the first one that does, counted from 0
 abbrev pub first_clash : List ℕ → List EntryNames → Option ℕ

@@ -4,7 +4,8 @@ use Rattle.std.specs.List.{filter_map}
 use Rattle.std.specs.Str.{bytes_eq}
 use Rattle.sgm_text.specs.Words.{lines_of, words_of}
 
--- the names of the images, of the calibration, none for the plain settings, and what the names of the outputs begin with
+-- the names of the images, of the calibration, none for the plain settings, and what the names of
+-- the outputs begin with
 pub record EntryNames : Type 0 where
   pub left : List ℕ
   pub right : List ℕ
@@ -16,7 +17,12 @@ abbrev pub calib_named : List ℕ → Option (List ℕ)
 calib_named word = if bytes_eq word (codes "-") then None else Some word
 
 abbrev pub entry_of : List ℕ → List ℕ → List ℕ → List ℕ → EntryNames
-entry_of left right calib out = record { left = left; right = right; calib = calib_named calib; out = out }
+entry_of left right calib out = record {
+  left = left;
+  right = right;
+  calib = calib_named calib;
+  out = out;
+}
 
 -- the entry that words are, if they are four
 abbrev pub entry_in : List (List ℕ) → Option EntryNames

@@ -1,12 +1,14 @@
 -- The first fault of a list.
-use Rattle.std.specs.Prelude.{◌≡◌, ⊤, ℕ, List, Bool, ◌==◌, ◌||◌, not, nat_lt, length, Option, None, Some, if◌then◌else◌}
+use Rattle.std.specs.Prelude.{◌≡◌, ⊤, ℕ, List, Bool, ◌==◌, ◌||◌, not, nat_lt, length, Option, None}
+use Rattle.std.specs.Prelude.{Some, if◌then◌else◌}
 use Rattle.std.specs.List.{position_from}
 use Rattle.std.specs.Option.{option_map, option_or}
 use Rattle.std.specs.Str.{is_utf8}
 use Rattle.sgm_list.specs.declared.fault.ListError.{ListError}
 use Rattle.sgm_list.specs.declared.fault.ListError.TheVariants.{Fault, NoMemory}
 use Rattle.sgm_list.specs.declared.fault.ListFault.{ListFault}
-use Rattle.sgm_list.specs.declared.fault.ListFault.TheVariants.{TooLong, NotText, Line, TooMany, Clash}
+use Rattle.sgm_list.specs.declared.fault.ListFault.TheVariants.{TooLong, NotText, Line, TooMany}
+use Rattle.sgm_list.specs.declared.fault.ListFault.TheVariants.{Clash}
 use Rattle.sgm_base.specs.declared.limits.TheConstants.{MAX_LIST_BYTES}
 use Rattle.sgm_list.specs.declared.limits.TheConstants.{MAX_ENTRIES}
 use Rattle.sgm_text.specs.Words.{lines_of, words_of}
@@ -28,7 +30,8 @@ abbrev pub line_fault : List ℕ → Option ListFault
 line_fault bytes = option_map Line (position_from (is_faulty 4) 1 (lines_of bytes))
 
 abbrev pub count_fault : List ℕ → Option ListFault
-count_fault bytes = let count = length (entries_of bytes) in if nat_lt MAX_ENTRIES count then Some (TooMany count) else None
+count_fault bytes = let count = length (entries_of bytes) in
+    if nat_lt MAX_ENTRIES count then Some (TooMany count) else None
 
 abbrev pub clash_fault : List ℕ → List ℕ → Option ListFault
 clash_fault list bytes = option_map Clash (first_clash list (entries_of bytes))

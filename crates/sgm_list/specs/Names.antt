@@ -1,5 +1,7 @@
 -- A list of names, one on a line, for a merge: its names, or its first fault.
-use Rattle.std.specs.Prelude.{◌≡◌, ⊤, ℕ, List, [], ◌∷◌, ◌++◌, Bool, ◌==◌, ◌||◌, nat_lt, length, map, codes, filter_map, Option, None, Some, Result, Ok, Err, Vec, String, string_bytes, if◌then◌else◌}
+use Rattle.std.specs.Prelude.{◌≡◌, ⊤, ℕ, List, [], ◌∷◌, ◌++◌, Bool, ◌==◌, ◌||◌, nat_lt, length, map}
+use Rattle.std.specs.Prelude.{codes, filter_map, Option, None, Some, Result, Ok, Err, Vec, String}
+use Rattle.std.specs.Prelude.{string_bytes, if◌then◌else◌}
 use Rattle.std.specs.List.{position_from}
 use Rattle.std.specs.Option.{option_map, option_or}
 use Rattle.std.specs.Str.{bytes_eq, is_utf8}
@@ -10,7 +12,8 @@ use Rattle.sgm_list.specs.declared.limits.TheConstants.{MAX_ENTRIES}
 use Rattle.sgm_list.specs.declared.names.NamesError.{NamesError}
 use Rattle.sgm_list.specs.declared.names.NamesError.TheVariants.{Fault, NoMemory}
 use Rattle.sgm_list.specs.declared.names.NamesFault.{NamesFault}
-use Rattle.sgm_list.specs.declared.names.NamesFault.TheVariants.{NotText, Line, NoEntries, TooMany, Output}
+use Rattle.sgm_list.specs.declared.names.NamesFault.TheVariants.{NotText, Line, NoEntries, TooMany}
+use Rattle.sgm_list.specs.declared.names.NamesFault.TheVariants.{Output}
 
 -- the name that words are, if they are one
 abbrev pub name_in : List (List ℕ) → Option (List ℕ)
@@ -30,7 +33,8 @@ line_fault bytes = option_map Line (position_from (is_faulty 1) 1 (lines_of byte
 
 -- so many names are none, or too many
 abbrev pub fault_of_count : ℕ → Option NamesFault
-fault_of_count count = if count == 0 then Some NoEntries else if nat_lt MAX_ENTRIES count then Some TooMany else None
+fault_of_count count = if count == 0 then Some NoEntries else if nat_lt MAX_ENTRIES count
+    then Some TooMany else None
 
 abbrev pub count_fault : List ℕ → Option NamesFault
 count_fault bytes = fault_of_count (length (names_in bytes))
@@ -60,7 +64,8 @@ abbrev pub names_reading : List ℕ → List ℕ → Result (List (List ℕ)) Na
 names_reading out bytes = unless_fault (names_fault out bytes) (names_in bytes)
 
 -- what a reader answers that gives this reading, unless memory ran out
-abbrev pub Gives : Result (List (List ℕ)) NamesFault → Result (Vec (String Global) Global) NamesError → Type 0
+abbrev pub Gives : Result (List (List ℕ)) NamesFault
+    → Result (Vec (String Global) Global) NamesError → Type 0
 Gives reading (Ok names) = reading ≡ Ok (map string_bytes names.items)
 Gives reading (Err (Fault fault)) = reading ≡ Err fault
 Gives reading (Err NoMemory) = ⊤

@@ -16,4 +16,5 @@ size_left (Some rest) = suc (length rest.now)
 -- a text finds the first entry of which it is OUT
 abbrev pub AreFirsts : BTreeMap (Bor (List ℕ)) ℕ → List EntryNames → Type 0
 AreFirsts firsts entries = (out : List ℕ)
-    → get_by (λ k. slice_cmp nat_cmp out k.now) firsts ≡ position_from (λ entry. bytes_eq out entry.out) 0 entries
+    → get_by (λ k. slice_cmp nat_cmp out k.now) firsts
+    ≡ position_from (λ entry. bytes_eq out entry.out) 0 entries

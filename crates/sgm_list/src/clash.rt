@@ -2,7 +2,8 @@
 ghost use Rattle.std.specs.Prelude.{◌≡◌, ◌<◌, ◌++◌, length, IfOk};
 ghost use Rattle.std.specs.List.{list_any};
 ghost use Rattle.std.specs.Str.{bytes_eq};
-ghost use Rattle.sgm_list.specs.Clashes.{clashes, first_clash, is_output, is_output_of, overwrites, repeats};
+ghost use Rattle.sgm_list.specs.Clashes.{clashes, first_clash, is_output, is_output_of, overwrites};
+ghost use Rattle.sgm_list.specs.Clashes.{repeats};
 ghost use Rattle.sgm_list.specs.Reading.{AreFirsts};
 
 use crate::Entry;
@@ -43,7 +44,8 @@ impl<'a> Outs<'a> {
 
     /// Whether a name is the OUT of an entry and then this ending.
     fn is_ended(&self, name: &str, ending: &str) -> bool
-        ensures { result ≡ list_any (λ entry. bytes_eq name.now (entry.out ++ ending.now)) self.now.entries.now }
+        ensures { result
+            ≡ list_any (λ entry. bytes_eq name.now (entry.out ++ ending.now)) self.now.entries.now }
     {
         match name.strip_suffix(ending) {
             Some(out) => self.firsts.contains_key(out),

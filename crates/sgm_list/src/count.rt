@@ -1,5 +1,6 @@
 //! Counting the entries, before memory is taken for them.
-ghost use Rattle.std.specs.Prelude.{◌≡◌, ◌≤◌, ◌<◌, ◌+◌, ◌==◌, length, count_by, None, Some, IfOk, IfErr};
+ghost use Rattle.std.specs.Prelude.{◌≡◌, ◌≤◌, ◌<◌, ◌+◌, ◌==◌, length, count_by, None, Some, IfOk};
+ghost use Rattle.std.specs.Prelude.{IfErr};
 ghost use Rattle.std.specs.List.{position_from};
 ghost use Rattle.sgm_text.specs.Words.{lines_of, words_of};
 ghost use Rattle.sgm_list.specs.Faults.{is_faulty};

@@ -14,8 +14,8 @@ pub enum ListFault {
     Line { number: usize },
     /// More entries than [`crate::MAX_ENTRIES`].
     TooMany { entries: usize },
-    /// The first entry whose OUT is that of an earlier one, or one of whose inputs is an output of an
-    /// entry, or one of whose outputs is the list itself. Entries count from 0.
+    /// The first entry whose OUT is that of an earlier one, or one of whose inputs is an output of
+    /// an entry, or one of whose outputs is the list itself. Entries count from 0.
     Clash { entry: usize },
 }
 

@@ -1,4 +1,5 @@
-//! The list of a series of pairs, and that of the grids of a merge: the entries, or the first fault.
+//! The list of a series of pairs, and that of the grids of a merge: the entries, or the first
+//! fault.
 #![tactic(auto)]
 
 mod clash;

@@ -1,5 +1,6 @@
 //! Reading a list of names, one on a line.
-ghost use Rattle.std.specs.Prelude.{◌≡◌, ◌≤◌, ◌||◌, None, Some, map, length, string_bytes, IfOk, MatchOption};
+ghost use Rattle.std.specs.Prelude.{◌≡◌, ◌≤◌, ◌||◌, None, Some, map, length, string_bytes, IfOk};
+ghost use Rattle.std.specs.Prelude.{MatchOption};
 ghost use Rattle.std.specs.List.{position_from};
 ghost use Rattle.std.specs.Str.{bytes_eq};
 ghost use Rattle.sgm_list.specs.Names.{Gives, fault_of_count, is_written, name_in, names_in};
@@ -44,12 +45,12 @@ impl From<AllocError> for NamesError {
     }
 }
 
-/// The names of a list, in order, or its first fault. Lines end at LF or at the end of the text, and
-/// words are the longest runs of bytes other than space, TAB and CR. A line without words is passed
-/// over; every other has one, a name. No name is that of a file that a merge with this OUT writes,
-/// OUT.asc or OUT.csv; a name may stand twice. `out` is OUT without an ending. How long the list is
-/// isn't judged here. Memory is taken for the names alone, once there are known to be at most
-/// [`MAX_ENTRIES`].
+/// The names of a list, in order, or its first fault. Lines end at LF or at the end of the text,
+/// and words are the longest runs of bytes other than space, TAB and CR. A line without words is
+/// passed over; every other has one, a name. No name is that of a file that a merge with this OUT
+/// writes, OUT.asc or OUT.csv; a name may stand twice. `out` is OUT without an ending. How long the
+/// list is isn't judged here. Memory is taken for the names alone, once there are known to be at
+/// most [`MAX_ENTRIES`].
 pub fn read_names(alloc: Global, bytes: &[u8], out: &str) -> Result<Vec<String>, NamesError>
     ensures names { Gives (names_reading out.now bytes.now) result }
     ensures few { IfOk result (λ names. length names.items ≤ MAX_ENTRIES) }

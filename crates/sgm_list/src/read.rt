@@ -11,11 +11,12 @@ use sgm_base::MAX_LIST_BYTES;
 use sgm_text::{split_line, split_word};
 use std::alloc::{AllocError, Global};
 
-/// The entries of a list of at most [`MAX_LIST_BYTES`] bytes, in order, or its first fault, which is never
-/// `TooLong`. Lines end at LF or at the end of the text, and words are the longest runs of bytes other
-/// than space, TAB and CR. A line without words is passed over; every other has four, LEFT RIGHT CALIB
-/// OUT, where a CALIB of `-` is none. `list` is the name of the list itself. Memory is taken for the
-/// entries alone, once there are known to be at most [`MAX_ENTRIES`], and to find those that clash.
+/// The entries of a list of at most [`MAX_LIST_BYTES`] bytes, in order, or its first fault, which
+/// is never `TooLong`. Lines end at LF or at the end of the text, and words are the longest runs of
+/// bytes other than space, TAB and CR. A line without words is passed over; every other has four,
+/// LEFT RIGHT CALIB OUT, where a CALIB of `-` is none. `list` is the name of the list itself.
+/// Memory is taken for the entries alone, once there are known to be at most [`MAX_ENTRIES`], and
+/// to find those that clash.
 #[tactic(auto, unfolding(crate::specs::Faults::list_fault))]
 pub fn read_list(alloc: Global, bytes: &[u8], list: &str) -> Result<Vec<Entry>, ListError>
     requires { length bytes.now ≤ MAX_LIST_BYTES }
@@ -68,7 +69,8 @@ struct FourWords<'a> {
 /// The words of a line, if there are four.
 fn four_words(line: &str) -> Option<FourWords<'_>>
     ensures { MatchOption result (entry_in (words_of line.now) ≡ None) (λ w.
-        entry_in (words_of line.now) ≡ Some (entry_of w.left.now w.right.now w.calib.now w.out.now)) }
+        entry_in (words_of line.now)
+        ≡ Some (entry_of w.left.now w.right.now w.calib.now w.out.now)) }
 {
     let (left, rest) = split_word(line)?;
     let (right, rest) = split_word(rest)?;
@@ -88,7 +90,8 @@ fn four_words(line: &str) -> Option<FourWords<'_>>
 /// The entry of four words.
 fn make_entry(alloc: Global, words: FourWords<'_>) -> Result<Entry, AllocError>
     ensures { IfOk result (λ entry.
-        entry ≡ entry_of words.entry.left.now words.entry.right.now words.entry.calib.now words.entry.out.now) }
+        entry ≡ entry_of words.entry.left.now words.entry.right.now words.entry.calib.now
+        words.entry.out.now) }
 {
     let calib = if words.calib == "-" {
         None

@@ -1,5 +1,6 @@
 -- The columns and the rows that two grids share. No public clause cites these words.
-use Rattle.std.specs.Prelude.{ℕ, ◌+◌, ◌-◌, ◌≤◌, ◌&&◌, nat_le, nat_lt, ℤ, List, Option, Some, None, slice_index_or, if◌then◌else◌}
+use Rattle.std.specs.Prelude.{ℕ, ◌+◌, ◌-◌, ◌≤◌, ◌&&◌, nat_le, nat_lt, ℤ, List, Option, Some, None}
+use Rattle.std.specs.Prelude.{slice_index_or, if◌then◌else◌}
 use Rattle.sgm_merge.specs.declared.shared.Shared.{Shared}
 
 -- the line of an entry that is that line of the grid, or none

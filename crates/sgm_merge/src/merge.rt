@@ -1,6 +1,8 @@
 //! Merging grids.
 
-ghost use Rattle.std.specs.Prelude.{◌≡◌, ◌+◌, ◌*◌, ◌≤◌, ◌<◌, ◌==◌, ◌&&◌, ◌^◌, ◌+ℤ◌, ◌*ℤ◌, ℕ, All, IfOk, None, Some, pos, neg_ℤ, length, slice_index_or, true, if◌then◌else◌};
+ghost use Rattle.std.specs.Prelude.{◌≡◌, ◌+◌, ◌*◌, ◌≤◌, ◌<◌, ◌==◌, ◌&&◌, ◌^◌, ◌+ℤ◌, ◌*ℤ◌, ℕ, All};
+ghost use Rattle.std.specs.Prelude.{IfOk, None, Some, pos, neg_ℤ, length, slice_index_or, true};
+ghost use Rattle.std.specs.Prelude.{if◌then◌else◌};
 ghost use Rattle.std.specs.Option.{ForSome};
 ghost use Rattle.sgm_base.specs.Ranges.{IsFromTo, Within};
 ghost use Rattle.sgm_base.specs.declared.limits.TheConstants.{MAX_GRID_LINES};

@@ -1,7 +1,8 @@
 -- The number that an outcome ends the program with.
 use Rattle.std.specs.Prelude.{ℕ}
 use Rattle.sgm_outcome.specs.declared.outcome.Outcome.{Outcome}
-use Rattle.sgm_outcome.specs.declared.outcome.Outcome.TheVariants.{Done, Usage, Refused, ReadFault, WriteFault, NoMemory}
+use Rattle.sgm_outcome.specs.declared.outcome.Outcome.TheVariants.{Done, Usage, Refused, ReadFault}
+use Rattle.sgm_outcome.specs.declared.outcome.Outcome.TheVariants.{WriteFault, NoMemory}
 
 abbrev pub status_of : Outcome → ℕ
 status_of Done = 0

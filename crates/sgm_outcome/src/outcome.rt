@@ -25,7 +25,8 @@ pub enum Refusal {
     NotInside { x: u32, y: u32, d: u32 },
     /// The bytes of this input are no grid's text.
     Asc(Input, AscFault),
-    /// The word `at` of the two grids' heads, counted from 0, is the first number in which they differ.
+    /// The word `at` of the two grids' heads, counted from 0, is the first number in which they
+    /// differ.
     GridsDiffer { at: usize, earlier: i64, later: i64 },
     /// The list of a merge has this fault.
     List(NamesFault),

@@ -2,7 +2,8 @@
 ghost use Rattle.std.specs.Prelude.{◌≡◌, ◌≤◌, ◌+◌, ◌++◌, length, codes, decimal};
 ghost use Rattle.sgm_calib.specs.Paths.{path_of};
 ghost use Rattle.sgm_rectify.specs.declared.warp.WarpFault.TheVariants.{MeshSize};
-ghost use Rattle.sgm_outcome.specs.Lines.{side_word, image_line, pgm_line, calib_line, warp_line, sizes_line};
+ghost use Rattle.sgm_outcome.specs.Lines.{side_word, image_line, pgm_line, calib_line, warp_line};
+ghost use Rattle.sgm_outcome.specs.Lines.{sizes_line};
 ghost use Rattle.sgm_outcome.specs.Lines.{input_line, asc_line, list_line, refusal_line};
 ghost use Rattle.sgm_words.specs.Files.{input_name};
 
@@ -141,7 +142,8 @@ fn sizes_line(left: Size, right: Size) -> Line
 }
 
 fn volume_line(cells: u64) -> Line
-    ensures { result ≡ codes "sgm: volume of " ++ decimal cells ++ codes " cells is above " ++ decimal MAX_VOLUME ++ codes "\n" }
+    ensures { result ≡ codes "sgm: volume of " ++ decimal cells ++ codes " cells is above "
+        ++ decimal MAX_VOLUME ++ codes "\n" }
 {
     Line::new()
         .text("sgm: volume of ")
@@ -214,7 +216,8 @@ fn asc_line(input: Input, fault: AscFault) -> Line
 }
 
 fn inside_line(x: u32, y: u32, d: u32) -> Line
-    ensures { result ≡ codes "sgm: no pixel " ++ decimal x ++ codes " " ++ decimal y ++ codes " with index " ++ decimal d ++ codes "\n" }
+    ensures { result ≡ codes "sgm: no pixel " ++ decimal x ++ codes " " ++ decimal y
+        ++ codes " with index " ++ decimal d ++ codes "\n" }
 {
     Line::new()
         .text("sgm: no pixel ")

@@ -60,17 +60,19 @@ fn outcome_line(outcome: Outcome) -> Line
     }
 }
 
-/// Writes the line of an outcome to the end of `err`; nothing for Done. On an error the sink has failed, and has
-/// taken the beginning of the line at most. It takes no memory.
+/// Writes the line of an outcome to the end of `err`; nothing for Done. On an error the sink has
+/// failed, and has taken the beginning of the line at most. It takes no memory.
 pub fn write_line<E: Sink>(outcome: &Outcome, err: &mut E) -> Result<(), SinkError>
-    ensures written { IsTrue E.tells → WritesWhole (line_of outcome.now) result (E.written err.old) (E.written err.new) }
+    ensures written { IsTrue E.tells
+        → WritesWhole (line_of outcome.now) result (E.written err.old) (E.written err.new) }
     ensures faults { SinkFaults result (E.faults err.old) (E.faults err.new) }
 {
     write_whole(err, outcome_line(*outcome).as_bytes())
 }
 
-/// Writes the line of an outcome to the end of `err`; nothing for Done. Where the sink fails, it has taken the
-/// beginning of the line at most, and the caller goes on: the sink's count of faults alone shows it. It takes no memory.
+/// Writes the line of an outcome to the end of `err`; nothing for Done. Where the sink fails, it
+/// has taken the beginning of the line at most, and the caller goes on: the sink's count of faults
+/// alone shows it. It takes no memory.
 pub fn write_fault<E: Sink>(outcome: &Outcome, err: &mut E)
     ensures line { IsTrue E.tells → TakesLine (line_of outcome.now)
         (E.faults err.old) (E.faults err.new) (E.written err.old) (E.written err.new) }

@@ -5,7 +5,7 @@ use Rattle.std.proofs.lemmas.Bool.Decides.{nat_tests}
 use Rattle.std.proofs.lemmas.List.{append_assoc, get_or-append-add, get_or_append_left, get_or-take, get_or-drop}
 use Rattle.std.proofs.lemmas.List.FromFn.{fill_by_all}
 use Rattle.std.proofs.lemmas.List.Elements.{All-contains}
-use Rattle.sgm_terms.specs.Step.{carried, IsStepped}
+use Rattle.sgm_energy.specs.Step.{carried, IsStepped}
 use Rattle.sgm_energy.specs.Energies.{least, below}
 use Rattle.sgm_energy.proofs.Leasts.{least_is}
 use Rattle.sgm_energy.proofs.Steps.{carried_le_far}

@@ -1,6 +1,8 @@
 -- What rows of costs and of path values say of a problem.
-use Rattle.std.specs.Prelude.{◌≡◌, ℕ, ◌+◌, ◌-◌, ◌*◌, ◌/◌, ◌<◌, ◌≤◌, ◌⊎◌, Bool, true, false, List, length, map, slice_index, slice_index_or, Option, Some, None, MatchOption, if◌then◌else◌}
-use Rattle.sgm_terms.specs.Step.{IsStepped}
+use Rattle.std.specs.Prelude.{◌≡◌, ℕ, ◌+◌, ◌-◌, ◌*◌, ◌/◌, ◌<◌, ◌≤◌, ◌⊎◌, Bool, true, false, List}
+use Rattle.std.specs.Prelude.{length, map, slice_index, slice_index_or, Option, Some, None}
+use Rattle.std.specs.Prelude.{MatchOption, if◌then◌else◌}
+use Rattle.sgm_energy.specs.Step.{IsStepped}
 use Rattle.sgm_energy.specs.declared.dir.Dir.{Dir}
 use Rattle.sgm_energy.specs.declared.dir.Dir.TheVariants.{Left, DownRight, UpRight}
 use Rattle.sgm_energy.specs.Dirs.{is_level}
@@ -10,23 +12,28 @@ use Rattle.sgm_energy.specs.Energies.{least, below, path_value}
 use Rattle.sgm_energy.specs.Rows.{HoldsRow}
 use Rattle.sgm_path.specs.declared.row_pass.RowPass.{RowPass}
 
--- value is what the recurrence gives at the index d, from the values prev of the pixel before and d's cost
+-- value is what the recurrence gives at the index d, from the values prev of the pixel before and
+-- d's cost
 abbrev pub Follows : (ℕ → ℕ) → ℕ → ℕ → ℕ → ℕ → ℕ → ℕ → Type 0
-Follows prev count p1 far cost d value = IsStepped prev count p1 far (least (map prev (below count))) cost d value
+Follows prev count p1 far cost d value =
+    IsStepped prev count p1 far (least (map prev (below count))) cost d value
 
--- value is that of the column x and the index d in a row that comes after the row before in this direction:
--- the cost alone, where the direction comes from beyond the side of the image. far z x is the penalty of a
--- change by more than one from the column z of the row before to the column x
+-- value is that of the column x and the index d in a row that comes after the row before in this
+-- direction: the cost alone, where the direction comes from beyond the side of the image. far
+-- z x is the penalty of a change by more than one from the column z of the row before to the column
+-- x
 abbrev pub StepsAt : Dir → ℕ → ℕ → ℕ → (ℕ → ℕ → ℕ) → List ℕ → List ℕ → ℕ → ℕ → ℕ → Type 0
 StepsAt dir width count p1 far before costs x d value =
     MatchOption (column_before dir width x) (value ≡ slice_index costs (x * count + d))
-    (λ z. Follows (λ a. slice_index before (z * count + a)) count p1 (far z x) (slice_index costs (x * count + d)) d value)
+    (λ z. Follows (λ a. slice_index before (z * count + a)) count p1 (far z x)
+    (slice_index costs (x * count + d)) d value)
 
 -- each entry of a row is what the recurrence gives from the row before and the costs
 abbrev pub RowFollows : Dir → ℕ → ℕ → (ℕ → ℕ → ℕ) → List ℕ → List ℕ → List ℕ → Type 0
 RowFollows dir count p1 far before costs row =
     let width = length row / count in
-    (x d : ℕ) → x < width → d < count → StepsAt dir width count p1 far before costs x d (slice_index row (x * count + d))
+    (x d : ℕ) → x < width → d < count
+    → StepsAt dir width count p1 far before costs x d (slice_index row (x * count + d))
 
 -- a call with this p1 penalty, this count and these costs is about the row y of the problem
 pub record Suits (g : Problem) (y p1 count : ℕ) (costs : List ℕ) : Type 0 where
@@ -35,18 +42,21 @@ pub record Suits (g : Problem) (y p1 count : ℕ) (costs : List ℕ) : Type 0 wh
   pub inside : y < g.height
   pub holds : HoldsRow g y g.cost costs
 
--- the penalty of a change by more than one from the column z to the column x of a row, where the row has this guide and
--- the row that the direction comes from has guide_before
+-- the penalty of a change by more than one from the column z to the column x of a row, where the
+-- row has this guide and the row that the direction comes from has guide_before
 abbrev pub far_between : Penalties → List (Option ℕ) → List (Option ℕ) → ℕ → ℕ → ℕ
-far_between penalties guide guide_before z x = far_of penalties (slice_index_or guide x None) (slice_index_or guide_before z None)
+far_between penalties guide guide_before z x = far_of penalties (slice_index_or guide x None)
+    (slice_index_or guide_before z None)
 
 -- far z x is the problem's penalty from the column z of the row before to the column x of the row y
 pub record HasFar (g : Problem) (before y : ℕ) (far : ℕ → ℕ → ℕ) : Type 0 where
-  pub each : (z x : ℕ) → z < g.width → x < g.width → g.far (pixel_at z before) (pixel_at x y) ≡ far z x
+  pub each : (z x : ℕ) → z < g.width → x < g.width
+      → g.far (pixel_at z before) (pixel_at x y) ≡ far z x
 
--- before holds the path values of the row from which the direction comes to the row y, and far is the
--- problem's penalty between the two
-pub record HoldsRowBefore (g : Problem) (dir : Dir) (y : ℕ) (far : ℕ → ℕ → ℕ) (before : List ℕ) : Type 0 where
+-- before holds the path values of the row from which the direction comes to the row y, and far is
+-- the problem's penalty between the two
+pub record HoldsRowBefore (g : Problem) (dir : Dir) (y : ℕ) (far : ℕ → ℕ
+    → ℕ) (before : List ℕ) : Type 0 where
   pub row : ℕ
   pub comes_from : row_before dir g.height y ≡ Some row
   pub has_far : HasFar g row y far
@@ -71,7 +81,8 @@ terms_of row = record {
   count = row.count;
 }
 
--- the penalty of a change by more than one from the column z of the row before to the column x of the row
+-- the penalty of a change by more than one from the column z of the row before to the column x of
+-- the row
 abbrev pub far_in : RowTerms → ℕ → ℕ → ℕ
 far_in t = far_between t.penalties t.guide t.guide_before
 
@@ -80,8 +91,8 @@ abbrev pub EntryFollows : RowTerms → List ℕ → ℕ → ℕ → ℕ → Type
 EntryFollows t before x d value =
     StepsAt t.dir (length t.guide) t.count t.penalties.p1 (far_in t) before t.costs x d value
 
--- Whether a row is gone through from its right end, so that it can take the place of the row that it comes from: each
--- value is written once no other needs the one that it replaces.
+-- Whether a row is gone through from its right end, so that it can take the place of the row that
+-- it comes from: each value is written once no other needs the one that it replaces.
 abbrev pub starts_right : Dir → Bool
 starts_right Left = true
 starts_right DownRight = true

@@ -9,8 +9,8 @@ use sgm_base::{MAX_COST, MAX_PATH_VALUE, MAX_PENALTY};
 use sgm_energy::Pen;
 use sgm_lanes::{add, add_step, least, step};
 
-/// The penalty of a change by more than one between two pixels with these grey values. `ADAPTIVE` is
-/// whether the pen is: with a fixed one nothing is left of it but the pen's penalty.
+/// The penalty of a change by more than one between two pixels with these grey values. `ADAPTIVE`
+/// is whether the pen is: with a fixed one nothing is left of it but the pen's penalty.
 #[inline(always)]
 pub(crate) fn far_at<const ADAPTIVE: bool>(pen: Pen, here: Option<u8>, before: Option<u8>) -> u16
     requires kind { (penalties_of pen).adaptive ≡ ADAPTIVE }
@@ -47,7 +47,8 @@ pub(crate) fn begin(costs: &[u8], count: usize, at: usize, values: &mut [u16])
     requires same_length { length costs.now ≡ length values.old }
     requires low { All (λ c. c ≤ MAX_COST) costs.now }
     ensures others { OthersStay at count values.old values.new }
-    ensures each { (d : ℕ) → d < count → slice_index values.new (at + d) ≡ slice_index costs.now (at + d) }
+    ensures each { (d : ℕ) → d < count
+        → slice_index values.new (at + d) ≡ slice_index costs.now (at + d) }
     ensures bound { (d : ℕ) → d < count → slice_index values.new (at + d) ≤ MAX_PATH_VALUE }
 {
     for d in 0..count {
@@ -134,12 +135,14 @@ pub(crate) fn from_left<const ADD: bool>(
     requires same_length { length values.old ≡ length row.now.costs.now }
     requires sums_length { IsTrue ADD → length sums.old ≡ length row.now.costs.now }
     requires penalties { ((penalties_of row.now.pen).p1 ≤ far) × (far ≤ MAX_PENALTY) }
-    requires low { (d : ℕ) → d < row.now.count → slice_index values.old (from + d) ≤ MAX_PATH_VALUE }
+    requires low { (d : ℕ) → d < row.now.count
+        → slice_index values.old (from + d) ≤ MAX_PATH_VALUE }
     requires room { IsTrue ADD → (d : ℕ) → d < row.now.count
         → slice_index sums.old (at + d) + MAX_PATH_VALUE < 2 ^ 16 }
     ensures others { OthersStay at row.now.count values.old values.new }
     ensures each { (d : ℕ) → d < row.now.count
-        → Follows (λ a. slice_index values.old (from + a)) row.now.count (penalties_of row.now.pen).p1 far
+        → Follows (λ a. slice_index values.old (from + a)) row.now.count
+        (penalties_of row.now.pen).p1 far
         (slice_index row.now.costs.now (at + d)) d (slice_index values.new (at + d)) }
     ensures bound { (d : ℕ) → d < row.now.count → slice_index values.new (at + d) ≤ MAX_PATH_VALUE }
     ensures other_sums { OthersStay at row.now.count sums.old sums.new }
@@ -166,12 +169,14 @@ pub(crate) fn from_right<const ADD: bool>(
     requires same_length { length values.old ≡ length row.now.costs.now }
     requires sums_length { IsTrue ADD → length sums.old ≡ length row.now.costs.now }
     requires penalties { ((penalties_of row.now.pen).p1 ≤ far) × (far ≤ MAX_PENALTY) }
-    requires low { (d : ℕ) → d < row.now.count → slice_index values.old (from + d) ≤ MAX_PATH_VALUE }
+    requires low { (d : ℕ) → d < row.now.count
+        → slice_index values.old (from + d) ≤ MAX_PATH_VALUE }
     requires room { IsTrue ADD → (d : ℕ) → d < row.now.count
         → slice_index sums.old (at + d) + MAX_PATH_VALUE < 2 ^ 16 }
     ensures others { OthersStay at row.now.count values.old values.new }
     ensures each { (d : ℕ) → d < row.now.count
-        → Follows (λ a. slice_index values.old (from + a)) row.now.count (penalties_of row.now.pen).p1 far
+        → Follows (λ a. slice_index values.old (from + a)) row.now.count
+        (penalties_of row.now.pen).p1 far
         (slice_index row.now.costs.now (at + d)) d (slice_index values.new (at + d)) }
     ensures bound { (d : ℕ) → d < row.now.count → slice_index values.new (at + d) ≤ MAX_PATH_VALUE }
     ensures other_sums { OthersStay at row.now.count sums.old sums.new }
@@ -185,8 +190,8 @@ pub(crate) fn from_right<const ADD: bool>(
     follow::<ADD>(row, far, &back[gap..gap + row.count], at, here, sums);
 }
 
-/// The same from those that the pixel itself still has from the row before. What `spare` holds does not
-/// matter.
+/// The same from those that the pixel itself still has from the row before. What `spare` holds does
+/// not matter.
 #[inline(always)]
 pub(crate) fn from_itself<const ADD: bool>(
     row: &RowPass,
@@ -206,7 +211,8 @@ pub(crate) fn from_itself<const ADD: bool>(
         → slice_index sums.old (at + d) + MAX_PATH_VALUE < 2 ^ 16 }
     ensures others { OthersStay at row.now.count values.old values.new }
     ensures each { (d : ℕ) → d < row.now.count
-        → Follows (λ a. slice_index values.old (at + a)) row.now.count (penalties_of row.now.pen).p1 far
+        → Follows (λ a. slice_index values.old (at + a)) row.now.count
+        (penalties_of row.now.pen).p1 far
         (slice_index row.now.costs.now (at + d)) d (slice_index values.new (at + d)) }
     ensures bound { (d : ℕ) → d < row.now.count → slice_index values.new (at + d) ≤ MAX_PATH_VALUE }
     ensures other_sums { OthersStay at row.now.count sums.old sums.new }

@@ -1,12 +1,12 @@
-ghost use Rattle.std.specs.Prelude.{◌≡◌, ◌*◌, ◌<◌, ◌≤◌, length, All};
+ghost use Rattle.std.specs.Prelude.{◌≡◌, ◌*◌, ◌<◌, ◌≤◌, ◌⊎◌, length, All};
 ghost use Rattle.sgm_base.specs.declared.limits.TheConstants.{MAX_COST, MAX_COUNT};
 
 use sgm_base::{MAX_COST, MAX_COUNT};
 use sgm_energy::{Dir, Pen};
 
 /// A row of costs, and the direction and the penalties by which path values come to it. `costs` has
-/// `count` entries a pixel. `guide` and `guide_before` have the grey values of the row and of the row
-/// that the direction comes from, one entry a pixel; in a level direction they are the same.
+/// `count` entries a pixel. `guide` and `guide_before` have the grey values of the row and of the
+/// row that the direction comes from, one entry a pixel; in a level direction they are the same.
 #[derive(Clone, Copy)]
 pub struct RowPass<'a> {
     pub(crate) dir: Dir,
@@ -59,19 +59,22 @@ impl<'a> RowPass<'a> {
         }
     }
 
-    /// The same pass, whose count is known where it is compiled.
+    /// The same pass, whose count is `COUNT`, known where it is compiled, unless that is 0.
     #[inline(always)]
-    pub(crate) fn counted(&self, count: usize) -> RowPass<'a>
-        requires same { count ≡ self.now.count }
+    pub(crate) fn counted<const COUNT: usize>(&self) -> RowPass<'a>
+        requires same { (COUNT ≡ 0) ⊎ (COUNT ≡ self.now.count) }
         ensures { terms_of result ≡ terms_of self.now }
     {
+        if COUNT == 0 {
+            return *self;
+        }
         RowPass {
             dir: self.dir,
             pen: self.pen,
             costs: self.costs,
             guide: self.guide,
             guide_before: self.guide_before,
-            count,
+            count: COUNT,
         }
     }
 }

@@ -1,4 +1,4 @@
-ghost use Rattle.std.specs.Prelude.{◌≡◌, ℕ, ◌+◌, ◌*◌, ◌/◌, ◌%◌, ◌≤◌, length, All, IsTrue};
+ghost use Rattle.std.specs.Prelude.{◌≡◌, ℕ, ◌+◌, ◌*◌, ◌/◌, ◌%◌, ◌≤◌, ◌⊎◌, length, All, IsTrue};
 ghost use Rattle.sgm_energy.specs.declared.dir.Dir.TheVariants.{Right, Left};
 ghost use Rattle.sgm_energy.specs.Dirs.{is_level};
 ghost use Rattle.sgm_energy.specs.Pens.{penalties_of};
@@ -13,10 +13,10 @@ use sgm_base::{MAX_COST, MAX_COUNT, MAX_PATH_VALUE};
 use sgm_energy::{Dir, Pen};
 
 /// Writes the path values of one row, in a direction that stays in the row. `costs` and `into` are
-/// rows of `count` entries a pixel, `guide` has the row's grey values, one entry a pixel, and no cost is
-/// above `MAX_COST`. The first pixel in the direction has its costs alone. Every other has what the
-/// recurrence gives from the values of the pixel before: so they are the least energies along the ray,
-/// less that of the ray before the pixel.
+/// rows of `count` entries a pixel, `guide` has the row's grey values, one entry a pixel, and no
+/// cost is above `MAX_COST`. The first pixel in the direction has its costs alone. Every other has
+/// what the recurrence gives from the values of the pixel before: so they are the least energies
+/// along the ray, less that of the ray before the pixel.
 pub fn run_row(
     dir: Dir,
     pen: Pen,
@@ -41,15 +41,16 @@ pub fn run_row(
 {
     let row = RowPass::make(dir, pen, costs, guide, guide, count);
     if pen.is_adaptive() {
-        sweep::<true, false>(&row, into, &mut [], &mut []);
+        sweep::<true, false, 0>(&row, into, &mut [], &mut []);
     } else {
-        sweep::<false, false>(&row, into, &mut [], &mut []);
+        sweep::<false, false, 0>(&row, into, &mut [], &mut []);
     }
 }
 
-/// The sums of both directions.
+/// The sums of both directions. `COUNT` is the count where that is known where this is compiled,
+/// and else 0.
 #[inline(always)]
-fn both_levels<const ADAPTIVE: bool>(
+fn both_levels<const ADAPTIVE: bool, const COUNT: usize>(
     pen: Pen,
     costs: &[u8],
     guide: &[Option<u8>],
@@ -58,6 +59,7 @@ fn both_levels<const ADAPTIVE: bool>(
     into: &mut [u16],
 )
     requires kind { (penalties_of pen).adaptive ≡ ADAPTIVE }
+    requires counted { (COUNT ≡ 0) ⊎ (COUNT ≡ count) }
     requires count_range { (1 ≤ count) × (count ≤ MAX_COUNT) }
     requires same_length { length costs.now ≡ length into.old }
     requires guide_length { length guide.now ≡ length into.old / count }
@@ -69,14 +71,14 @@ fn both_levels<const ADAPTIVE: bool>(
         → HoldsRow g y (λ p d. path_value g Right p d + path_value g Left p d) into.new }
 {
     let right = RowPass::make(Dir::Right, pen, costs, guide, guide, count);
-    sweep::<ADAPTIVE, false>(&right, into, &mut [], &mut []);
+    sweep::<ADAPTIVE, false, COUNT>(&right, into, &mut [], &mut []);
     let left = RowPass::make(Dir::Left, pen, costs, guide, guide, count);
-    sweep::<ADAPTIVE, true>(&left, spare, &mut [], into);
+    sweep::<ADAPTIVE, true, COUNT>(&left, spare, &mut [], into);
 }
 
-/// Writes the sums of the path values of both level directions of one row. `costs`, `spare` and `into`
-/// are rows of `count` entries a pixel, `guide` has the row's grey values, one entry a pixel, and no cost
-/// is above `MAX_COST`. What `spare` holds does not matter.
+/// Writes the sums of the path values of both level directions of one row. `costs`, `spare` and
+/// `into` are rows of `count` entries a pixel, `guide` has the row's grey values, one entry a
+/// pixel, and no cost is above `MAX_COST`. What `spare` holds does not matter.
 pub fn level_sums(
     pen: Pen,
     costs: &[u8],
@@ -97,13 +99,13 @@ pub fn level_sums(
         → HoldsRow g y (λ p d. path_value g Right p d + path_value g Left p d) into.new }
 {
     if pen.is_adaptive() {
-        return both_levels::<true>(pen, costs, guide, count, spare, into);
+        return both_levels::<true, 0>(pen, costs, guide, count, spare, into);
     }
     // The numbers of indices that most pictures ask for are compiled apart, so that the chunks of a
     // pixel are counted there and not while it runs.
     match count {
-        64 => both_levels::<false>(pen, costs, guide, 64, spare, into),
-        128 => both_levels::<false>(pen, costs, guide, 128, spare, into),
-        _ => both_levels::<false>(pen, costs, guide, count, spare, into),
+        64 => both_levels::<false, 64>(pen, costs, guide, count, spare, into),
+        128 => both_levels::<false, 128>(pen, costs, guide, count, spare, into),
+        _ => both_levels::<false, 0>(pen, costs, guide, count, spare, into),
     }
 }

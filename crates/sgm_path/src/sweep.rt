@@ -1,9 +1,11 @@
 // A row of path values that takes the place of the row that it comes from.
-ghost use Rattle.std.specs.Prelude.{◌≡◌, ℕ, ◌+◌, ◌*◌, ◌^◌, ◌<◌, ◌≤◌, length, slice_index, All, EachIndex, IsTrue, Some, false};
+ghost use Rattle.std.specs.Prelude.{◌≡◌, ℕ, ◌+◌, ◌*◌, ◌^◌, ◌<◌, ◌≤◌, ◌⊎◌, length, slice_index, All};
+ghost use Rattle.std.specs.Prelude.{EachIndex, IsTrue, Some, false};
 ghost use Rattle.sgm_energy.specs.Dirs.{is_level};
 ghost use Rattle.sgm_energy.specs.Pens.{penalties_of};
 ghost use Rattle.sgm_energy.specs.Rays.{column_before};
-ghost use Rattle.sgm_path.specs.Paths.{column_at, EntryFollows, far_in, OthersStay, row_from, RowFollows, terms_of};
+ghost use Rattle.sgm_path.specs.Paths.{column_at, EntryFollows, far_in, OthersStay, row_from};
+ghost use Rattle.sgm_path.specs.Paths.{RowFollows, terms_of};
 
 use crate::pixel::{begin_at, far_at, from_itself, from_left, from_right};
 use crate::row_pass::RowPass;
@@ -23,12 +25,13 @@ fn column(dir: Dir, width: usize, i: usize) -> usize
     }
 }
 
-/// The values of the column `x`, from those that the row holds where the direction comes from. `ADAPTIVE`
-/// is whether the pen is, so that a row with a fixed pen doesn't look at the guide, and `ADD` whether
-/// each value is added to the sum at its place. What `spare` holds does not matter; in a level direction
-/// it isn't looked at.
+/// The values of the column `x`, from those that the row holds where the direction comes from.
+/// `ADAPTIVE` is whether the pen is, so that a row with a fixed pen doesn't look at the guide, and
+/// `ADD` whether each value is added to the sum at its place. `COUNT` is the row's, so that each
+/// row that is compiled apart has a step of its own, which one place calls. What `spare` holds does
+/// not matter; in a level direction it isn't looked at.
 #[inline(always)]
-fn step_at<const ADAPTIVE: bool, const ADD: bool>(
+fn step_at<const ADAPTIVE: bool, const ADD: bool, const COUNT: usize>(
     row: &RowPass,
     x: usize,
     values: &mut [u16],
@@ -40,17 +43,22 @@ fn step_at<const ADAPTIVE: bool, const ADD: bool>(
     requires spare { is_level row.now.dir ≡ false → row.now.count ≤ length spare.old }
     requires same_length { length values.old ≡ length row.now.costs.now }
     requires sums_length { IsTrue ADD → length sums.old ≡ length row.now.costs.now }
-    requires low { (z d : ℕ) → column_before row.now.dir (length row.now.guide.now) x ≡ Some z → d < row.now.count
+    requires low { (z d : ℕ) → column_before row.now.dir (length row.now.guide.now) x ≡ Some z
+        → d < row.now.count
         → slice_index values.old (z * row.now.count + d) ≤ MAX_PATH_VALUE }
     requires room { IsTrue ADD → (d : ℕ) → d < row.now.count
         → slice_index sums.old (x * row.now.count + d) + MAX_PATH_VALUE < 2 ^ 16 }
     ensures others { OthersStay (x * row.now.count) row.now.count values.old values.new }
     ensures each { (d : ℕ) → d < row.now.count
-        → EntryFollows (terms_of row.now) values.old x d (slice_index values.new (x * row.now.count + d)) }
-    ensures bound { (d : ℕ) → d < row.now.count → slice_index values.new (x * row.now.count + d) ≤ MAX_PATH_VALUE }
+        → EntryFollows (terms_of row.now) values.old x d
+        (slice_index values.new (x * row.now.count + d)) }
+    ensures bound { (d : ℕ) → d < row.now.count
+        → slice_index values.new (x * row.now.count + d) ≤ MAX_PATH_VALUE }
     ensures other_sums { OthersStay (x * row.now.count) row.now.count sums.old sums.new }
-    ensures added { IsTrue ADD → (d : ℕ) → d < row.now.count → slice_index sums.new (x * row.now.count + d)
-        ≡ slice_index sums.old (x * row.now.count + d) + slice_index values.new (x * row.now.count + d) }
+    ensures added { IsTrue ADD → (d : ℕ) → d < row.now.count
+        → slice_index sums.new (x * row.now.count + d)
+        ≡ slice_index sums.old (x * row.now.count + d)
+        + slice_index values.new (x * row.now.count + d) }
 {
     let at = x * row.count;
     match row.dir.column_before(row.guide.len(), x) {
@@ -68,30 +76,36 @@ fn step_at<const ADAPTIVE: bool, const ADD: bool>(
     }
 }
 
-/// The whole row. In a level direction it is written from nothing, and what `values` held does not matter.
-/// In any other the values are those of the row that the direction comes from.
-#[inline(always)]
-pub(crate) fn sweep<const ADAPTIVE: bool, const ADD: bool>(
+/// The whole row. In a level direction it is written from nothing, and what `values` held does not
+/// matter. In any other the values are those of the row that the direction comes from. `COUNT` is
+/// the row's count where that is known where this is compiled, and else 0.
+#[inline(never)]
+pub(crate) fn sweep<const ADAPTIVE: bool, const ADD: bool, const COUNT: usize>(
     row: &RowPass,
     values: &mut [u16],
     spare: &mut [u16],
     sums: &mut [u16],
 )
     requires kind { (penalties_of row.now.pen).adaptive ≡ ADAPTIVE }
+    requires counted { (COUNT ≡ 0) ⊎ (COUNT ≡ row.now.count) }
     requires spare { is_level row.now.dir ≡ false → row.now.count ≤ length spare.old }
     requires same_length { length values.old ≡ length row.now.costs.now }
     requires sums_length { IsTrue ADD → length sums.old ≡ length row.now.costs.now }
     requires low { is_level row.now.dir ≡ false → All (λ v. v ≤ MAX_PATH_VALUE) values.old }
-    requires room { IsTrue ADD → EachIndex sums.old (λ k. slice_index sums.old k + MAX_PATH_VALUE < 2 ^ 16) }
+    requires room { IsTrue ADD
+        → EachIndex sums.old (λ k. slice_index sums.old k + MAX_PATH_VALUE < 2 ^ 16) }
     ensures bound { All (λ v. v ≤ MAX_PATH_VALUE) values.new }
-    ensures each { RowFollows row.now.dir row.now.count (penalties_of row.now.pen).p1 (far_in (terms_of row.now))
+    ensures each { RowFollows row.now.dir row.now.count (penalties_of row.now.pen).p1
+        (far_in (terms_of row.now))
         (row_from row.now.dir values.old values.new) row.now.costs.now values.new }
     ensures added { IsTrue ADD
-        → EachIndex sums.new (λ k. slice_index sums.new k ≡ slice_index sums.old k + slice_index values.new k) }
+        → EachIndex sums.new (λ k. slice_index sums.new k
+        ≡ slice_index sums.old k + slice_index values.new k) }
 {
+    let row = &row.counted::<COUNT>();
     let width = row.guide.len();
     for i in 0..width {
         let x = column(row.dir, width, i);
-        step_at::<ADAPTIVE, ADD>(row, x, values, spare, sums);
+        step_at::<ADAPTIVE, ADD, COUNT>(row, x, values, spare, sums);
     }
 }

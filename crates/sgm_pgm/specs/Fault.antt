@@ -1,8 +1,11 @@
--- What is wrong with bytes that are no PGM text: the first fault, in the order in which they are listed.
+-- What is wrong with bytes that are no PGM text: the first fault, in the order in which they are
+-- listed.
 use Rattle.std.specs.Prelude.{◌≡◌, ℕ, ◌*◌, ◌<◌, ◌≤◌, List, ◌++◌, codes, length, slice_index}
 use Rattle.sgm_base.specs.Sides.{IsSide}
 use Rattle.sgm_pgm.specs.declared.fault.PgmFault.{PgmFault}
-use Rattle.sgm_pgm.specs.declared.fault.PgmFault.TheVariants.{NotPgm, HeaderShort, HeaderByte, SizeRange, MaxvalRange, RasterShort, SampleAbove}
+use Rattle.sgm_pgm.specs.declared.fault.PgmFault.TheVariants.{NotPgm, HeaderShort, HeaderByte}
+use Rattle.sgm_pgm.specs.declared.fault.PgmFault.TheVariants.{SizeRange, MaxvalRange, RasterShort}
+use Rattle.sgm_pgm.specs.declared.fault.PgmFault.TheVariants.{SampleAbove}
 use Rattle.sgm_pgm.specs.Header.{HasHeader, IsUnfinished, IsWrongAt}
 use Rattle.sgm_pgm.specs.Raster.{IsMaxval, raster_of, raster_size}
 
@@ -30,10 +33,13 @@ pub record HasSamples (width height maxval : ℕ) (raster samples : List ℕ) : 
 abbrev pub IsFaultBehind : ℕ → ℕ → ℕ → List ℕ → PgmFault → Type 0
 IsFaultBehind width height maxval raster SizeRange = ¬ AreSides width height
 IsFaultBehind width height maxval raster MaxvalRange = AreSides width height × ¬ IsMaxval maxval
-IsFaultBehind width height maxval raster (RasterShort have need) = AreSides width height × IsMaxval maxval
+IsFaultBehind width height maxval raster (RasterShort have need) = AreSides width height
+    × IsMaxval maxval
     × (have ≡ length raster) × (need ≡ raster_size width height maxval) × (have < need)
-IsFaultBehind width height maxval raster (SampleAbove index) = AreSides width height × IsMaxval maxval
-    × ((samples : List ℕ) × HasSamples width height maxval raster samples × IsFirstAbove maxval samples index)
+IsFaultBehind width height maxval raster (SampleAbove index) = AreSides width height
+    × IsMaxval maxval
+    × ((samples : List ℕ) × HasSamples width height maxval raster samples
+    × IsFirstAbove maxval samples index)
 IsFaultBehind width height maxval raster NotPgm = ⊥
 IsFaultBehind width height maxval raster HeaderShort = ⊥
 IsFaultBehind width height maxval raster (HeaderByte at) = ⊥

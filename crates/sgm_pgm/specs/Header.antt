@@ -1,5 +1,6 @@
 -- The header of a PGM text.
-use Rattle.std.specs.Prelude.{◌≡◌, ◌≢◌, ◌⊎◌, ℕ, ◌+◌, ◌<◌, List, [], ◌∷◌, ◌++◌, Bool, false, ◌==◌, ◌||◌, nat_le, ◌&&◌, IsTrue, codes, length, take}
+use Rattle.std.specs.Prelude.{◌≡◌, ◌≢◌, ◌⊎◌, ℕ, ◌+◌, ◌<◌, List, [], ◌∷◌, ◌++◌, Bool, false, ◌==◌}
+use Rattle.std.specs.Prelude.{◌||◌, nat_le, ◌&&◌, IsTrue, codes, length, take}
 use Rattle.std.specs.List.{AllByRecursion, concat}
 use Rattle.std.specs.Str.{all_ascii_digits}
 use Rattle.std.specs.Str.Parse.{digits_value}
@@ -37,8 +38,8 @@ pub record IsNumber (digits : List ℕ) (value : ℕ) : Type 0 where
   pub each : IsTrue (all_ascii_digits digits)
   pub is : value ≡ digits_value 10 digits
 
--- One after the other: `P5`, a Gap, the width, a Gap, the height, a Gap, maxval, and one white byte.
--- A digit stands after each Gap, and none after a number, so each is as long as it can be.
+-- One after the other: `P5`, a Gap, the width, a Gap, the height, a Gap, maxval, and one white
+-- byte. A digit stands after each Gap, and none after a number, so each is as long as it can be.
 pub record IsHeader (bytes : List ℕ) (width height maxval : ℕ) : Type 0 where
   pub before_width : List ℕ
   pub width_digits : List ℕ
@@ -69,7 +70,8 @@ BeginsHeader bytes = (more : List ℕ) × HasHeaderForm (bytes ++ more)
 abbrev pub IsUnfinished : List ℕ → Type 0
 IsUnfinished bytes = (next : ℕ) × (more : List ℕ) × HasHeaderForm (bytes ++ next ∷ more)
 
--- the bytes before `at` are an unfinished header, and with the byte at `at` no header begins with them
+-- the bytes before `at` are an unfinished header, and with the byte at `at` no header begins with
+-- them
 pub record IsWrongAt (bytes : List ℕ) (at : ℕ) : Type 0 where
   pub inside : at < length bytes
   pub before : IsUnfinished (take at bytes)

@@ -1,6 +1,7 @@
--- Words of the reader's own functions: what the front of some bytes comes to, read as one part of a header. No public
--- clause cites them.
-use Rattle.std.specs.Prelude.{◌≡◌, ⊤, ℕ, ◌+◌, ◌-◌, ◌*◌, ◌<◌, min, List, [], ◌∷◌, drop, length, Bool, true, false, not, ◌==◌, ◌||◌, Result, Ok, Err, if◌then◌else◌}
+-- Words of the reader's own functions: what the front of some bytes comes to, read as one part of a
+-- header. No public clause cites them.
+use Rattle.std.specs.Prelude.{◌≡◌, ⊤, ℕ, ◌+◌, ◌-◌, ◌*◌, ◌<◌, min, List, [], ◌∷◌, drop, length, Bool}
+use Rattle.std.specs.Prelude.{true, false, not, ◌==◌, ◌||◌, Result, Ok, Err, if◌then◌else◌}
 use Rattle.std.specs.Char.{is_ascii_digit}
 use Rattle.sgm_pgm.specs.declared.fault.PgmFault.{PgmFault}
 use Rattle.sgm_pgm.specs.declared.fault.PgmFault.TheVariants.{HeaderShort, HeaderByte}
@@ -26,7 +27,8 @@ abbrev pub ◌>>=◌ : {A B : Type 0} → Result A Stop → (A → Result B Stop
 abbrev pub gap_rest : Bool → List ℕ → Result (List ℕ) Stop
 gap_rest commented [] = Err short
 gap_rest true (b ∷ bs) = gap_rest (not (ends_line b)) bs
-gap_rest false (b ∷ bs) = if b == 35 then gap_rest true bs else (if is_white b then gap_rest false bs else Ok (b ∷ bs))
+gap_rest false (b ∷ bs) = if b == 35 then gap_rest true bs
+    else (if is_white b then gap_rest false bs else Ok (b ∷ bs))
 
 -- what is left behind a Gap
 abbrev pub gap_at : List ℕ → Result (List ℕ) Stop
@@ -36,7 +38,8 @@ gap_at (b ∷ bs) = if b == 35 || is_white b then gap_rest false (b ∷ bs) else
 -- a number whose front has passed, with all that are too great as one, and what is left behind it
 abbrev pub number_rest : ℕ → List ℕ → Result (ℕ × List ℕ) Stop
 number_rest n [] = Err short
-number_rest n (b ∷ bs) = if is_ascii_digit b then number_rest (min (10 * n + (b - 48)) TOO_GREAT) bs else Ok (n, b ∷ bs)
+number_rest n (b ∷ bs) = if is_ascii_digit b then number_rest (min (10 * n + (b - 48)) TOO_GREAT) bs
+    else Ok (n, b ∷ bs)
 
 abbrev pub number_at : List ℕ → Result (ℕ × List ℕ) Stop
 number_at [] = Err short
@@ -66,13 +69,16 @@ Fails bytes HeaderShort read = read ≡ Err short
 Fails bytes (HeaderByte at) read = (at < length bytes) × (read ≡ Err (wrong (drop at bytes)))
 Fails bytes fault read = ⊥
 
--- what a method of a reader answers that reads a part of the bytes and moves from one place to another
-abbrev pub Gives : {X A : Type 0} → (X → List ℕ → A) → (List ℕ → Result A Stop) → List ℕ → ℕ → ℕ → Result X PgmFault → Type 0
+-- what a method of a reader answers that reads a part of the bytes and moves from one place to
+-- another
+abbrev pub Gives : {X A : Type 0} → (X → List ℕ → A) → (List ℕ → Result A Stop) → List ℕ → ℕ → ℕ
+    → Result X PgmFault → Type 0
 Gives value part bytes from to (Ok x) = part (drop from bytes) ≡ Ok (value x (drop to bytes))
 Gives value part bytes from to (Err fault) = Fails bytes fault (part (drop from bytes))
 
 -- the header of the bytes and what stands behind it, with numbers that are too great as one
-pub record HasCappedHeader (bytes : List ℕ) (width height maxval : ℕ) (behind : List ℕ) : Type 0 where
+pub record HasCappedHeader (bytes : List ℕ) (width height maxval : ℕ)
+    (behind : List ℕ) : Type 0 where
   pub real_width : ℕ
   pub real_height : ℕ
   pub real_maxval : ℕ
@@ -82,14 +88,17 @@ pub record HasCappedHeader (bytes : List ℕ) (width height maxval : ℕ) (behin
   pub maxval_is : maxval ≡ min real_maxval TOO_GREAT
 
 -- an image whose samples stand at the front of the raster
-pub record IsImageBehind (width height maxval : ℕ) (raster : List ℕ) (image : Picture) : Type 0 where
+pub record IsImageBehind (width height maxval : ℕ) (raster : List ℕ)
+    (image : Picture) : Type 0 where
   pub is : image ≡ picture width height maxval image.samples
   pub samples : HasSamples width height maxval raster image.samples
   pub maxval_in_range : IsMaxval maxval
   pub keeps : IsPicture image
 
--- what is read behind a header of these values: an image, the first fault, or, where memory ran out, anything
+-- what is read behind a header of these values: an image, the first fault, or, where memory ran
+-- out, anything
 abbrev pub AnswersBehind : ℕ → ℕ → ℕ → List ℕ → Result Picture PgmError → Type 0
 AnswersBehind width height maxval raster (Ok image) = IsImageBehind width height maxval raster image
-AnswersBehind width height maxval raster (Err (Fault fault)) = IsFaultBehind width height maxval raster fault
+AnswersBehind width height maxval raster (Err (Fault fault)) =
+    IsFaultBehind width height maxval raster fault
 AnswersBehind width height maxval raster (Err NoMemory) = ⊤

@@ -3,8 +3,8 @@ ghost use Rattle.sgm_pgm.specs.declared.fault.PgmError.TheVariants.{Fault, NoMem
 
 use std::alloc::AllocError;
 
-/// What is wrong with bytes that are no PGM text. Of several faults the one that is listed first, and
-/// of two in the header the one nearer to the front.
+/// What is wrong with bytes that are no PGM text. Of several faults the one that is listed first,
+/// and of two in the header the one nearer to the front.
 #[derive(Clone, Copy, PartialEq, Eq)]
 pub enum PgmFault {
     /// The bytes don't begin with `P5`.

@@ -1,10 +1,12 @@
 //! The header of a PGM text, read byte by byte.
 
-ghost use Rattle.std.specs.Prelude.{◌≡◌, ◌↔◌, ◌+◌, ◌<◌, ◌≤◌, [], ◌∷◌, false, IsTrue, drop, length, IfOk, IfErr, OnOk};
+ghost use Rattle.std.specs.Prelude.{◌≡◌, ◌↔◌, ◌+◌, ◌<◌, ◌≤◌, [], ◌∷◌, false, IsTrue, drop, length};
+ghost use Rattle.std.specs.Prelude.{IfOk, IfErr, OnOk};
 ghost use Rattle.sgm_pgm.specs.declared.fault.PgmFault.TheVariants.{HeaderShort, HeaderByte};
 ghost use Rattle.sgm_pgm.specs.Fault.{HasMagic, IsPgmFault};
 ghost use Rattle.sgm_pgm.specs.Header.{is_white, ends_line};
-ghost use Rattle.sgm_pgm.specs.Parts.{gap_at, gap_rest, number_at, number_rest, field_at, white_at, header_at, Gives, HasCappedHeader};
+ghost use Rattle.sgm_pgm.specs.Parts.{gap_at, gap_rest, number_at, number_rest, field_at, white_at};
+ghost use Rattle.sgm_pgm.specs.Parts.{header_at, Gives, HasCappedHeader};
 
 use crate::fault::PgmFault;
 

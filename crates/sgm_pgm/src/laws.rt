@@ -1,4 +1,5 @@
-//! Laws of the definitions that the contracts cite. The functions do nothing: their clauses are the laws.
+//! Laws of the definitions that the contracts cite. The functions do nothing: their clauses are the
+//! laws.
 
 ghost use Rattle.std.specs.Prelude.{◌≡◌, ◌*◌, ◌<◌, ◌^◌, ℕ, List, Result, All, length};
 ghost use Rattle.sgm_base.specs.Picture.{Picture, picture};

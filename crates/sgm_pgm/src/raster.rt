@@ -1,6 +1,7 @@
 //! The samples of an image as bytes.
 
-ghost use Rattle.std.specs.Prelude.{◌≡◌, ◌↔◌, ◌+◌, ◌*◌, ◌/◌, ◌<◌, ◌≤◌, ℕ, All, IfOk, IfSome, IsSome, MatchOption, MatchResult, length, nat_lt, slice_index};
+ghost use Rattle.std.specs.Prelude.{◌≡◌, ◌↔◌, ◌+◌, ◌*◌, ◌/◌, ◌<◌, ◌≤◌, ℕ, All, IfOk, IfSome};
+ghost use Rattle.std.specs.Prelude.{IsSome, MatchOption, MatchResult, length, nat_lt, slice_index};
 ghost use Rattle.sgm_base.specs.Picture.{IsPicture, picture};
 ghost use Rattle.sgm_pgm.specs.declared.fault.PgmFault.TheVariants.{SampleAbove};
 ghost use Rattle.sgm_pgm.specs.Fault.{IsFirstAbove};

@@ -1,6 +1,7 @@
 //! Writing PGM texts.
 
-ghost use Rattle.std.specs.Prelude.{◌≡◌, ◌+◌, ◌*◌, ◌≤◌, ◌++◌, OnOk, OnErr, length, vec_len, vec_capacity, flat_map};
+ghost use Rattle.std.specs.Prelude.{◌≡◌, ◌+◌, ◌*◌, ◌≤◌, ◌++◌, OnOk, OnErr, length, vec_len};
+ghost use Rattle.std.specs.Prelude.{vec_capacity, flat_map};
 ghost use Rattle.sgm_pgm.specs.Raster.{two_bytes};
 ghost use Rattle.sgm_pgm.specs.Write.{text_of};
 
@@ -9,8 +10,8 @@ use sgm_base::Size;
 use std::alloc::AllocError;
 
 /// Adds the PGM text of an image with maxval 65535 to `into`: `P5`, LF, width, space, height, LF,
-/// `65535`, LF, and the samples row by row, each as two bytes with the most significant first. Leaves
-/// `into` as it was on an error.
+/// `65535`, LF, and the samples row by row, each as two bytes with the most significant first.
+/// Leaves `into` as it was on an error.
 pub fn write16(size: Size, samples: &[u16], into: &mut Vec<u8>) -> Result<(), AllocError>
     requires { length samples.now ≡ size.width * size.height }
     ensures ok { OnOk result

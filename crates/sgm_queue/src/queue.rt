@@ -1,5 +1,6 @@
 //! The queue.
-ghost use Rattle.std.specs.Prelude.{◌≡◌, ◌<◌, Bool, count_by, Contains, IfOk, OnOk, OnErr, IfErr, IfNone, IfSome};
+ghost use Rattle.std.specs.Prelude.{◌≡◌, ◌<◌, Bool, count_by, Contains, IfOk, OnOk, OnErr, IfErr};
+ghost use Rattle.std.specs.Prelude.{IfNone, IfSome};
 ghost use Rattle.sgm_queue.specs.Logs.{after_pop, after_push, first, given, joined, kept};
 ghost use Rattle.sgm_queue.specs.Queues.{IsQueuePassOf, HasBoth, WasFull, log_of, room_of};
 
@@ -51,13 +52,14 @@ impl<T: Drop> Queue<T> {
         self.inner.push_as::<Push, R>(rt, &mut pass.pass, value)
     }
 
-    /// Pops the first value. Where the pass has both shares, the value is one that it pushed, and None comes
-    /// only once all that it pushed was popped.
+    /// Pops the first value. Where the pass has both shares, the value is one that it pushed, and
+    /// None comes only once all that it pushed was popped.
     pub fn pop<R: Wait>(&self, rt: &R, pass: &mut QueuePass<T>) -> Option<T>
         requires own { IsQueuePassOf self.now pass.old }
         ensures own { IsQueuePassOf self.now pass.new }
         ensures some { IfSome result (λ x. log_of pass.new ≡ after_pop (log_of pass.old) x) }
-        ensures pushed { IfSome result (λ x. HasBoth (log_of pass.old) → Contains (log_of pass.old).pushed x) }
+        ensures pushed { IfSome result (λ x. HasBoth (log_of pass.old)
+            → Contains (log_of pass.old).pushed x) }
         ensures none { IfNone result (log_of pass.new ≡ log_of pass.old) }
         ensures all { IfNone result (HasBoth (log_of pass.old) → (test : T → Bool)
             → count_by test (log_of pass.old).popped ≡ count_by test (log_of pass.old).pushed) }

@@ -1,4 +1,5 @@
-//! What tests watch a run with: gates that remember who came to them, and a shelf that notes its calls.
+//! What tests watch a run with: gates that remember who came to them, and a shelf that notes its
+//! calls.
 #![tactic(auto)]
 
 mod meeting;

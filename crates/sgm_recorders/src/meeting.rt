@@ -8,12 +8,12 @@ use std::thread::yield_now;
 /// The most workers that meet.
 const WORKERS: usize = 3;
 
-/// How many turns a worker waits for the others: about a second on a free processor, and less than the minute of a test
-/// on a loaded one.
+/// How many turns a worker waits for the others: about a second on a free processor, and less than
+/// the minute of a test on a loaded one.
 const TURNS: u64 = 1_000_000;
 
-/// Holds each of so many workers, at most three, at its first strip or entry until all have come, for at most a million
-/// turns.
+/// Holds each of so many workers, at most three, at its first strip or entry until all have come,
+/// for at most a million turns.
 #[derive(Drop)]
 pub struct Meeting {
     workers: u32,

@@ -14,8 +14,8 @@ const TURNS: u64 = 1_000_000;
 /// Stands for a call that didn't come.
 const NONE: u64 = u64::MAX;
 
-/// What comes where one worker hands all fronts on through three strips: it goes through these three times, since a front
-/// that goes up passes one strip each time.
+/// What comes where one worker hands all fronts on through three strips: it goes through these
+/// three times, since a front that goes up passes one strip each time.
 pub const ONE_AT_THREE: [(u32, u32); 9] = [
     (0, 0),
     (0, 1),
@@ -28,8 +28,8 @@ pub const ONE_AT_THREE: [(u32, u32); 9] = [
     (0, 2),
 ];
 
-/// Remembers its first sixteen calls in their order. The first comer is held until another worker has come, for at most
-/// a million turns, so that one that there shouldn't be has the time to come.
+/// Remembers its first sixteen calls in their order. The first comer is held until another worker
+/// has come, for at most a million turns, so that one that there shouldn't be has the time to come.
 #[derive(Drop)]
 pub struct Recorder {
     calls: AtomicU64,
@@ -48,7 +48,8 @@ impl Recorder {
         }
     }
 
-    /// Whether so many calls came, and each in its turn is that of this worker at this strip or entry.
+    /// Whether so many calls came, and each in its turn is that of this worker at this strip or
+    /// entry.
     pub fn has(&self, wanted: &[(u32, u32)]) -> bool {
         self.calls.load(Ordering::SeqCst) == wanted.len() as u64
             && wanted.len() <= CALLS

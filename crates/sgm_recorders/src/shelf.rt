@@ -4,7 +4,8 @@ use sgm_io::{FetchError, KeepError, Shelf};
 use std::cell::RefCell;
 use std::fmt::{Display, Write};
 
-// Notes a call and what it is of. Without memory it is left out, and the calls are then not the wanted ones.
+// Notes a call and what it is of. Without memory it is left out, and the calls are then not the
+// wanted ones.
 fn note(calls: &RefCell<String>, call: &str, of: impl Display + Drop) {
     if let Ok(mut text) = calls.try_borrow_mut() {
         let _ = write!(text, "{call}{of};");

@@ -1,5 +1,6 @@
 -- Which warps an image of given sides can't be rectified by.
-use Rattle.std.specs.Prelude.{◌≡◌, ℕ, ◌+◌, ◌-◌, ◌/◌, ◌<◌, ◌==◌, ◌&&◌, if◌then◌else◌, ℤ, pos, int_le, List, [], ◌∷◌, Option, Some, None, option_map}
+use Rattle.std.specs.Prelude.{◌≡◌, ℕ, ◌+◌, ◌-◌, ◌/◌, ◌<◌, ◌==◌, ◌&&◌, if◌then◌else◌, ℤ, pos, int_le}
+use Rattle.std.specs.Prelude.{List, [], ◌∷◌, Option, Some, None, option_map}
 use Rattle.std.specs.List.{position_from}
 use Rattle.sgm_base.specs.Sides.{Sides, IsSide}
 use Rattle.sgm_rectify.specs.declared.warp.Warp.{Warp}
@@ -18,7 +19,8 @@ corners sides =
 
 -- the least number of a corner at which the denominator is 0 or less
 abbrev pub bad_corner : List ℤ → Sides → Option ℕ
-bad_corner matrix sides = position_from (λ c. int_le (denominator matrix c.0 c.1) (pos 0)) 0 (corners sides)
+bad_corner matrix sides = position_from (λ c. int_le (denominator matrix c.0 c.1) (pos 0)) 0
+    (corners sides)
 
 -- how many nodes a mesh of this step needs along a side
 abbrev pub nodes_needed : ℕ → ℕ → ℕ
@@ -27,13 +29,16 @@ nodes_needed step side = (side - 1) / step + 2
 -- a mesh whose counts of columns and rows differ from those needed
 abbrev pub mesh_fault : ℕ → ℕ → ℕ → ℕ → Option WarpFault
 mesh_fault cols rows need_cols need_rows =
-    if cols == need_cols && rows == need_rows then None else Some (MeshSize cols rows need_cols need_rows)
+    if cols == need_cols
+    && rows == need_rows then None else Some (MeshSize cols rows need_cols need_rows)
 
 -- what is wrong with a warp for an image of these sides
 unfoldable pub warp_fault : Warp → Sides → Option WarpFault
 warp_fault Identity sides = None
-warp_fault (Projective matrix) sides = option_map (λ corner. Denominator corner) (bad_corner matrix sides)
-warp_fault (Mesh step cols rows nodes) sides = mesh_fault cols rows (nodes_needed step sides.width) (nodes_needed step sides.height)
+warp_fault (Projective matrix) sides = option_map (λ corner. Denominator corner)
+    (bad_corner matrix sides)
+warp_fault (Mesh step cols rows nodes) sides = mesh_fault cols rows (nodes_needed step sides.width)
+    (nodes_needed step sides.height)
 
 -- a warp by which an image of these sides can be rectified
 pub record Suits (warp : Warp) (sides : Sides) : Type 0 where

@@ -19,4 +19,6 @@ rectified image warp x y = let place = place_of warp x y in bilinear image place
 -- the rectified image, which has the sides of the source, row by row
 unfoldable pub rectified_values : Picture → Warp → Values
 rectified_values image warp =
-    values_of image.width image.height (map (λ k. rectified image warp (k % image.width) (k / image.width)) (range_with_len 0 (image.width * image.height)))
+    values_of image.width image.height
+    (map (λ k. rectified image warp (k % image.width) (k / image.width))
+    (range_with_len 0 (image.width * image.height)))

@@ -1,6 +1,8 @@
 -- Warps whose numbers are in range.
 use Rattle.std.specs.Prelude.{◌≡◌, ℕ, ◌*◌, ◌≤◌, ℤ, ◌≤ℤ◌, List, length, All}
-use Rattle.sgm_rectify.specs.declared.limits.TheConstants.{MIN_ENTRY, MAX_ENTRY, MIN_STEP, MAX_STEP, MIN_NODE_COUNT, MAX_NODE_COUNT, MIN_NODE, MAX_NODE}
+use Rattle.sgm_rectify.specs.declared.limits.TheConstants.{MIN_ENTRY, MAX_ENTRY, MIN_STEP, MAX_STEP}
+use Rattle.sgm_rectify.specs.declared.limits.TheConstants.{MIN_NODE_COUNT, MAX_NODE_COUNT, MIN_NODE}
+use Rattle.sgm_rectify.specs.declared.limits.TheConstants.{MAX_NODE}
 use Rattle.sgm_rectify.specs.declared.warp.Warp.{Warp}
 use Rattle.sgm_rectify.specs.declared.warp.Warp.TheVariants.{Identity, Projective, Mesh}
 

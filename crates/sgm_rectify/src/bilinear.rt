@@ -1,8 +1,9 @@
-//! Bilinear values. A weight is at most 65536 and the four add up to that, so that the sum of the weighted
-//! samples and the half, at most 65536 * 65535 + 32768, fits 32 bits.
+//! Bilinear values. A weight is at most 65536 and the four add up to that, so that the sum of the
+//! weighted samples and the half, at most 65536 * 65535 + 32768, fits 32 bits.
 
 ghost use Rattle.std.specs.Prelude.{◌≡◌, ◌+◌, ◌/◌, ◌<◌, ◌≤◌, pos, ◌*◌, ◌≤ℤ◌, IfSome};
-ghost use Rattle.sgm_rectify.specs.Bilinear.{whole, fraction, sample_at, weighted, mean_at, bilinear};
+ghost use Rattle.sgm_rectify.specs.Bilinear.{whole, fraction, sample_at, weighted, mean_at};
+ghost use Rattle.sgm_rectify.specs.Bilinear.{bilinear};
 
 use sgm_base::Image;
 
@@ -18,7 +19,8 @@ fn sample(image: &Image, column: i64, row: i64) -> Option<u16>
     Some(samples[row as usize * size.width as usize + column as usize])
 }
 
-/// The weight times the sample in a column and a row: 0 where the weight is 0, else None outside the image.
+/// The weight times the sample in a column and a row: 0 where the weight is 0, else None outside
+/// the image.
 fn weighted(image: &Image, column: i64, row: i64, weight: u32) -> Option<u32>
     requires { weight ≤ 65536 }
     ensures value { result ≡ weighted weight (sample_at image.now column row) }
@@ -55,8 +57,8 @@ fn mean(sum: u32) -> u16
     ((sum + 32768) / 65536) as u16
 }
 
-/// The mean of the four samples round a place that lies `right` and `down` behind the column `i` and the row
-/// `j`, in 1/256: None where a neighbour of non-zero weight lies outside the image.
+/// The mean of the four samples round a place that lies `right` and `down` behind the column `i`
+/// and the row `j`, in 1/256: None where a neighbour of non-zero weight lies outside the image.
 fn mean_at(image: &Image, i: i64, j: i64, right: u32, down: u32) -> Option<u16>
     requires i { i ≤ℤ pos 36028797018963968 }
     requires j { j ≤ℤ pos 36028797018963968 }
@@ -72,8 +74,8 @@ fn mean_at(image: &Image, i: i64, j: i64, right: u32, down: u32) -> Option<u16>
     Some(mean(first + second + third + fourth))
 }
 
-/// The bilinear value at the place (u, v), in 1/256 of a pixel: None where a neighbour of non-zero weight lies
-/// outside the image.
+/// The bilinear value at the place (u, v), in 1/256 of a pixel: None where a neighbour of non-zero
+/// weight lies outside the image.
 pub(crate) fn bilinear(image: &Image, u: i64, v: i64) -> Option<u16>
     ensures { result ≡ bilinear image.now u v }
 {

@@ -1,5 +1,5 @@
-//! Rectification: the image that a warp makes of an image, each value by bilinear interpolation between the
-//! four samples round its source place.
+//! Rectification: the image that a warp makes of an image, each value by bilinear interpolation
+//! between the four samples round its source place.
 #![tactic(auto)]
 
 mod bilinear;

@@ -1,8 +1,10 @@
-//! Source places. All numbers are exact: for entries of a matrix up to 2^40 and pixels below 4096 each sum is
-//! below 2^53, and 256 times that below 2^61; for a mesh, weights add up to at most 2^20 and nodes are up to
-//! 2^24, so that each sum is at most 2^46. All of this fits 64 bits with a sign.
+//! Source places. All numbers are exact: for entries of a matrix up to 2^40 and pixels below 4096
+//! each sum is below 2^53, and 256 times that below 2^61; for a mesh, weights add up to at most
+//! 2^20 and nodes are up to 2^24, so that each sum is at most 2^46. All of this fits 64 bits with a
+//! sign.
 
-ghost use Rattle.std.specs.Prelude.{◌≡◌, ◌+◌, ◌-◌, ◌-ℤ◌, ◌*◌, ◌/◌, ◌<◌, ◌≤◌, ℤ, pos, ◌+ℤ◌, ◌*ℤ◌, ◌≤ℤ◌, ◌<ℤ◌, All, length, map, slice_index_or};
+ghost use Rattle.std.specs.Prelude.{◌≡◌, ◌+◌, ◌-◌, ◌-ℤ◌, ◌*◌, ◌/◌, ◌<◌, ◌≤◌, ℤ, pos, ◌+ℤ◌, ◌*ℤ◌};
+ghost use Rattle.std.specs.Prelude.{◌≤ℤ◌, ◌<ℤ◌, All, length, map, slice_index_or};
 ghost use Rattle.std.specs.Int.{int_div_euclid};
 ghost use Rattle.sgm_base.specs.declared.limits.TheConstants.{MAX_SIDE};
 ghost use Rattle.sgm_rectify.specs.Places.{affine, entry, denominator, quotient, blended, in_cell};
@@ -101,8 +103,8 @@ fn share(p: u32, q: u32, coordinate: i32) -> i64
     weight(p, q) * coordinate as i64
 }
 
-/// The coordinate that lies `a` and `b` steps of `step` from the left and the upper nodes of a cell. The
-/// coordinates of its nodes are `upper` and `lower`, each from left to right.
+/// The coordinate that lies `a` and `b` steps of `step` from the left and the upper nodes of a
+/// cell. The coordinates of its nodes are `upper` and `lower`, each from left to right.
 fn blended(step: u32, a: u32, b: u32, upper: (i32, i32), lower: (i32, i32)) -> i64
     requires positive { 0 < step }
     requires step { step ≤ 1024 }

@@ -1,4 +1,5 @@
-ghost use Rattle.std.specs.Prelude.{◌≡◌, ℕ, ◌+◌, ◌*◌, ◌<◌, IfOk, Some, None, length, slice_index, slice_index_or};
+ghost use Rattle.std.specs.Prelude.{◌≡◌, ℕ, ◌+◌, ◌*◌, ◌<◌, IfOk, Some, None, length, slice_index};
+ghost use Rattle.std.specs.Prelude.{slice_index_or};
 ghost use Rattle.sgm_rectify.specs.Faults.{Suits};
 ghost use Rattle.sgm_rectify.specs.Rectified.{sides_of, rectified, rectified_values};
 
@@ -11,7 +12,9 @@ use std::alloc::{AllocError, Global};
 fn copy_row(image: &Image, y: u32, into: &mut [Option<u16>])
     requires row { y < image.now.height }
     requires whole { length into.old ≡ image.now.width }
-    ensures { (x : ℕ) → x < image.now.width → slice_index_or into.new x None ≡ Some (slice_index image.now.samples (y * image.now.width + x)) }
+    ensures { (x : ℕ) → x < image.now.width
+        → slice_index_or into.new x None
+        ≡ Some (slice_index image.now.samples (y * image.now.width + x)) }
 {
     let size = image.size();
     let at = y as usize * size.width as usize;
@@ -26,7 +29,8 @@ fn warp_row(image: &Image, warp: &Warp, y: u32, into: &mut [Option<u16>])
     requires warp { Suits warp.now (sides_of image.now) }
     requires row { y < image.now.height }
     requires whole { length into.old ≡ image.now.width }
-    ensures { (x : ℕ) → x < image.now.width → slice_index_or into.new x None ≡ rectified image.now warp.now x y }
+    ensures { (x : ℕ) → x < image.now.width
+        → slice_index_or into.new x None ≡ rectified image.now warp.now x y }
 {
     let width = image.size().width;
     for x in 0..width {
@@ -35,13 +39,15 @@ fn warp_row(image: &Image, warp: &Warp, y: u32, into: &mut [Option<u16>])
     }
 }
 
-/// Writes the row `y` of the rectified image: for each pixel the bilinear value of the source at the pixel's
-/// place, or None where a neighbour of non-zero weight lies outside the source. Takes no memory.
+/// Writes the row `y` of the rectified image: for each pixel the bilinear value of the source at
+/// the pixel's place, or None where a neighbour of non-zero weight lies outside the source. Takes
+/// no memory.
 pub fn rectify_row(image: &Image, warp: &Warp, y: u32, into: &mut [Option<u16>])
     requires warp { Suits warp.now (sides_of image.now) }
     requires row { y < image.now.height }
     requires whole { length into.old ≡ image.now.width }
-    ensures { (x : ℕ) → x < image.now.width → slice_index_or into.new x None ≡ rectified image.now warp.now x y }
+    ensures { (x : ℕ) → x < image.now.width
+        → slice_index_or into.new x None ≡ rectified image.now warp.now x y }
 {
     match warp {
         Warp::Identity => copy_row(image, y, into),

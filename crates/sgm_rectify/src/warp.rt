@@ -1,7 +1,9 @@
-ghost use Rattle.std.specs.Prelude.{◌≡◌, ◌<◌, pos, int_le, All, None, Some, option_map, MatchResult};
+ghost use Rattle.std.specs.Prelude.{◌≡◌, ◌<◌, pos, int_le, All, None, Some, option_map};
+ghost use Rattle.std.specs.Prelude.{MatchResult};
 ghost use Rattle.sgm_base.specs.Sides.{IsSide};
 ghost use Rattle.sgm_rectify.specs.declared.warp.WarpFault.TheVariants.{Denominator};
-ghost use Rattle.sgm_rectify.specs.Faults.{nodes_needed, mesh_fault, bad_corner, warp_fault, SuitsPixel};
+ghost use Rattle.sgm_rectify.specs.Faults.{nodes_needed, mesh_fault, bad_corner, warp_fault};
+ghost use Rattle.sgm_rectify.specs.Faults.{SuitsPixel};
 ghost use Rattle.sgm_base.specs.declared.limits.TheConstants.{MAX_SIDE};
 ghost use Rattle.sgm_rectify.specs.Places.{denominator, place_of};
 ghost use Rattle.sgm_rectify.specs.Warps.{IsEntry, IsWarp};
@@ -15,11 +17,11 @@ use sgm_base::Size;
 pub enum Warp {
     /// Each pixel from its own place.
     Identity,
-    /// A projective map of the plane, by the rows of its matrix from the top: entries from `MIN_ENTRY` to
-    /// `MAX_ENTRY`.
+    /// A projective map of the plane, by the rows of its matrix from the top: entries from
+    /// `MIN_ENTRY` to `MAX_ENTRY`.
     Projective([i64; 9]),
-    /// A mesh over the rectified image: a node at every `step` pixels, `cols` by `rows` of them, and between
-    /// the nodes by bilinear interpolation.
+    /// A mesh over the rectified image: a node at every `step` pixels, `cols` by `rows` of them,
+    /// and between the nodes by bilinear interpolation.
     Mesh {
         step: u32,
         cols: u32,
@@ -31,8 +33,8 @@ pub enum Warp {
 /// Why an image of a size can't be rectified by a warp.
 #[derive(Clone, Copy, PartialEq, Eq)]
 pub enum WarpFault {
-    /// The projective denominator is 0 or less at this corner, the first such: 0 is the upper left, 1 the
-    /// upper right, 2 the lower left and 3 the lower right.
+    /// The projective denominator is 0 or less at this corner, the first such: 0 is the upper left,
+    /// 1 the upper right, 2 the lower left and 3 the lower right.
     Denominator {
         corner: u32,
     },
@@ -57,7 +59,8 @@ fn nodes_needed(step: u32, side: u32) -> u32
 /// What is wrong with a mesh for an image of this size.
 fn mesh_fault(step: u32, cols: u32, rows: u32, size: Size) -> Option<WarpFault>
     requires { 0 < step }
-    ensures { result ≡ mesh_fault cols rows (nodes_needed step size.width) (nodes_needed step size.height) }
+    ensures { result
+        ≡ mesh_fault cols rows (nodes_needed step size.width) (nodes_needed step size.height) }
 {
     let need_cols = nodes_needed(step, size.width);
     let need_rows = nodes_needed(step, size.height);
@@ -133,7 +136,8 @@ impl Warp {
     /// Whether an image of this size can be rectified by the warp. Takes no memory.
     pub fn check(&self, size: Size) -> Result<(), WarpFault>
         requires { IsWarp self.now }
-        ensures { MatchResult result (λ _. warp_fault self.now size ≡ None) (λ fault. warp_fault self.now size ≡ Some fault) }
+        ensures { MatchResult result (λ _. warp_fault self.now size ≡ None)
+            (λ fault. warp_fault self.now size ≡ Some fault) }
     {
         match self.fault(size) {
             None => Ok(()),
@@ -141,8 +145,8 @@ impl Warp {
         }
     }
 
-    /// The source place (u, v) of the pixel (x, y), in 1/256 of a pixel, for a warp that passes `check` for a
-    /// size which has the pixel. Takes no memory.
+    /// The source place (u, v) of the pixel (x, y), in 1/256 of a pixel, for a warp that passes
+    /// `check` for a size which has the pixel. Takes no memory.
     pub fn place(&self, x: u32, y: u32) -> (i64, i64)
         requires { SuitsPixel self.now x y }
         ensures { result ≡ place_of self.now x y }

@@ -10,7 +10,7 @@ use Rattle.sgm_energy.specs.Dirs.{directions}
 use Rattle.sgm_energy.specs.Rays.{Pixel, pixel_at, before}
 use Rattle.sgm_refine.specs.Filling.{last_value, met_from, is_ranked, ranked, met, entry_taken, is_mismatched, filling, filled_value, filled, pixels_of}
 use Rattle.sgm_refine.specs.Refined.{refined}
-use Rattle.sgm_refine.specs.Refining.{Refining}
+use Rattle.sgm_base.specs.Refining.{Refining}
 use Rattle.sgm_refine.specs.Segments.{places, value_of, segment, kept_at, kept}
 
 -- no value above most

@@ -2,5 +2,4 @@ pub mod Filling
 pub mod Flooding
 pub mod Met
 pub mod Refined
-pub mod Refining
 pub mod Segments

@@ -1,7 +1,8 @@
-//! The values that are met from each pixel in the eight directions: the first ones on the way against the
-//! direction. Those of a row follow from those of the row before.
+//! The values that are met from each pixel in the eight directions: the first ones on the way
+//! against the direction. Those of a row follow from those of the row before.
 
-ghost use Rattle.std.specs.Prelude.{◌≡◌, ℕ, ◌+◌, ◌-◌, ◌*◌, ◌/◌, ◌%◌, ◌^◌, ◌<◌, ◌≤◌, length, map, slice_index_or, None, Some, EachIndex, IfSome};
+ghost use Rattle.std.specs.Prelude.{◌≡◌, ℕ, ◌+◌, ◌-◌, ◌*◌, ◌/◌, ◌%◌, ◌^◌, ◌<◌, ◌≤◌, length, map};
+ghost use Rattle.std.specs.Prelude.{slice_index_or, None, Some, EachIndex, IfSome};
 ghost use Rattle.sgm_energy.specs.declared.dir.Dir.TheVariants.{Right, Left};
 ghost use Rattle.sgm_energy.specs.Dirs.{directions};
 ghost use Rattle.sgm_energy.specs.Rays.{column_before, pixel_at};
@@ -25,18 +26,20 @@ pub const UPWARDS: [Dir; 3] = [Dir::Up, Dir::UpRight, Dir::UpLeft];
 fn carried_at(dir: Dir, values: &[Option<u16>], carried: &[Option<u16>], x: usize) -> Option<u16>
     requires column { x < length values.now }
     requires same_length { length carried.now ≡ length values.now }
-    ensures { result ≡ carried_from values.now carried.now (column_before dir (length values.now) x) }
+    ensures { result
+        ≡ carried_from values.now carried.now (column_before dir (length values.now) x) }
 {
     let q = dir.column_before(values.len(), x)?;
     values[q].or(carried[q])
 }
 
-/// Writes what is met from the pixels of a row, of the values of the row that the direction comes from
-/// and what is met from there.
+/// Writes what is met from the pixels of a row, of the values of the row that the direction comes
+/// from and what is met from there.
 fn carry_row(dir: Dir, values: &[Option<u16>], carried: &[Option<u16>], into: &mut [Option<u16>])
     requires values_length { length values.now ≡ length into.old }
     requires carried_length { length carried.now ≡ length into.old }
-    ensures { EachIndex into.new (λ x. slice_index_or into.new x None ≡ carried_from values.now carried.now (column_before dir (length values.now) x)) }
+    ensures { EachIndex into.new (λ x. slice_index_or into.new x None
+        ≡ carried_from values.now carried.now (column_before dir (length values.now) x)) }
 {
     for x in 0..into.len() {
         into[x] = carried_at(dir, values, carried, x);
@@ -85,8 +88,8 @@ pub fn meet_level(map: &DispMap, y: u32, into: &mut [Option<u16>])
     meet_left(map, y, left);
 }
 
-/// Writes what is met from the pixels of the row below `y` in the three downward directions, of what is
-/// met from those of the row `y`.
+/// Writes what is met from the pixels of the row below `y` in the three downward directions, of
+/// what is met from those of the row `y`.
 pub fn carry_down(map: &DispMap, y: u32, carried: &[Option<u16>], into: &mut [Option<u16>])
     requires row { y < map.now.height }
     requires carried_length { length carried.now ≡ 3 * map.now.width }
@@ -104,12 +107,14 @@ pub fn carry_down(map: &DispMap, y: u32, carried: &[Option<u16>], into: &mut [Op
     }
 }
 
-/// Writes the row `k` of those that [`meet_upwards`] writes, of the row of the same direction before it.
+/// Writes the row `k` of those that [`meet_upwards`] writes, of the row of the same direction
+/// before it.
 fn carry_up(map: &DispMap, k: u32, into: &mut [Option<u16>])
     requires later { 3 ≤ k }
     requires row { k < 3 * map.now.height }
     requires whole { length into.old ≡ 3 * map.now.height * map.now.width }
-    ensures { HoldMetUpwards map.now UPWARDS k into.old → HoldMetUpwards map.now UPWARDS (k + 1) into.new }
+    ensures { HoldMetUpwards map.now UPWARDS k into.old
+        → HoldMetUpwards map.now UPWARDS (k + 1) into.new }
 {
     let values = map.row(map.size().height - k / 3);
     let width = values.len();
@@ -120,8 +125,8 @@ fn carry_up(map: &DispMap, k: u32, into: &mut [Option<u16>])
     carry_row(UPWARDS[k as usize % 3], values, carried, here);
 }
 
-/// Writes what is met from all pixels in the three upward directions: three rows for each row of the map,
-/// the lowest row first.
+/// Writes what is met from all pixels in the three upward directions: three rows for each row of
+/// the map, the lowest row first.
 pub fn meet_upwards(map: &DispMap, into: &mut [Option<u16>])
     requires whole { length into.old ≡ 3 * map.now.height * map.now.width }
     requires none { EachIndex into.old (λ k. slice_index_or into.old k None ≡ None) }
@@ -132,8 +137,8 @@ pub fn meet_upwards(map: &DispMap, into: &mut [Option<u16>])
     }
 }
 
-/// What is met from the pixel of the column `x` in the eight directions, of the rows of level, downward and
-/// upward ones.
+/// What is met from the pixel of the column `x` in the eight directions, of the rows of level,
+/// downward and upward ones.
 pub fn met_at(
     level: &[Option<u16>],
     down: &[Option<u16>],
@@ -145,7 +150,8 @@ pub fn met_at(
     requires level_length { length level.now ≡ 2 * width }
     requires down_length { length down.now ≡ 3 * width }
     requires up_length { length up.now ≡ 3 * width }
-    ensures { (disparities : Values) (y : ℕ) → disparities.width ≡ width → HoldAllMet disparities LEVEL y level.now
+    ensures { (disparities : Values) (y : ℕ) → disparities.width ≡ width
+        → HoldAllMet disparities LEVEL y level.now
         → HoldAllMet disparities DOWNWARDS y down.now → HoldAllMet disparities UPWARDS y up.now
         → result ≡ map (met_from disparities (pixel_at x y)) directions }
 {

@@ -1,5 +1,6 @@
 -- The regions of a grid, and what may be their names.
-use Rattle.std.specs.Prelude.{ℕ, ◌+◌, ◌-◌, ◌≤◌, ◌==◌, ◌&&◌, ◌||◌, Bool, true, nat_le, List, [], ◌∷◌, length, ℤ, Option, None, Some, IfSome, IsTrue}
+use Rattle.std.specs.Prelude.{ℕ, ◌+◌, ◌-◌, ◌≤◌, ◌==◌, ◌&&◌, ◌||◌, Bool, true, nat_le, List, [], ◌∷◌}
+use Rattle.std.specs.Prelude.{length, ℤ, Option, None, Some, IfSome, IsTrue}
 use Rattle.std.specs.Char.{is_ascii_alphanumeric}
 use Rattle.std.specs.List.{list_all}
 use Rattle.sgm_grid.specs.declared.grid_spec.GridSpec.{GridSpec}
@@ -21,11 +22,13 @@ pub record Area : Type 0 where
 
 -- an ASCII letter, a digit, a space, or one of _ - .
 abbrev pub is_name_byte : ℕ → Bool
-is_name_byte byte = is_ascii_alphanumeric byte || (byte == 32) || (byte == 95) || (byte == 45) || (byte == 46)
+is_name_byte byte = is_ascii_alphanumeric byte || (byte == 32) || (byte == 95) || (byte == 45)
+    || (byte == 46)
 
 -- whether those bytes may be a region's name
 abbrev pub is_region_name : List ℕ → Bool
-is_region_name name = nat_le 1 (length name) && nat_le (length name) 64 && list_all is_name_byte name
+is_region_name name = nat_le 1 (length name) && nat_le (length name) 64
+    && list_all is_name_byte name
 
 abbrev pub IsRegionName : List ℕ → Type 0
 IsRegionName name = IsTrue (is_region_name name)

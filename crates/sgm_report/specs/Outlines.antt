@@ -1,7 +1,9 @@
 -- Which places an outline encloses: the even-odd rule, exact. An outline is a list of corners, each
 -- so far to the east and so far to the north in the grid's frame, in micrometres. Places are told
 -- doubled, as a cell's centre may lie half a micrometre from a whole one.
-use Rattle.std.specs.Prelude.{ℕ, ◌%◌, ◌≤◌, ◌==◌, ℤ, pos, neg_ℤ, ◌+ℤ◌, ◌-ℤ◌, ◌*ℤ◌, int_le, int_lt, Bool, ◌&&◌, not, if◌then◌else◌, List, ◌++◌, All, count_by, drop, length, take, zip}
+use Rattle.std.specs.Prelude.{ℕ, ◌%◌, ◌≤◌, ◌==◌, ℤ, pos, neg_ℤ, ◌+ℤ◌, ◌-ℤ◌, ◌*ℤ◌, int_le, int_lt}
+use Rattle.std.specs.Prelude.{Bool, ◌&&◌, not, if◌then◌else◌, List, ◌++◌, All, count_by, drop}
+use Rattle.std.specs.Prelude.{length, take, zip}
 use Rattle.sgm_base.specs.Ranges.{IsFromTo}
 use Rattle.sgm_grid.specs.declared.grid_spec.GridSpec.{GridSpec}
 use Rattle.sgm_grid.specs.declared.limits.TheConstants.{MAX_PLACE}

@@ -2,7 +2,8 @@
 use Rattle.std.specs.Prelude.{ℕ, ◌+◌, ◌*◌, ◌≤◌, ℤ, List, Option, Some, None, count_by, sum_by}
 use Rattle.std.specs.Int.{int_min}
 use Rattle.sgm_grid.specs.Points.{greatest}
-use Rattle.sgm_report.specs.Tallies.{above_base, below_base, has_height, heights_in, is_bridged, is_empty, least}
+use Rattle.sgm_report.specs.Tallies.{above_base, below_base, has_height, heights_in, is_bridged}
+use Rattle.sgm_report.specs.Tallies.{is_empty, least}
 use Rattle.sgm_report.specs.declared.volumes.RegionCell.{RegionCell}
 use Rattle.sgm_report.specs.declared.volumes.Sums.{Sums}
 

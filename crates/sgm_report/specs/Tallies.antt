@@ -1,5 +1,7 @@
 -- What is counted and added up over the cells of a region.
-use Rattle.std.specs.Prelude.{◌≡◌, ℕ, ◌*◌, ℤ, pos, ◌-ℤ◌, ◌≤ℤ◌, All, Contains, unsigned_abs, Bool, not, ◌&&◌, List, [], ◌∷◌, filter, fold, map, flat_map, filter_map, count_by, sum_by, is_some, is_none, Option, Some, None}
+use Rattle.std.specs.Prelude.{◌≡◌, ℕ, ◌*◌, ℤ, pos, ◌-ℤ◌, ◌≤ℤ◌, All, Contains, unsigned_abs, Bool}
+use Rattle.std.specs.Prelude.{not, ◌&&◌, List, [], ◌∷◌, filter, fold, map, flat_map, filter_map}
+use Rattle.std.specs.Prelude.{count_by, sum_by, is_some, is_none, Option, Some, None}
 use Rattle.std.specs.Int.{int_max, int_min}
 use Rattle.std.specs.List.{range_with_len}
 use Rattle.sgm_grid.specs.Cells.{Cells, height_at}
@@ -99,4 +101,5 @@ IsLowest heights (Some lowest) = Contains heights lowest × All (λ height. lowe
 -- the greatest of some heights, and none exactly where there are none
 abbrev pub IsHighest : List ℤ → Option ℤ → Type 0
 IsHighest heights None = heights ≡ []
-IsHighest heights (Some highest) = Contains heights highest × All (λ height. height ≤ℤ highest) heights
+IsHighest heights (Some highest) = Contains heights highest
+    × All (λ height. height ≤ℤ highest) heights

@@ -1,8 +1,10 @@
 -- What is known of the csv writer between two rows.
-use Rattle.std.specs.Prelude.{◌≡◌, ℕ, ◌==◌, false, List, ◌++◌, ◌∷◌, flat_map, Vec, IsTrue, if◌then◌else◌}
+use Rattle.std.specs.Prelude.{◌≡◌, ℕ, ◌==◌, false, List, ◌++◌, ◌∷◌, flat_map, Vec, IsTrue}
+use Rattle.std.specs.Prelude.{if◌then◌else◌}
 use Rattle.std.specs.List.{list_all}
 use Rattle.std.specs.declared.alloc.Global.{Global}
-use Rattle.csv.specs.Writing.{default_writer, fields_written, has_written, writer_pending, writer_setup, writer_under}
+use Rattle.csv.specs.Writing.{default_writer, fields_written, has_written, writer_pending}
+use Rattle.csv.specs.Writing.{writer_setup, writer_under}
 use Rattle.csv.specs.declared.writer.Writer.{Writer}
 use Rattle.sgm_report.specs.Areas.{is_name_byte}
 

@@ -1,11 +1,13 @@
 //! Which cells of a row an outline encloses, edge by edge.
 
-ghost use Rattle.std.specs.Prelude.{◌≡◌, ◌+◌, ◌^◌, ◌<◌, ◌≤◌, ℕ, pos, ◌+ℤ◌, ◌-ℤ◌, ◌*ℤ◌, ◌<ℤ◌, All, get_or, int_lt, length, map, nat_lt, not};
+ghost use Rattle.std.specs.Prelude.{◌≡◌, ◌+◌, ◌^◌, ◌<◌, ◌≤◌, ℕ, pos, ◌+ℤ◌, ◌-ℤ◌, ◌*ℤ◌, ◌<ℤ◌, All};
+ghost use Rattle.std.specs.Prelude.{get_or, int_lt, length, map, nat_lt, not};
 ghost use Rattle.std.specs.List.{range_with_len};
 ghost use Rattle.sgm_base.specs.Ranges.{IsFromTo, Within};
 ghost use Rattle.sgm_grid.specs.Cells.{IsGridSpec};
 ghost use Rattle.sgm_grid.specs.declared.limits.TheConstants.{MAX_CELL};
-ghost use Rattle.sgm_report.specs.Outlines.{IsCorner, IsOutline, centre_east, centre_north, edges, encloses, is_reached, passes_east};
+ghost use Rattle.sgm_report.specs.Outlines.{IsCorner, IsOutline, centre_east, centre_north, edges};
+ghost use Rattle.sgm_report.specs.Outlines.{encloses, is_reached, passes_east};
 
 use crate::base::twice_way;
 use sgm_grid::GridSpec;

@@ -1,7 +1,8 @@
 ghost use Rattle.std.specs.Prelude.{◌≡◌, ◌+◌, ◌<◌, map, length};
 ghost use Rattle.std.specs.List.{list_all};
 ghost use Rattle.sgm_grid.specs.Cells.{IsGridSpec};
-ghost use Rattle.sgm_report.specs.Areas.{IsArea, LiesIn, has_base, is_name_byte, is_region_name, lies_inside};
+ghost use Rattle.sgm_report.specs.Areas.{IsArea, LiesIn, has_base, is_name_byte, is_region_name};
+ghost use Rattle.sgm_report.specs.Areas.{lies_inside};
 ghost use Rattle.sgm_report.specs.Bases.{IsBasePlane};
 ghost use Rattle.sgm_report.specs.Tallies.{cols_of};
 

@@ -1,8 +1,10 @@
 ghost use Rattle.std.specs.Prelude.{◌≡◌, ◌+◌, ◌<◌, ◌≤◌, ◌++◌, IfOk, OnOk, OnErr, All, length};
 ghost use Rattle.csv.specs.Writing.{default_writer, fields_written, writer_setup};
 ghost use Rattle.sgm_report.specs.Areas.{IsRegionName};
-ghost use Rattle.sgm_report.specs.Table.{bridged_field, end_field, fields_line, head_line, region_fields, table_text};
-ghost use Rattle.sgm_report.specs.Writers.{IsPlain, IsBetweenRows, later_fields, next_field, text_of};
+ghost use Rattle.sgm_report.specs.Table.{bridged_field, end_field, fields_line, head_line};
+ghost use Rattle.sgm_report.specs.Table.{region_fields, table_text};
+ghost use Rattle.sgm_report.specs.Writers.{IsPlain, IsBetweenRows, later_fields, next_field};
+ghost use Rattle.sgm_report.specs.Writers.{text_of};
 
 use crate::{Region, RegionTally};
 use csv::{Error, Writer, WriterBuilder};
@@ -156,7 +158,8 @@ fn write_field(writer: &mut Writer<Vec<u8>>, field: &[u8]) -> Result<(), Error>
     ensures setup { OnOk result (writer_setup writer.new ≡ default_writer) }
     ensures count { OnOk result (fields_written writer.new ≡ fields_written writer.old + 1) }
     ensures text { OnOk result
-        (text_of writer.new ≡ text_of writer.old ++ next_field (fields_written writer.old) field.now) }
+        (text_of writer.new
+        ≡ text_of writer.old ++ next_field (fields_written writer.old) field.now) }
 {
     writer.write_field(field)
 }

@@ -1,4 +1,5 @@
-ghost use Rattle.std.specs.Prelude.{◌≡◌, ◌+◌, ◌<◌, ◌≤◌, ◌++◌, ◌∷◌, [], ℕ, pos, List, All, IfOk, length, map};
+ghost use Rattle.std.specs.Prelude.{◌≡◌, ◌+◌, ◌<◌, ◌≤◌, ◌++◌, ◌∷◌, [], ℕ, pos, List, All, IfOk};
+ghost use Rattle.std.specs.Prelude.{length, map};
 ghost use Rattle.std.specs.Option.{ForSome};
 ghost use Rattle.sgm_grid.specs.Cells.{IsGridSpec, IsHeight, height_at};
 ghost use Rattle.sgm_base.specs.Ranges.{IsFromTo};

@@ -1,6 +1,8 @@
 //! The index at which a pixel's sum is least, in the left row and in the right one.
 
-ghost use Rattle.std.specs.Prelude.{◌≡◌, ℕ, ◌+◌, ◌-◌, ◌*◌, ◌%◌, ◌^◌, ◌<◌, ◌≤◌, ◌&&◌, ◌==◌, ℤ, pos, ◌+ℤ◌, length, slice_index, slice_get, nat_le, nat_lt, min, Some, None, EachIndex, All, if◌then◌else◌};
+ghost use Rattle.std.specs.Prelude.{◌≡◌, ℕ, ◌+◌, ◌-◌, ◌*◌, ◌%◌, ◌^◌, ◌<◌, ◌≤◌, ◌&&◌, ◌==◌, ℤ, pos};
+ghost use Rattle.std.specs.Prelude.{◌+ℤ◌, length, slice_index, slice_get, nat_le, nat_lt, min};
+ghost use Rattle.std.specs.Prelude.{Some, None, EachIndex, All, if◌then◌else◌};
 ghost use Rattle.sgm_base.specs.Columns.{column_within};
 ghost use Rattle.sgm_select.specs.Keys.{key_of, HoldsKeys};
 ghost use Rattle.sgm_select.specs.Rows.{base_in, matched_in};
@@ -13,8 +15,8 @@ const COLUMNS: usize = MAX_SIDE as usize;
 /// Above every key.
 const NO_KEY: u32 = u32::MAX;
 
-/// A number for a sum and its index, by which pairs are ordered by their sums, and by the indices where
-/// these are equal. So the least key is that of the least index at which the sum is least.
+/// A number for a sum and its index, by which pairs are ordered by their sums, and by the indices
+/// where these are equal. So the least key is that of the least index at which the sum is least.
 #[inline]
 fn key(sum: u16, index: u32) -> u32
     requires { index < MAX_COUNT }
@@ -29,7 +31,8 @@ fn base_at(sums: &[u16]) -> u16
     requires some { 0 < length sums.now }
     requires few { length sums.now ≤ MAX_COUNT }
     ensures inside { result < length sums.now }
-    ensures low { (d : ℕ) → d < length sums.now → slice_index sums.now result ≤ slice_index sums.now d }
+    ensures low { (d : ℕ) → d < length sums.now
+        → slice_index sums.now result ≤ slice_index sums.now d }
     ensures first { (d : ℕ) → d < result → slice_index sums.now result < slice_index sums.now d }
 {
     let mut least = key(sums[0], 0);
@@ -54,16 +57,16 @@ fn base_each(sums: &[u16], count: usize, into: &mut [u16])
     }
 }
 
-/// Writes, for each pixel of the left row, the least index at which its sum is least. The sum of the
-/// column x and the index d stands at `x * count + d`. Takes no memory.
+/// Writes, for each pixel of the left row, the least index at which its sum is least. The sum of
+/// the column x and the index d stands at `x * count + d`. Takes no memory.
 pub fn base_row(sums: &[u16], count: usize, into: &mut [u16])
     requires count_range { (1 ≤ count) × (count ≤ MAX_COUNT) }
     requires lengths { length sums.now ≡ length into.old * count }
     ensures each { EachIndex into.new (λ x. slice_index into.new x ≡ base_in sums.now count x) }
     ensures below { All (λ b. b < count) into.new }
 {
-    // The numbers of indices that most pictures ask for are compiled apart, so that the loop over them is
-    // unrolled there.
+    // The numbers of indices that most pictures ask for are compiled apart, so that the loop over
+    // them is unrolled there.
     match count {
         64 => base_each(sums, 64, into),
         128 => base_each(sums, 128, into),
@@ -76,7 +79,9 @@ fn places(len: usize, count: usize, shift: i64) -> Overlap
     ensures indices { result.skipped + result.len ≤ count }
     ensures inside { result.start + result.len ≤ len }
     ensures each { (d : ℕ) → d < count → column_within len (shift +ℤ pos d)
-        ≡ (if nat_le result.skipped d && nat_lt d (result.skipped + result.len) then Some (result.start + (d - result.skipped)) else None) }
+        ≡ (if nat_le result.skipped d
+        && nat_lt d (result.skipped + result.len) then Some (result.start + (d - result.skipped))
+        else None) }
 {
     let (before, start) = if shift < 0 {
         (shift.unsigned_abs() as usize, 0)
@@ -93,13 +98,14 @@ fn places(len: usize, count: usize, shift: i64) -> Overlap
     }
 }
 
-/// Replaces each key by that of the sum at its place, where that is less. The first sum has the index
-/// `skipped`.
+/// Replaces each key by that of the sum at its place, where that is less. The first sum has the
+/// index `skipped`.
 fn lower(keys: &mut [u32], sums: &[u16], skipped: usize)
     requires same_length { length sums.now ≡ length keys.old }
     requires indices { skipped + length sums.now ≤ MAX_COUNT }
     ensures { EachIndex keys.new (λ k.
-        slice_index keys.new k ≡ min (slice_index keys.old k) (key_of (slice_index sums.now k) (skipped + k))) }
+        slice_index keys.new k
+        ≡ min (slice_index keys.old k) (key_of (slice_index sums.now k) (skipped + k))) }
 {
     // As narrow as the keys, so that as many lanes hold it.
     let first = skipped as u32;
@@ -114,9 +120,11 @@ fn lower_some(keys: &mut [u32], sums: &[u16], there: Overlap)
     requires few { length sums.now ≤ MAX_COUNT }
     requires places { there.start + there.len ≤ length keys.old }
     ensures here { (k : ℕ) → k < there.len → slice_index keys.new (there.start + k)
-        ≡ min (slice_index keys.old (there.start + k)) (key_of (slice_index sums.now (there.skipped + k)) (there.skipped + k)) }
+        ≡ min (slice_index keys.old (there.start + k))
+        (key_of (slice_index sums.now (there.skipped + k)) (there.skipped + k)) }
     ensures before { (m : ℕ) → m < there.start → slice_index keys.new m ≡ slice_index keys.old m }
-    ensures after { (m : ℕ) → there.start + there.len ≤ m → slice_index keys.new m ≡ slice_index keys.old m }
+    ensures after { (m : ℕ) → there.start + there.len ≤ m
+        → slice_index keys.new m ≡ slice_index keys.old m }
 {
     let (_, rest) = keys.split_at_mut(there.start);
     let (some, _) = rest.split_at_mut(there.len);
@@ -127,8 +135,8 @@ fn lower_some(keys: &mut [u32], sums: &[u16], there: Overlap)
     );
 }
 
-/// Where the index 0 of the column `p` of the left row would stand among so many columns of the right row,
-/// from `from` on, which stand from right to left.
+/// Where the index 0 of the column `p` of the left row would stand among so many columns of the
+/// right row, from `from` on, which stand from right to left.
 fn shift(from: usize, len: usize, span: Span, p: usize) -> i64
     requires columns { from + len < 2 ^ 61 }
     requires column { p < 2 ^ 61 }
@@ -137,9 +145,9 @@ fn shift(from: usize, len: usize, span: Span, p: usize) -> i64
     (from + len) as i64 + i64::from(span.first) - (p + 1) as i64
 }
 
-/// Lowers the keys of so many columns of the right row, of which `from` is the leftmost, by all sums. The
-/// columns stand from right to left, so that the sums of one pixel of the left row count at places that
-/// stand in order.
+/// Lowers the keys of so many columns of the right row, of which `from` is the leftmost, by all
+/// sums. The columns stand from right to left, so that the sums of one pixel of the left row count
+/// at places that stand in order.
 fn lower_all(keys: &mut [u32], sums: &[u16], width: usize, span: Span, from: usize)
     requires lengths { length sums.now ≡ width * span.count }
     requires columns { from + length keys.old ≤ width }
@@ -173,7 +181,8 @@ fn match_some(sums: &[u16], width: usize, span: Span, from: usize, into: &mut [O
     requires columns { from + length into.old ≤ width }
     requires wide { width < 2 ^ 61 }
     requires few { length into.old ≤ COLUMNS }
-    ensures { EachIndex into.new (λ k. slice_get into.new k ≡ Some (matched_in sums.now width span.first span.count (from + k))) }
+    ensures { EachIndex into.new (λ k. slice_get into.new k
+        ≡ Some (matched_in sums.now width span.first span.count (from + k))) }
 {
     let mut room = [NO_KEY; COLUMNS];
     let len = into.len();
@@ -184,12 +193,13 @@ fn match_some(sums: &[u16], width: usize, span: Span, from: usize, into: &mut [O
     }
 }
 
-/// Writes, for each pixel q of the right row, the least index at which the sum of the left row's pixel
-/// `q + first + d` and the index d is least, over those d whose pixel lies in the row, and None where
-/// there is none. The sums stand as for `base_row`. Takes no memory.
+/// Writes, for each pixel q of the right row, the least index at which the sum of the left row's
+/// pixel `q + first + d` and the index d is least, over those d whose pixel lies in the row, and
+/// None where there is none. The sums stand as for `base_row`. Takes no memory.
 pub fn match_row(sums: &[u16], span: Span, into: &mut [Option<u16>])
     requires { length sums.now ≡ length into.old * span.count }
-    ensures { EachIndex into.new (λ q. slice_get into.new q ≡ Some (matched_in sums.now (length into.new) span.first span.count q)) }
+    ensures { EachIndex into.new (λ q. slice_get into.new q
+        ≡ Some (matched_in sums.now (length into.new) span.first span.count q)) }
 {
     let width = into.len();
     for block in 0..width.div_ceil(COLUMNS) {

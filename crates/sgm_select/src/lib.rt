@@ -1,6 +1,6 @@
 //! Selection: for each pixel of a row the index at which its sum is least, the check from left to
-//! right, which keeps those of both images that agree, and the disparity between whole indices, by the
-//! sums beside the least one; by rows, and for all strips of a scene.
+//! right, which keeps those of both images that agree, and the disparity between whole indices, by
+//! the sums beside the least one; by rows, and for all strips of a scene.
 #![tactic(auto)]
 
 mod check;

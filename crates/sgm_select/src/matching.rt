@@ -1,6 +1,7 @@
 //! From the sums of all strips to the matches of the right image, strip by strip.
 
-ghost use Rattle.std.specs.Prelude.{◌≡◌, ℕ, ◌+◌, ◌*◌, ◌<◌, ◌≤◌, All, IfOk, IfSome, length, map, slice_index_or, None, EachIndex, option_map};
+ghost use Rattle.std.specs.Prelude.{◌≡◌, ℕ, ◌+◌, ◌*◌, ◌<◌, ◌≤◌, All, IfOk, IfSome, length, map};
+ghost use Rattle.std.specs.Prelude.{slice_index_or, None, EachIndex, option_map};
 ghost use Rattle.sgm_energy.specs.Energies.{path_sum};
 ghost use Rattle.sgm_energy.specs.Rays.{Problem};
 ghost use Rattle.sgm_energy.specs.Rows.{HoldsRow};
@@ -32,8 +33,10 @@ fn sixteen_times(index: Option<u16>, count: u32) -> Option<u16>
 fn match_sixteenths(sums: &[u16], span: Span, indices: &mut [Option<u16>], into: &mut [Option<u16>])
     requires indices_length { length indices.old ≡ length into.old }
     requires sums_length { length sums.now ≡ length into.old * span.count }
-    ensures { (g : Problem) (y : ℕ) → g.count ≡ span.count → g.width ≡ length into.old → HoldsRow g y (path_sum g) sums.now
-        → EachIndex into.new (λ q. slice_index_or into.new q None ≡ option_map (λ d. 16 * d) (matched g span.first q y)) }
+    ensures { (g : Problem) (y : ℕ) → g.count ≡ span.count → g.width ≡ length into.old
+        → HoldsRow g y (path_sum g) sums.now
+        → EachIndex into.new (λ q. slice_index_or into.new q None
+        ≡ option_map (λ d. 16 * d) (matched g span.first q y)) }
 {
     let count = span.count;
     match_row(sums, span, indices);
@@ -52,7 +55,8 @@ fn match_at(
 )
     requires sums_length { length sums.now ≡ length indices.old * span.count }
     requires inside { (place + 1) * length indices.old ≤ length into.old }
-    ensures { (g : Problem) (top y : ℕ) → g.count ≡ span.count → g.width ≡ length indices.old → y ≡ top + place
+    ensures { (g : Problem) (top y : ℕ) → g.count ≡ span.count → g.width ≡ length indices.old
+        → y ≡ top + place
         → HoldsRow g y (path_sum g) sums.now → HoldsMatchesFrom g span.first top place into.old
         → HoldsMatchesFrom g span.first top (place + 1) into.new }
 {
@@ -66,9 +70,11 @@ fn match_at(
 fn match_rows(parcel: &Parcel, indices: &mut [Option<u16>], into: &mut [Option<u16>])
     requires complete { IsComplete parcel.now.done }
     requires indices_length { length indices.old ≡ parcel.now.scene.left.width }
-    requires whole { length into.old ≡ rows_of parcel.now.cut parcel.now.strip * parcel.now.scene.left.width }
+    requires whole { length into.old
+        ≡ rows_of parcel.now.cut parcel.now.strip * parcel.now.scene.left.width }
     ensures { HoldsMatchesFrom (problem_of parcel.now.scene) parcel.now.scene.span.first
-        (first_row parcel.now.cut parcel.now.strip) (rows_of parcel.now.cut parcel.now.strip) into.new }
+        (first_row parcel.now.cut parcel.now.strip)
+        (rows_of parcel.now.cut parcel.now.strip) into.new }
 {
     let cut = parcel.cut();
     let strip = parcel.strip();
@@ -87,7 +93,8 @@ fn match_strip(alloc: Global, width: usize, parcel: &Parcel) -> Result<Vec<Optio
     requires some { 0 < width }
     requires complete { IsComplete parcel.now.done }
     ensures exact { IfOk result (λ rows. rows.items ≡ rows_of_strip
-        (matches_of (problem_of parcel.now.scene) parcel.now.scene.span.first) parcel.now.cut parcel.now.strip) }
+        (matches_of (problem_of parcel.now.scene) parcel.now.scene.span.first) parcel.now.cut
+        parcel.now.strip) }
 {
     let rows = parcel.cut().rows(parcel.strip()) as usize;
     let mut indices = vec![in alloc; None; width]?;
@@ -104,7 +111,8 @@ fn match_strips(
 ) -> Result<Vec<Vec<Option<u16>>>, AllocError>
     requires parcels { AreComplete scene.now parcels.now }
     ensures { (cut : CutParts) → AreStrips scene.now cut parcels.now → IfOk result (λ v. AreRowsOf
-        (matches_of (problem_of scene.now) scene.now.span.first) cut (map (λ rows. rows.items) v.items)) }
+        (matches_of (problem_of scene.now) scene.now.span.first) cut
+        (map (λ rows. rows.items) v.items)) }
 {
     let width = scene.size().width as usize;
     let mut strips = Vec::with_capacity(alloc, parcels.len())?;
@@ -115,9 +123,9 @@ fn match_strips(
     Ok(strips)
 }
 
-/// The match of each pixel of the right image, in sixteenths: 16 times the index at which the sum of the
-/// pixel that it gives is least, of those whose pixel lies in the row, and None where there is none. The
-/// parcels are all strips of the scene in order, each complete.
+/// The match of each pixel of the right image, in sixteenths: 16 times the index at which the sum
+/// of the pixel that it gives is least, of those whose pixel lies in the row, and None where there
+/// is none. The parcels are all strips of the scene in order, each complete.
 pub fn matches(alloc: Global, scene: &Scene, parcels: &[Parcel]) -> Result<DispMap, AllocError>
     requires parcels { AreComplete scene.now parcels.now }
     ensures exact { IfOk result (λ m. m ≡ matches_of (problem_of scene.now) scene.now.span.first) }

@@ -160,15 +160,6 @@ stop_counts n m list entries at before now c = counts_by list entries (n + at.pl
 pub stop_within : (entries : List EntryNames) (at : TurnsStop) (before now : Faults) → TurnsCounts {T = Unit {0}} entries (Err at) before now → at.place < length entries
 stop_within entries at before now c = slice_get_within entries at.place c.0 c.1
 
--- the counts since the start, where none changed before
-pub shown_since : (reads writes : Counts) (out : ℕ) (reads' writes' : Counts) (out' : ℕ) (P : Faults → Type 0) → reads' ≡ reads → writes' ≡ writes → out' ≡ out →
-    P (faults reads' writes' out') → P (faults reads writes out)
-shown_since reads writes out reads' writes' out' P r w o p =
-    let P1 : Counts → Type 0 = λ x. P (faults x writes' out') in
-    let P2 : Counts → Type 0 = λ x. P (faults reads x out') in
-    let P3 : ℕ → Type 0 = λ x. P (faults reads writes x) in
-    subst P3 o (subst P2 w (subst P1 r p))
-
 -- ---- some verdicts for any answers
 
 abbrev verdict_for : EntryNames → Result MadeTexts TextsError → Verdict

@@ -16,7 +16,7 @@ use Rattle.sgm_app.specs.declared.made.MadeTexts.{MadeTexts}
 use Rattle.sgm_app.specs.declared.stops.TextsError.{TextsError}
 use Rattle.sgm_series.specs.Plans.{AreVerdicts, EntryCallsFor, IsJudged, names_for}
 use Rattle.sgm_series.specs.Answers.{IsAnswerOf}
-use Rattle.sgm_series.specs.Batches.{AreInputsOf, AreInputsAt, IsFetched, IsReadable, HasEntry, PlaceShown, PlaceCounts}
+use Rattle.sgm_series.specs.Batches.{AreInputsOf, AreInputsAt, IsBatch, IsFetched, IsReadable, HasEntry, PlaceShown, PlaceCounts}
 use Rattle.sgm_series.specs.Turned.{BatchShown, BatchCounts}
 use Rattle.sgm_series.specs.Turns.{IsReached, AtEntry}
 use Rattle.sgm_series.specs.declared.making.Batch.{Batch}
@@ -35,13 +35,6 @@ push_get (z ∷ xs) x y (suc k) e = elim (push_get xs x y k e) [ inl found ↦ i
 abbrev pub AnswerThese : List EntryNames → Held → List (Result MadeTexts TextsError) → Type 0
 AnswerThese entries held answers = (place : ℕ) (entry : EntryNames) (made : Result MadeTexts TextsError)
     → slice_get entries place ≡ Some entry → slice_get answers place ≡ Some made → IsAnswerOf entry held made
-
--- a batch of which the first n entries are fetched
-pub record IsBatch (n : ℕ) (batch : Batch) : Type 0 where
-  pub count : length batch.answers.items ≡ n
-  pub pairs : length batch.places.items ≡ length batch.inputs.items
-  pub few : length batch.inputs.items ≤ n
-  pub places : All (λ place. place < n) batch.places.items
 
 all_below : (n : ℕ) (places : List ℕ) → All (λ place. place < n) places → All (λ place. place < n + 1) places
 all_below n places below = λ k d lt. let h = below k d lt in omega (arith, h)

@@ -12,7 +12,7 @@ use Rattle.sgm_series.specs.Words.{ListWords, series_words}
 use Rattle.sgm_series.specs.Counted.{SeriesCounts, EntryCounts}
 use Rattle.sgm_series.specs.Ends.{EntriesShow, HadTurns, SeriesOut, SeriesShownBy}
 use Rattle.sgm_series.specs.Plans.{Plan, usage, no_list, faulty, series, AreVerdicts, EntriesCallFor, ListCallsFor, ReadCallsFor, SeriesCallsFor, verdicts_of, entries_in, is_refused, IsJudged}
-use Rattle.sgm_series.specs.Received.{Received}
+use Rattle.sgm_series.specs.Received.{IsWhole, Received}
 use Rattle.sgm_series.specs.Stands.{SeriesPut, IsListed, IsListEnd, IsListOutcome, ListCounts, outcome_for}
 use Rattle.sgm_series.specs.Turns.{files_for, summaries_for, lines_for}
 use Rattle.sgm_series.specs.declared.words.SeriesUsage.{SeriesUsage}
@@ -58,8 +58,11 @@ list_along list name outcome before now is counts = let P : List ℕ → Type 0 
 
 -- ---- where a series ended before its first entry
 
-none_received : (whole : Bool) (err : List ℕ) → whole ≡ true → Received whole [] err err
+pub none_received : (whole : Bool) (err : List ℕ) → whole ≡ true → Received whole [] err err
 none_received whole err is = subst (λ (b : Bool). Received b [] err err) (sym is) (sym (append-nil err))
+
+pub whole_at_first : (whole : Bool) (count : ℕ) → whole ≡ true → IsWhole whole count count
+whole_at_first whole count is = subst (λ (b : Bool). IsWhole b count count) (sym is) refl
 
 pub list_stands : (outcome : SeriesOutcome) (vs : List Verdict) (old now : Held) (out err : List ℕ) (whole : Bool) → IsListOutcome outcome → now ≡ old → whole ≡ true
     → HadTurns outcome (length vs) 0 × SeriesPut outcome 0 vs old now × SeriesOut outcome 0 vs out out × Received whole (lines_for (take 0 vs)) err err

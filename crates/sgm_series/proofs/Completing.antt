@@ -6,7 +6,7 @@ use Rattle.std.proofs.lemmas.Bool.{cases_lt}
 use Rattle.std.proofs.lemmas.List.Elements.{Contains-append_left, Contains-append_right}
 use Rattle.sgm_io.specs.Held.{Held}
 use Rattle.sgm_io.specs.Counts.{Rose}
-use Rattle.sgm_refine.specs.Refining.{plain}
+use Rattle.sgm_base.specs.Refining.{plain}
 use Rattle.sgm_words.specs.Operands.{Operands, IsPairInput, IsInputName, IsOutputName}
 use Rattle.sgm_words.specs.declared.files.Input.{Input}
 use Rattle.sgm_words.specs.declared.files.Input.TheVariants as input

@@ -1,7 +1,7 @@
 -- An entry as it is fetched.
 use Rattle.std.proofs.Common.{◌≡◌, ℕ, inl, inr, refl, sym, subst, Result, Ok, Err}
 use Rattle.sgm_io.specs.Held.{Held}
-use Rattle.sgm_refine.specs.Refining.{plain}
+use Rattle.sgm_base.specs.Refining.{plain}
 use Rattle.sgm_words.specs.Operands.{Operands, FileNames}
 use Rattle.sgm_words.specs.declared.files.Input.{Input}
 use Rattle.sgm_list.specs.Entries.{EntryNames}

@@ -8,10 +8,14 @@ pub mod Holding
 pub mod Keeping
 pub mod Leaving
 pub mod ListEnds
+pub mod ManyBatches
+pub mod ManyTurns
 pub mod NoClash
 pub mod OnePlan
+pub mod OneTurn
 pub mod Places
 pub mod Placing
+pub mod PlanEnding
 pub mod Proper
 pub mod Receiving
 pub mod Slices

@@ -6,7 +6,7 @@ use Rattle.std.proofs.lemmas.Slice.Eq.{bytes_eq-Decides}
 use Rattle.std.proofs.lemmas.List.{take_at, length-append}
 use Rattle.std.proofs.lemmas.List.Elements.{All-contains}
 use Rattle.sgm_io.specs.Held.{Held}
-use Rattle.sgm_refine.specs.Refining.{plain}
+use Rattle.sgm_base.specs.Refining.{plain}
 use Rattle.sgm_words.specs.Operands.{Operands, IsOutputName, is_plain}
 use Rattle.sgm_words.specs.declared.files.Input.{Input}
 use Rattle.sgm_words.specs.declared.files.Input.TheVariants as input

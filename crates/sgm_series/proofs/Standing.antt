@@ -2,7 +2,8 @@
 use Rattle.std.proofs.Common.{◌≡◌, inl, inr, ◌⊎◌, ℕ, ◌≤◌, arith, List, [], ◌++◌, refl, sym, ap, subst, ◌∙◌, Option, None, Some, Result, Ok, Err, take, length, Bool, true, false, append_assoc}
 use Rattle.sgm_io.specs.Counts.{Rose}
 use Rattle.sgm_io.specs.Held.{Held, IsPrefix}
-use Rattle.sgm_io.specs.Sink.{GrowsByPrefix}
+use Rattle.sgm_io.specs.Sink.{GrowsByPrefix, SinkFaults, WritesWhole}
+use Rattle.sgm_io.specs.declared.sink.SinkError.{SinkError}
 use Rattle.sgm_list.specs.Clashes.{first_clash}
 use Rattle.sgm_outcome.specs.Lines.{TakesLine}
 use Rattle.sgm_outcome.specs.declared.outcome.Outcome.TheVariants as run
@@ -16,7 +17,7 @@ use Rattle.sgm_list.specs.declared.fault.ListFault.{ListFault}
 use Rattle.sgm_series.specs.Words.{ListWords, series_words}
 use Rattle.sgm_series.specs.Plans.{Plan, usage, no_list, faulty, series, AreVerdicts, EntriesCallFor, ListCallsFor, ReadCallsFor, SeriesCallsFor, verdicts_of}
 use Rattle.sgm_series.specs.declared.words.SeriesUsage.{SeriesUsage}
-use Rattle.sgm_series.specs.Received.{Received, IsWhole}
+use Rattle.sgm_series.specs.Received.{Received, IsWhole, TakesLast}
 use Rattle.sgm_series.specs.Stands.{SeriesPut}
 use Rattle.sgm_series.specs.declared.outcome.SeriesOutcome.{SeriesOutcome}
 use Rattle.sgm_series.specs.declared.outcome.SeriesOutcome.TheVariants.{Done, Usage, RefusedList, SomeRefused, ListUnread, ReadFault, WriteFault, NoMemory}
@@ -38,12 +39,12 @@ module _ (list : List ℕ) (entries : List EntryNames) (none : first_clash list 
 -- ---- lines
 
 -- all lines and the whole of the last one, or the beginning of it, since whole counts
-pub line_added : (lines line : List ℕ) (start mid now : ℕ) (old between new : List ℕ) → mid ≡ start → between ≡ old ++ lines → new ≡ between ++ line →
+line_added : (lines line : List ℕ) (start mid now : ℕ) (old between new : List ℕ) → mid ≡ start → between ≡ old ++ lines → new ≡ between ++ line →
     TakesLine (lines ++ line) start now old new
 line_added lines line start mid now old between new same before step =
     inl (step ∙ ap (λ (x : List ℕ). x ++ line) before ∙ append_assoc old lines line)
 
-pub line_begun : (lines line : List ℕ) (start mid now : ℕ) (old between new : List ℕ) → mid ≡ start → between ≡ old ++ lines → Rose mid now → GrowsByPrefix line between new →
+line_begun : (lines line : List ℕ) (start mid now : ℕ) (old between new : List ℕ) → mid ≡ start → between ≡ old ++ lines → Rose mid now → GrowsByPrefix line between new →
     TakesLine (lines ++ line) start now old new
 line_begun lines line start mid now old between new same before rose grows =
     let P : ℕ → Type 0 = λ n. Rose n now in
@@ -57,7 +58,7 @@ line_begun lines line start mid now old between new same before rose grows =
     )
 
 -- nothing more was given
-pub line_left : (lines line : List ℕ) (start now : ℕ) (old new : List ℕ) → Rose start now → GrowsByPrefix lines old new → TakesLine (lines ++ line) start now old new
+line_left : (lines line : List ℕ) (start now : ℕ) (old new : List ℕ) → Rose start now → GrowsByPrefix lines old new → TakesLine (lines ++ line) start now old new
 line_left lines line start now old new rose grows =
     inr (
       rose,
@@ -101,16 +102,25 @@ by_read held p (Ok words) calls = by_held words.list held p (held words.list) ca
 pub plan_stands : (words : List (List ℕ)) (held : Held) (p : Plan) → SeriesCallsFor words held p → PlanStands held p
 plan_stands words held p calls = by_read held p (series_words words) calls
 
--- ---- what a sink that has failed, or not, received
+-- ---- the last line
 
-pub whole_same : (whole : Bool) (start now : ℕ) → whole ≡ true → IsWhole whole start now → now ≡ start
-whole_same whole start now is of = let P : Bool → Type 0 = λ b. IsWhole b start now in subst P is of
+-- after a failure it isn't given
+pub last_left : (whole : Bool) (last : List ℕ) (faults : ℕ) (now : List ℕ) → whole ≡ false → TakesLast whole last faults faults now now
+last_left whole last faults now is =
+    let P : Bool → Type 0 = λ b. TakesLast b last faults faults now now in
+    subst P (sym is) (λ lines start count rose received. line_left lines last count faults start now rose.1 received)
 
-pub whole_rose : (whole : Bool) (start now : ℕ) → whole ≡ false → IsWhole whole start now → Rose start now
-whole_rose whole start now is of = let P : Bool → Type 0 = λ b. IsWhole b start now in (subst P is of).1
+-- else the write's answer tells what came of it
+pub last_written : (whole : Bool) (last : List ℕ) (r : Result (Unit {0}) SinkError) (faults faults' : ℕ) (old new : List ℕ) → whole ≡ true → WritesWhole last r old new → SinkFaults r faults faults'
+    → TakesLast whole last faults faults' old new
+last_written whole last r faults faults' old new is written counted =
+    let P : Bool → Type 0 = λ b. TakesLast b last faults faults' old new in
+    subst P (sym is) (by_answer r written counted)
+  where
+    by_answer : (r : Result (Unit {0}) SinkError) → WritesWhole last r old new → SinkFaults r faults faults' → TakesLast true last faults faults' old new
+    by_answer (Ok done) written counted = λ lines start count same received. line_added lines last count faults faults' start old new same received written
+    by_answer (Err error) written counted = λ lines start count same received. line_begun lines last count faults faults' start old new same received counted.1 written
 
-pub all_received : (whole : Bool) (lines old new : List ℕ) → whole ≡ true → Received whole lines old new → new ≡ old ++ lines
-all_received whole lines old new is of = let P : Bool → Type 0 = λ b. Received b lines old new in subst P is of
-
-pub part_received : (whole : Bool) (lines old new : List ℕ) → whole ≡ false → Received whole lines old new → GrowsByPrefix lines old new
-part_received whole lines old new is of = let P : Bool → Type 0 = λ b. Received b lines old new in subst P is of
+pub whole_later : (whole : Bool) (start now : ℕ) → IsWhole whole start now → start ≤ now
+whole_later true start now is = let same : now ≡ start = is in omega (arith, same)
+whole_later false start now is = is.0

@@ -128,15 +128,6 @@ refused_more verdicts n v old now new lt here before step =
     ∙ add_assoc old (count_by is_refused (take n verdicts)) (cond (is_refused v) 1 0)
     ∙ ap (λ (x : ℕ). old + x) (sym (count_more verdicts n v lt here))
 
--- counts that didn't change before a turn
-pub counts_since : (names : FileNames) (outcome : Outcome) (reads writes : Counts) (out : ℕ) (reads' writes' : Counts) (out' : ℕ) (now : Faults) →
-    SameFaults (faults reads writes out) (faults reads' writes' out') → CountsShow names outcome (faults reads' writes' out') now → CountsShow names outcome (faults reads writes out) now
-counts_since names outcome reads writes out reads' writes' out' now same counts =
-    let P : Counts → Type 0 = λ r. CountsShow names outcome (faults r writes' out') now in
-    let Q : Counts → Type 0 = λ w. CountsShow names outcome (faults reads w out') now in
-    let R : ℕ → Type 0 = λ o. CountsShow names outcome (faults reads writes o) now in
-    subst R same.out (subst Q same.writes (subst P same.reads counts))
-
 -- ---- names that are being written, or left unfinished
 
 pub writing_both : (old mid new : Option (List ℕ)) → (mid ≡ old) ⊎ (mid ≡ None) → (new ≡ mid) ⊎ (new ≡ None) → (new ≡ old) ⊎ (new ≡ None)

@@ -6,7 +6,7 @@ use Rattle.std.specs.Option.{option_or}
 use Rattle.std.specs.Str.{bytes_eq}
 use Rattle.std.proofs.lemmas.Slice.Eq.{bytes_eq-Decides}
 use Rattle.std.proofs.lemmas.List.{length-append}
-use Rattle.sgm_refine.specs.Refining.{plain}
+use Rattle.sgm_base.specs.Refining.{plain}
 use Rattle.sgm_io.specs.Held.{Held}
 use Rattle.sgm_words.specs.Commands.{command_named}
 use Rattle.sgm_words.specs.Faults.{first_fault, name_fault, output_fault, fault_of}

@@ -14,7 +14,8 @@ use Rattle.sgm_series.specs.Plans.{EntryCallsFor}
 abbrev pub verdict_made : List ℕ → MadeTexts → Verdict
 verdict_made out texts = files (files_of out (texts_in texts)) (texts_in texts).summary
 
--- the verdict of an entry with this OUT is what was made: its texts, or its refusal; there may have been no memory
+-- the verdict of an entry with this OUT is what was made: its texts, or its refusal; there may have
+-- been no memory
 abbrev pub Answers : List ℕ → Verdict → Result MadeTexts TextsError → Type 0
 Answers out v (Ok texts) = v ≡ verdict_made out texts
 Answers out v (Err (Refused refusal)) = v ≡ refused refusal
@@ -25,13 +26,17 @@ abbrev pub IsAnswerOf : EntryNames → Held → Result MadeTexts TextsError → 
 IsAnswerOf entry held made = (v : Verdict) → EntryCallsFor entry held v → Answers entry.out v made
 
 -- the answers of the entries, in order
-pub record AreAnswers (entries : List EntryNames) (held : Held) (answers : List (Result MadeTexts TextsError)) : Type 0 where
+pub record AreAnswers (entries : List EntryNames) (held : Held)
+    (answers : List (Result MadeTexts TextsError)) : Type 0 where
   pub count : length answers ≡ length entries
   pub each : (place : ℕ) (entry : EntryNames) (made : Result MadeTexts TextsError)
-      → slice_get entries place ≡ Some entry → slice_get answers place ≡ Some made → IsAnswerOf entry held made
+      → slice_get entries place ≡ Some entry → slice_get answers place ≡ Some made
+      → IsAnswerOf entry held made
 
 -- these are the verdicts of the entries with these answers, one for each
-pub record AreAnswered (entries : List EntryNames) (answers : List (Result MadeTexts TextsError)) (verdicts : List Verdict) : Type 0 where
+pub record AreAnswered (entries : List EntryNames) (answers : List (Result MadeTexts TextsError))
+    (verdicts : List Verdict) : Type 0 where
   pub count : length verdicts ≡ length entries
   pub each : (place : ℕ) (entry : EntryNames) (made : Result MadeTexts TextsError) (v : Verdict)
-      → slice_get entries place ≡ Some entry → slice_get answers place ≡ Some made → slice_get verdicts place ≡ Some v → Answers entry.out v made
+      → slice_get entries place ≡ Some entry → slice_get answers place ≡ Some made
+      → slice_get verdicts place ≡ Some v → Answers entry.out v made

@@ -8,7 +8,10 @@ use Rattle.sgm_outcome.specs.declared.outcome.Outcome.TheVariants as run
 use Rattle.sgm_app.specs.Ends.{Faults, SameFaults, CountsShow, OutRose}
 use Rattle.sgm_series.specs.Plans.{names_for}
 use Rattle.sgm_series.specs.declared.outcome.SeriesOutcome.{SeriesOutcome}
-use Rattle.sgm_series.specs.declared.outcome.SeriesOutcome.TheVariants.{Done, Usage, RefusedList, SomeRefused, ListUnread, ReadFault, WriteFault, NoMemory}
+use Rattle.sgm_series.specs.declared.outcome.SeriesOutcome.TheVariants.{Done, Usage, RefusedList}
+use Rattle.sgm_series.specs.declared.outcome.SeriesOutcome.TheVariants.{SomeRefused, ListUnread}
+use Rattle.sgm_series.specs.declared.outcome.SeriesOutcome.TheVariants.{ReadFault, WriteFault}
+use Rattle.sgm_series.specs.declared.outcome.SeriesOutcome.TheVariants.{NoMemory}
 
 -- the count of reading this name rose, and that of `out` is as before
 pub record NameUnread (name : List ℕ) (before now : Faults) : Type 0 where
@@ -22,8 +25,9 @@ pub record NameUnwritten (name : List ℕ) (before now : Faults) : Type 0 where
   pub reads : NoneFell before.reads now.reads
   pub out : now.out ≡ before.out
 
--- the count of reading the list's name rose after ListUnread, that of reading some name after a fault of reading, and that of
--- writing some name, or of `out`, after a fault of writing; after each other outcome no count changed
+-- the count of reading the list's name rose after ListUnread, that of reading some name after a
+-- fault of reading, and that of writing some name, or of `out`, after a fault of writing; after
+-- each other outcome no count changed
 abbrev pub SeriesCounts : List ℕ → SeriesOutcome → Faults → Faults → Type 0
 SeriesCounts list Done before now = SameFaults before now
 SeriesCounts list (Usage fault) before now = SameFaults before now
@@ -38,7 +42,8 @@ SeriesCounts list NoMemory before now = SameFaults before now
 -- the counts show the outcome of this entry's match
 abbrev pub EntryShows : List EntryNames → ℕ → Outcome → Faults → Faults → Type 0
 EntryShows entries entry outcome before now =
-    (asked : EntryNames) × (slice_get entries entry ≡ Some asked) × CountsShow (names_for asked) outcome before now
+    (asked : EntryNames) × (slice_get entries entry ≡ Some asked)
+    × CountsShow (names_for asked) outcome before now
 
 -- and the name is that of the entry's input, or of its output
 abbrev pub EntryCounts : List EntryNames → SeriesOutcome → Faults → Faults → Type 0
@@ -47,6 +52,8 @@ EntryCounts entries (Usage fault) before now = ⊤
 EntryCounts entries (RefusedList fault) before now = ⊤
 EntryCounts entries (SomeRefused entries_refused) before now = ⊤
 EntryCounts entries ListUnread before now = ⊤
-EntryCounts entries (ReadFault entry input) before now = EntryShows entries entry (run.ReadFault input) before now
-EntryCounts entries (WriteFault entry output) before now = EntryShows entries entry (run.WriteFault output) before now
+EntryCounts entries (ReadFault entry input) before now =
+    EntryShows entries entry (run.ReadFault input) before now
+EntryCounts entries (WriteFault entry output) before now =
+    EntryShows entries entry (run.WriteFault output) before now
 EntryCounts entries NoMemory before now = ⊤

@@ -4,4 +4,5 @@ use Rattle.sgm_list.specs.Entries.{EntryNames}
 
 -- `match LEFT RIGHT CALIB OUT`
 abbrev pub match_words : EntryNames → List (List ℕ)
-match_words entry = codes "match" ∷ entry.left ∷ entry.right ∷ unwrap_or entry.calib (codes "-") ∷ entry.out ∷ []
+match_words entry = codes "match" ∷ entry.left ∷ entry.right ∷ unwrap_or entry.calib (codes "-")
+    ∷ entry.out ∷ []

@@ -13,3 +13,6 @@ pub mod Received
 pub mod Turned
 pub mod Stands
 pub mod Batches
+pub mod Moments
+pub mod TurnEnds
+pub mod SeriesEnds

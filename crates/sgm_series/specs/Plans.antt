@@ -1,11 +1,12 @@
 -- What the words and the held files call for.
-use Rattle.std.specs.Prelude.{◌≡◌, ℕ, List, [], Bool, true, false, codes, length, Option, None, Some, unwrap_or, Result, Ok, Err, slice_get}
+use Rattle.std.specs.Prelude.{◌≡◌, ℕ, List, [], Bool, true, false, codes, length, Option, None}
+use Rattle.std.specs.Prelude.{Some, unwrap_or, Result, Ok, Err, slice_get}
 use Rattle.sgm_io.specs.Held.{Held}
 use Rattle.sgm_words.specs.Operands.{Operands, FileNames, of_match}
 use Rattle.sgm_list.specs.Entries.{EntryNames, entries_of}
 use Rattle.sgm_list.specs.Faults.{list_fault}
 use Rattle.sgm_list.specs.declared.fault.ListFault.{ListFault}
-use Rattle.sgm_refine.specs.Refining.{plain}
+use Rattle.sgm_base.specs.Refining.{plain}
 use Rattle.sgm_app.specs.Calls.{MatchCallsFor}
 use Rattle.sgm_app.specs.Verdict.{Verdict}
 use Rattle.sgm_app.specs.Verdict as verdict
@@ -14,7 +15,12 @@ use Rattle.sgm_series.specs.declared.words.SeriesUsage.{SeriesUsage}
 
 -- the operands of an entry's match: those of the words `match LEFT RIGHT CALIB OUT`
 abbrev pub asked_for : EntryNames → Operands
-asked_for entry = record { left = entry.left; right = entry.right; calib = unwrap_or entry.calib (codes "-"); out = entry.out }
+asked_for entry = record {
+  left = entry.left;
+  right = entry.right;
+  calib = unwrap_or entry.calib (codes "-");
+  out = entry.out;
+}
 
 -- the names of its files
 abbrev pub names_for : EntryNames → FileNames
@@ -25,10 +31,12 @@ abbrev pub EntryCallsFor : EntryNames → Held → Verdict → Type 0
 EntryCallsFor entry held v = MatchCallsFor (asked_for entry) plain held v
 
 -- these are the verdicts of the entries, one for each, in order
-pub record AreVerdicts (entries : List EntryNames) (held : Held) (verdicts : List Verdict) : Type 0 where
+pub record AreVerdicts (entries : List EntryNames) (held : Held)
+    (verdicts : List Verdict) : Type 0 where
   pub count : length verdicts ≡ length entries
   pub each : (place : ℕ) (entry : EntryNames) (v : Verdict)
-      → slice_get entries place ≡ Some entry → slice_get verdicts place ≡ Some v → EntryCallsFor entry held v
+      → slice_get entries place ≡ Some entry → slice_get verdicts place ≡ Some v
+      → EntryCallsFor entry held v
 
 -- the first of these that applies
 pub data Plan : Type 0 where
@@ -44,12 +52,14 @@ pub data Plan : Type 0 where
 -- a list without a fault calls for its entries' verdicts
 abbrev pub EntriesCallFor : Option ListFault → List EntryNames → Held → Plan → Type 0
 EntriesCallFor (Some fault) entries held plan = plan ≡ faulty fault
-EntriesCallFor None entries held plan = (verdicts : List Verdict) × AreVerdicts entries held verdicts × (plan ≡ series entries verdicts)
+EntriesCallFor None entries held plan = (verdicts : List Verdict)
+    × AreVerdicts entries held verdicts × (plan ≡ series entries verdicts)
 
 -- the bytes under the list's name call for the plan
 abbrev pub ListCallsFor : List ℕ → Option (List ℕ) → Held → Plan → Type 0
 ListCallsFor list None held plan = plan ≡ no_list
-ListCallsFor list (Some bytes) held plan = EntriesCallFor (list_fault list bytes) (entries_of bytes) held plan
+ListCallsFor list (Some bytes) held plan = EntriesCallFor (list_fault list bytes)
+    (entries_of bytes) held plan
 
 -- the words, as they are read, call for the plan
 abbrev pub ReadCallsFor : Result ListWords SeriesUsage → Held → Plan → Type 0

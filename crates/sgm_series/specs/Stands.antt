@@ -1,5 +1,6 @@
 -- How the entries of a series stand, as their files are put. No public clause speaks of this.
-use Rattle.std.specs.Prelude.{◌≡◌, ⊤, ◌⊎◌, ℕ, zero, suc, ◌+◌, List, take, All, Option, None, Some, Result, Ok, Err}
+use Rattle.std.specs.Prelude.{◌≡◌, ⊤, ◌⊎◌, ℕ, zero, suc, ◌+◌, List, take, All, Option, None, Some}
+use Rattle.std.specs.Prelude.{Result, Ok, Err}
 use Rattle.sgm_io.specs.Held.{Held}
 use Rattle.sgm_io.specs.declared.shelf.FetchError.{FetchError}
 use Rattle.sgm_io.specs.declared.shelf.FetchError.TheVariants as fetch
@@ -27,7 +28,10 @@ use Rattle.sgm_series.specs.Turns.{files_for, AtEntry}
 use Rattle.sgm_series.specs.declared.making.BatchStop.{BatchStop}
 use Rattle.sgm_series.specs.declared.making.BatchStop.TheVariants as batch
 use Rattle.sgm_series.specs.declared.outcome.SeriesOutcome.{SeriesOutcome}
-use Rattle.sgm_series.specs.declared.outcome.SeriesOutcome.TheVariants.{Done, Usage, RefusedList, SomeRefused, ListUnread, ReadFault, WriteFault, NoMemory}
+use Rattle.sgm_series.specs.declared.outcome.SeriesOutcome.TheVariants.{Done, Usage, RefusedList}
+use Rattle.sgm_series.specs.declared.outcome.SeriesOutcome.TheVariants.{SomeRefused, ListUnread}
+use Rattle.sgm_series.specs.declared.outcome.SeriesOutcome.TheVariants.{ReadFault, WriteFault}
+use Rattle.sgm_series.specs.declared.outcome.SeriesOutcome.TheVariants.{NoMemory}
 
 -- no entry would overwrite another's files
 abbrev pub AreApart : List EntryNames → Type 0
@@ -45,7 +49,8 @@ PutTurns turns verdicts old new = new ≡ after_files (files_for (take turns ver
 -- the same, but in the next entry, whose files are put as in a single match that ended so
 abbrev pub PutStop : ℕ → List Verdict → Outcome → Held → Held → Type 0
 PutStop turns verdicts outcome old new =
-    AtEntry turns verdicts (λ v. FilesPut outcome v (after_files (files_for (take turns verdicts)) old) new)
+    AtEntry turns verdicts
+    (λ v. FilesPut outcome v (after_files (files_for (take turns verdicts)) old) new)
 
 -- what is held after an outcome
 abbrev pub SeriesPut : SeriesOutcome → ℕ → List Verdict → Held → Held → Type 0
@@ -55,8 +60,10 @@ SeriesPut (RefusedList fault) turns verdicts old new = PutTurns turns verdicts o
 SeriesPut (SomeRefused entries) turns verdicts old new = PutTurns turns verdicts old new
 SeriesPut ListUnread turns verdicts old new = PutTurns turns verdicts old new
 SeriesPut (ReadFault entry input) turns verdicts old new = PutTurns turns verdicts old new
-SeriesPut (WriteFault entry output) turns verdicts old new = PutStop turns verdicts (run.WriteFault output) old new
-SeriesPut NoMemory turns verdicts old new = PutTurns turns verdicts old new ⊎ PutStop turns verdicts run.NoMemory old new
+SeriesPut (WriteFault entry output) turns verdicts old new =
+    PutStop turns verdicts (run.WriteFault output) old new
+SeriesPut NoMemory turns verdicts old new = PutTurns turns verdicts old new
+    ⊎ PutStop turns verdicts run.NoMemory old new
 
 -- ---- the list
 
@@ -67,9 +74,11 @@ pub record IsListed (list : List ℕ) (held : Held) (entries : List EntryNames) 
   pub no_fault : list_fault list bytes ≡ None
   pub are : entries ≡ entries_of bytes
 
--- why there are no entries: the list is absent or can't be read, or it has this fault, or there was no memory
+-- why there are no entries: the list is absent or can't be read, or it has this fault, or there was
+-- no memory
 abbrev pub IsListEnd : Option (List ℕ) → List ℕ → SeriesOutcome → Type 0
-IsListEnd held list (RefusedList fault) = (bytes : List ℕ) × (held ≡ Some bytes) × (list_fault list bytes ≡ Some fault)
+IsListEnd held list (RefusedList fault) = (bytes : List ℕ) × (held ≡ Some bytes)
+    × (list_fault list bytes ≡ Some fault)
 IsListEnd held list ListUnread = ⊤
 IsListEnd held list NoMemory = ⊤
 IsListEnd held list Done = ⊥

@@ -1,7 +1,10 @@
 -- The number that a series ends the program with.
 use Rattle.std.specs.Prelude.{ℕ}
 use Rattle.sgm_series.specs.declared.outcome.SeriesOutcome.{SeriesOutcome}
-use Rattle.sgm_series.specs.declared.outcome.SeriesOutcome.TheVariants.{Done, Usage, RefusedList, SomeRefused, ListUnread, ReadFault, WriteFault, NoMemory}
+use Rattle.sgm_series.specs.declared.outcome.SeriesOutcome.TheVariants.{Done, Usage, RefusedList}
+use Rattle.sgm_series.specs.declared.outcome.SeriesOutcome.TheVariants.{SomeRefused, ListUnread}
+use Rattle.sgm_series.specs.declared.outcome.SeriesOutcome.TheVariants.{ReadFault, WriteFault}
+use Rattle.sgm_series.specs.declared.outcome.SeriesOutcome.TheVariants.{NoMemory}
 
 abbrev pub status_of : SeriesOutcome → ℕ
 status_of Done = 0

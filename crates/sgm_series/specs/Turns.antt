@@ -1,5 +1,6 @@
 -- What the turns of the first entries write.
-use Rattle.std.specs.Prelude.{◌≡◌, ⊤, ◌⊎◌, ℕ, List, [], take, length, ◌<◌, ◌≤◌, All, Contains, flat_map, slice_get, Some}
+use Rattle.std.specs.Prelude.{◌≡◌, ⊤, ◌⊎◌, ℕ, List, [], take, length, ◌<◌, ◌≤◌, All, Contains}
+use Rattle.std.specs.Prelude.{flat_map, slice_get, Some}
 use Rattle.sgm_words.specs.declared.files.Output.{Output}
 use Rattle.sgm_words.specs.declared.files.Output.TheVariants.{Summary}
 use Rattle.sgm_outcome.specs.Lines.{refusal_line}
@@ -15,7 +16,8 @@ line_for (verdict.files outputs summary) = []
 line_for (verdict.usage fault) = []
 line_for (verdict.absent input) = []
 
--- the files of these entries, their summaries, and the lines of those that are refused, each in the entries' order
+-- the files of these entries, their summaries, and the lines of those that are refused, each in the
+-- entries' order
 abbrev pub files_for : List Verdict → List OutputFile
 files_for verdicts = flat_map outputs_of verdicts
 
@@ -36,4 +38,5 @@ IsReached entry verdicts = All IsJudged (take entry verdicts)
 -- the entry's outputs are called for, this one among them
 pub record HasOutput (output : Output) (v : Verdict) : Type 0 where
   pub files : IsFiles v
-  pub has : (output ≡ Summary) ⊎ ((file : OutputFile) × Contains (outputs_of v) file × (file.output ≡ output))
+  pub has : (output ≡ Summary)
+      ⊎ ((file : OutputFile) × Contains (outputs_of v) file × (file.output ≡ output))

@@ -1,5 +1,6 @@
 -- The words of a series: LIST, and perhaps the number of workers.
-use Rattle.std.specs.Prelude.{ℕ, List, [], ◌∷◌, codes, slice_index_or, Option, None, Some, is_some, Result, Ok, Err, if◌then◌else◌}
+use Rattle.std.specs.Prelude.{ℕ, List, [], ◌∷◌, codes, slice_index_or, Option, None, Some, is_some}
+use Rattle.std.specs.Prelude.{Result, Ok, Err, if◌then◌else◌}
 use Rattle.std.specs.Str.{bytes_eq}
 use Rattle.sgm_series.specs.declared.words.SeriesUsage.{SeriesUsage}
 use Rattle.sgm_series.specs.declared.words.SeriesUsage.TheVariants.{NoList, BadWord}
@@ -23,8 +24,8 @@ abbrev pub with_workers : List ℕ → Option ℕ → Result ListWords SeriesUsa
 with_workers list (Some workers) = Ok (list_words list workers)
 with_workers list None = Err (BadWord 1)
 
--- a list and the words behind it: one worker where there is none; of more than one, the first that isn't accepted is a fault, and
--- no second one is accepted
+-- a list and the words behind it: one worker where there is none; of more than one, the first that
+-- isn't accepted is a fault, and no second one is accepted
 abbrev pub list_with : List ℕ → List (List ℕ) → Result ListWords SeriesUsage
 list_with list [] = Ok (list_words list 1)
 list_with list (word ∷ []) = with_workers list (workers_in word)

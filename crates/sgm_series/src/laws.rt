@@ -10,8 +10,8 @@ ghost use Rattle.sgm_series.specs.Plans.{Plan, EntryCallsFor, SeriesCallsFor};
 
 use sgm_io::Shelf;
 
-/// The words call for exactly one plan over what a shelf holds that tells it: the same entries, and the
-/// same verdict for each of them.
+/// The words call for exactly one plan over what a shelf holds that tells it: the same entries, and
+/// the same verdict for each of them.
 pub fn one_plan<S: Shelf>()
     ensures some { IsTrue S.tells → (words : List (List ℕ)) (shelf : S)
         → (plan : Plan) × SeriesCallsFor words (S.held shelf) plan }
@@ -19,7 +19,8 @@ pub fn one_plan<S: Shelf>()
         → SeriesCallsFor words held one → SeriesCallsFor words held other → one ≡ other }
 {}
 
-/// The verdict of an entry of a list without a fault is that of the words `match LEFT RIGHT CALIB OUT`.
+/// The verdict of an entry of a list without a fault is that of the words `match LEFT RIGHT CALIB
+/// OUT`.
 pub fn entry_verdict()
     ensures { (list bytes : List ℕ) (place : ℕ) (entry : EntryNames) (held : Held) (v : Verdict)
         → list_fault list bytes ≡ None → slice_get (entries_of bytes) place ≡ Some entry

@@ -1,15 +1,19 @@
-//! A series of pairs: from the words and the list to the files, the summaries and the lines of all entries.
+//! A series of pairs: from the words and the list to the files, the summaries and the lines of all
+//! entries.
 #![tactic(auto)]
 
+mod answered;
 mod entries;
 pub mod laws;
 mod limits;
 mod lines;
+mod listed;
 mod making;
 mod outcome;
 mod series;
 mod turns;
 mod words;
+mod workshop;
 
 pub use lines::write_series_outcome;
 pub use outcome::SeriesOutcome;

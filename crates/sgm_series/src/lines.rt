@@ -56,10 +56,11 @@ fn outcome_line(outcome: SeriesOutcome) -> Line
     }
 }
 
-/// Adds the outcome's line in one piece, or, where the sink has failed, its beginning; nothing for Done.
-/// Takes no memory.
+/// Adds the outcome's line in one piece, or, where the sink has failed, its beginning; nothing for
+/// Done. Takes no memory.
 pub fn write_series_outcome<E: Sink>(outcome: &SeriesOutcome, err: &mut E) -> Result<(), SinkError>
-    ensures written { IsTrue E.tells → WritesWhole (series_line outcome.now) result (E.written err.old) (E.written err.new) }
+    ensures written { IsTrue E.tells
+        → WritesWhole (series_line outcome.now) result (E.written err.old) (E.written err.new) }
     ensures faults { SinkFaults result (E.faults err.old) (E.faults err.new) }
 {
     write_whole(err, outcome_line(*outcome).as_bytes())

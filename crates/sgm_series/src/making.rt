@@ -1,14 +1,17 @@
 //! What is made for the entries of a batch, before their turns.
-ghost use Rattle.std.specs.Prelude.{◌≡◌, ◌<◌, ◌≤◌, ◌+◌, List, length, All, IsTrue, IfOk, IfErr, OnOk};
+ghost use Rattle.std.specs.Prelude.{◌≡◌, ◌<◌, ◌≤◌, ◌+◌, List, length, All, IsTrue, IfOk, IfErr};
+ghost use Rattle.std.specs.Prelude.{OnOk};
 ghost use Rattle.sgm_io.specs.Held.{Held};
 ghost use Rattle.sgm_list.specs.Entries.{EntryNames};
 ghost use Rattle.sgm_app.specs.Ends.{StageCounts};
 ghost use Rattle.sgm_app.specs.Inputs.{InputBytes};
+ghost use Rattle.sgm_app.specs.Moments.{Keeps};
 ghost use Rattle.sgm_app.specs.Verdict.{Verdict};
 ghost use Rattle.sgm_batch.specs.Pieces.{IsPieceOf};
 ghost use Rattle.sgm_series.specs.declared.limits.TheConstants.{BATCH};
 ghost use Rattle.sgm_series.specs.Answers.{AreAnswers};
-ghost use Rattle.sgm_series.specs.Batches.{HasEntry, IsFetched, IsReadable, AreInputsAt, PlaceShown, PlaceCounts};
+ghost use Rattle.sgm_series.specs.Batches.{HasEntry, IsBatch, IsFetched, IsReadable, AreInputsAt};
+ghost use Rattle.sgm_series.specs.Batches.{PlaceShown, PlaceCounts};
 ghost use Rattle.sgm_series.specs.Plans.{AreVerdicts, EntryCallsFor};
 ghost use Rattle.sgm_series.specs.Turned.{BatchCounts, BatchShown};
 ghost use Rattle.sgm_series.specs.Stands.{batch_outcome, place_in, refused_at};
@@ -16,6 +19,7 @@ ghost use Rattle.sgm_series.specs.Stands.{batch_outcome, place_in, refused_at};
 use crate::SeriesOutcome;
 use crate::entries::operands_of;
 use crate::limits::BATCH;
+use crate::workshop::Workshop;
 use sgm_app::{FetchStop, Input, Inputs, MadeTexts, Refusal, TextsError, gather};
 use sgm_batch::{Piece, work_batch};
 use sgm_io::Shelf;
@@ -52,8 +56,8 @@ impl BatchStop {
     }
 }
 
-/// What was fetched for a batch: the inputs of those entries of which none is too long, with the entries'
-/// places, and an answer for each entry, which is want of memory until its piece is made.
+/// What was fetched for a batch: the inputs of those entries of which none is too long, with the
+/// entries' places, and an answer for each entry, which is want of memory until its piece is made.
 #[derive(Drop)]
 struct Batch {
     places: Vec<usize>,
@@ -61,8 +65,8 @@ struct Batch {
     answers: Vec<Answer>,
 }
 
-/// What a stop of fetching the inputs of the entry at this place comes to: the entry's refusal, or the
-/// batch's stop.
+/// What a stop of fetching the inputs of the entry at this place comes to: the entry's refusal, or
+/// the batch's stop.
 fn refused(place: usize, stop: FetchStop) -> Result<Refusal, BatchStop>
     ensures { result ≡ refused_at place stop }
 {
@@ -73,7 +77,8 @@ fn refused(place: usize, stop: FetchStop) -> Result<Refusal, BatchStop>
     }
 }
 
-/// The inputs of the entry at this place of the batch, or the refusal of the first that is too long.
+/// The inputs of the entry at this place of the batch, or the refusal of the first that is too
+/// long.
 fn fetch_entry<S: Shelf>(
     alloc: Global,
     shelf: &mut S,
@@ -82,10 +87,9 @@ fn fetch_entry<S: Shelf>(
 ) -> Result<Result<Inputs, Refusal>, BatchStop>
     ensures fetched { IsTrue S.tells → IfOk result (IsFetched entry.now (S.held shelf.old)) }
     ensures readable { IsTrue S.tells → OnOk result (IsReadable entry.now (S.held shelf.old)) }
-    ensures stop { IsTrue S.tells → (v : Verdict) → EntryCallsFor entry.now (S.held shelf.old) v → IfErr result (PlaceShown place v) }
-    ensures held { IsTrue S.tells → S.held shelf.new ≡ S.held shelf.old }
-    ensures writing { S.writing shelf.new ≡ S.writing shelf.old }
-    ensures unfinished { S.unfinished shelf.new ≡ S.unfinished shelf.old }
+    ensures stop { IsTrue S.tells → (v : Verdict) → EntryCallsFor entry.now (S.held shelf.old) v
+        → IfErr result (PlaceShown place v) }
+    ensures keeps { Keeps S.Shelf shelf.old shelf.new }
     ensures counts { StageCounts (PlaceCounts place entry.now) result S.Shelf shelf.old shelf.new }
 {
     match gather(alloc, shelf, &operands_of(entry)) {
@@ -118,18 +122,17 @@ fn fetch_batch<S: Shelf>(
     shelf: &mut S,
     entries: &[Entry],
 ) -> Result<Batch, BatchStop>
-    ensures count { IfOk result (λ batch. length batch.answers.items ≡ length entries.now) }
-    ensures pairs { IfOk result (λ batch. length batch.places.items ≡ length batch.inputs.items) }
-    ensures few { IfOk result (λ batch. length batch.inputs.items ≤ length entries.now) }
-    ensures places { IfOk result (λ batch. All (λ place. place < length entries.now) batch.places.items) }
-    ensures answers { IsTrue S.tells → IfOk result (λ batch. AreAnswers entries.now (S.held shelf.old) batch.answers.items) }
+    ensures batch { IfOk result (IsBatch (length entries.now)) }
+    ensures answers { IsTrue S.tells
+        → IfOk result (λ batch. AreAnswers entries.now (S.held shelf.old) batch.answers.items) }
     ensures inputs { IsTrue S.tells
-        → IfOk result (λ batch. AreInputsAt entries.now (S.held shelf.old) batch.places.items batch.inputs.items) }
-    ensures stop { IsTrue S.tells → (verdicts : List Verdict) → AreVerdicts entries.now (S.held shelf.old) verdicts
+        → IfOk result
+        (λ batch. AreInputsAt entries.now
+        (S.held shelf.old) batch.places.items batch.inputs.items) }
+    ensures stop { IsTrue S.tells → (verdicts : List Verdict)
+        → AreVerdicts entries.now (S.held shelf.old) verdicts
         → IfErr result (BatchShown verdicts) }
-    ensures held { IsTrue S.tells → S.held shelf.new ≡ S.held shelf.old }
-    ensures writing { S.writing shelf.new ≡ S.writing shelf.old }
-    ensures unfinished { S.unfinished shelf.new ≡ S.unfinished shelf.old }
+    ensures keeps { Keeps S.Shelf shelf.old shelf.new }
     ensures counts { StageCounts (BatchCounts entries.now) result S.Shelf shelf.old shelf.new }
 {
     let mut batch = Batch {
@@ -166,19 +169,19 @@ fn place_pieces(places: &[usize], pieces: Vec<Piece>, answers: &mut [Answer])
 
 /// The answers of a batch whose inputs are fetched.
 fn make_pieces<R: Threads + Wait + Sync, G: Gate + Sync>(
-    rt: &R,
-    alloc: Global,
+    workshop: &Workshop<'_, R, G>,
     batch: Batch,
     workers: u32,
-    gate: &G,
 ) -> Result<Vec<Answer>, AllocError>
     requires few { length batch.inputs.items ≤ BATCH }
     requires workers { (1 ≤ workers) × (workers ≤ 2) }
     requires pairs { length batch.places.items ≡ length batch.inputs.items }
     requires places { All (λ place. place < length batch.answers.items) batch.places.items }
     ensures count { IfOk result (λ answers. length answers.items ≡ length batch.answers.items) }
-    ensures answers { (entries : List EntryNames) (held : Held) → AreInputsAt entries held batch.places.items batch.inputs.items
-        → AreAnswers entries held batch.answers.items → IfOk result (λ answers. AreAnswers entries held answers.items) }
+    ensures answers { (entries : List EntryNames) (held : Held)
+        → AreInputsAt entries held batch.places.items batch.inputs.items
+        → AreAnswers entries held batch.answers.items
+        → IfOk result (λ answers. AreAnswers entries held answers.items) }
 {
     let Batch {
         places,
@@ -188,34 +191,32 @@ fn make_pieces<R: Threads + Wait + Sync, G: Gate + Sync>(
     if inputs.is_empty() {
         return Ok(answers);
     }
-    let pieces = work_batch(rt, alloc, &inputs, workers, gate)?;
+    let pieces = work_batch(workshop.rt, workshop.alloc, &inputs, workers, workshop.gate)?;
     place_pieces(&places, pieces, &mut answers);
     Ok(answers)
 }
 
-/// The answers of the entries of a batch: their inputs are fetched in order, and their texts made by so
-/// many workers. Nothing is made where an input couldn't be read.
+/// The answers of the entries of a batch: their inputs are fetched in order, and their texts made
+/// by so many workers. Nothing is made where an input couldn't be read.
 pub fn make_batch<R: Threads + Wait + Sync, S: Shelf, G: Gate + Sync>(
-    rt: &R,
-    alloc: Global,
+    workshop: &Workshop<'_, R, G>,
     entries: &[Entry],
     workers: u32,
     shelf: &mut S,
-    gate: &G,
 ) -> Result<Vec<Answer>, BatchStop>
     requires few { length entries.now ≤ BATCH }
     requires workers { (1 ≤ workers) × (workers ≤ 2) }
-    ensures answers { IsTrue S.tells → IfOk result (λ answers. AreAnswers entries.now (S.held shelf.old) answers.items) }
+    ensures answers { IsTrue S.tells
+        → IfOk result (λ answers. AreAnswers entries.now (S.held shelf.old) answers.items) }
     ensures count { IfOk result (λ answers. length answers.items ≡ length entries.now) }
-    ensures stop { IsTrue S.tells → (verdicts : List Verdict) → AreVerdicts entries.now (S.held shelf.old) verdicts
+    ensures stop { IsTrue S.tells → (verdicts : List Verdict)
+        → AreVerdicts entries.now (S.held shelf.old) verdicts
         → IfErr result (BatchShown verdicts) }
-    ensures held { IsTrue S.tells → S.held shelf.new ≡ S.held shelf.old }
-    ensures writing { S.writing shelf.new ≡ S.writing shelf.old }
-    ensures unfinished { S.unfinished shelf.new ≡ S.unfinished shelf.old }
+    ensures keeps { Keeps S.Shelf shelf.old shelf.new }
     ensures counts { StageCounts (BatchCounts entries.now) result S.Shelf shelf.old shelf.new }
 {
-    match fetch_batch(alloc, shelf, entries) {
-        Ok(batch) => match make_pieces(rt, alloc, batch, workers, gate) {
+    match fetch_batch(workshop.alloc, shelf, entries) {
+        Ok(batch) => match make_pieces(workshop, batch, workers) {
             Ok(answers) => Ok(answers),
             Err(_) => Err(BatchStop::NoMemory),
         },

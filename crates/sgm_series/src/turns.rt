@@ -1,21 +1,21 @@
 //! The turns of the entries: what is written of each, or the line of its refusal.
-ghost use Rattle.std.specs.Prelude.{◌≡◌, ◌+◌, ◌<◌, ◌≤◌, List, length, count_by, IsTrue, IfOk, IfErr};
+ghost use Rattle.std.specs.Prelude.{◌≡◌, ◌+◌, ◌<◌, ◌≤◌, length, IsTrue, IfOk, IfErr};
 ghost use Rattle.sgm_outcome.specs.Lines.{refusal_line};
 ghost use Rattle.sgm_list.specs.declared.limits.TheConstants.{MAX_ENTRIES};
 ghost use Rattle.sgm_app.specs.Deliver.{FilesPut};
-ghost use Rattle.sgm_app.specs.Ends.{OutStands, WritingStands, CountsShow, faults};
+ghost use Rattle.sgm_app.specs.Ends.{OutStands, WritingStands, CountsShow, faults_at};
 ghost use Rattle.sgm_app.specs.Unfinished.{AreFinished, UnfinishedStands};
-ghost use Rattle.sgm_app.specs.Verdict.{Verdict, outputs_of};
-ghost use Rattle.sgm_series.specs.Plans.{names_for, is_refused};
-ghost use Rattle.sgm_series.specs.Turns.{files_for, lines_for};
-ghost use Rattle.sgm_series.specs.Answers.{verdict_made, Answers, AreAnswered};
+ghost use Rattle.sgm_app.specs.Verdict.{outputs_of};
+ghost use Rattle.sgm_series.specs.Plans.{names_for};
+ghost use Rattle.sgm_series.specs.Answers.{verdict_made};
 ghost use Rattle.sgm_series.specs.Received.{ReceivesMore, StaysWhole};
-ghost use Rattle.sgm_series.specs.Turned.{turn_end, turn_line, turn_refused, StopShown, TurnShown, WritingTurned};
-ghost use Rattle.sgm_series.specs.Turned.{turned, TurnsShown, FilesTurned, OutTurned, TurnsCounts, UnfinishedTurned};
+ghost use Rattle.sgm_series.specs.Moments.{series_at};
+ghost use Rattle.sgm_series.specs.Turned.{turn_end, StopShown};
+ghost use Rattle.sgm_series.specs.TurnEnds.{TurnEnds, TurnsEnd};
 
 use crate::SeriesOutcome;
+use crate::answered::{Answered, Turn};
 use crate::entries::operands_of;
-use crate::making::Answer;
 use sgm_app::{MadeTexts, Outcome, Refusal, TextsError, WriteStop, deliver, name_texts};
 use sgm_io::{Shelf, Sink};
 use sgm_list::Entry;
@@ -65,15 +65,19 @@ fn write_entry<S: Shelf, O: Sink>(
 ) -> Result<(), WriteStop>
     ensures shown { IsTrue S.tells → IfErr result (StopShown (verdict_made entry.now.out texts)) }
     ensures files { IsTrue S.tells
-        → FilesPut (turn_end result) (verdict_made entry.now.out texts) (S.held shelf.old) (S.held shelf.new) }
+        → FilesPut (turn_end result) (verdict_made entry.now.out texts) (S.held shelf.old)
+        (S.held shelf.new) }
     ensures out { IsTrue O.tells
-        → OutStands (turn_end result) (verdict_made entry.now.out texts) (O.written out.old) (O.written out.new) }
+        → OutStands (turn_end result) (verdict_made entry.now.out texts) (O.written out.old)
+        (O.written out.new) }
     ensures writing { WritingStands (turn_end result) (S.writing shelf.old) (S.writing shelf.new) }
-    ensures unfinished { UnfinishedStands (names_for entry.now) (turn_end result) (S.unfinished shelf.old) (S.unfinished shelf.new) }
-    ensures finished { IfOk result (λ done. AreFinished (outputs_of (verdict_made entry.now.out texts)) (S.unfinished shelf.new)) }
+    ensures unfinished { UnfinishedStands (names_for entry.now) (turn_end result)
+        (S.unfinished shelf.old) (S.unfinished shelf.new) }
+    ensures finished { IfOk result
+        (λ done. AreFinished (outputs_of (verdict_made entry.now.out texts))
+        (S.unfinished shelf.new)) }
     ensures counts { CountsShow (names_for entry.now) (turn_end result)
-        (faults (S.read_faults shelf.old) (S.write_faults shelf.old) (O.faults out.old))
-        (faults (S.read_faults shelf.new) (S.write_faults shelf.new) (O.faults out.new)) }
+        (faults_at S.Shelf O.Sink shelf.old out.old) (faults_at S.Shelf O.Sink shelf.new out.new) }
 {
     match name_texts(alloc, &operands_of(entry), texts) {
         Ok(delivery) => match deliver(shelf, out, &delivery) {
@@ -91,8 +95,10 @@ fn refuse<E: Sink>(refusal: Refusal, err: &mut E, tally: &mut Tally)
     requires { tally.old.refused < MAX_ENTRIES }
     ensures refused { tally.new.refused ≡ tally.old.refused + 1 }
     ensures lines { IsTrue E.tells
-        → ReceivesMore tally.old.whole tally.new.whole (refusal_line refusal) (E.written err.old) (E.written err.new) }
-    ensures whole { StaysWhole tally.old.whole tally.new.whole (E.faults err.old) (E.faults err.new) }
+        → ReceivesMore tally.old.whole tally.new.whole (refusal_line refusal) (E.written err.old)
+        (E.written err.new) }
+    ensures whole { StaysWhole tally.old.whole tally.new.whole (E.faults err.old)
+        (E.faults err.new) }
     ensures err_faults { E.faults err.old ≤ E.faults err.new }
 {
     tally.refused += 1;
@@ -101,38 +107,22 @@ fn refuse<E: Sink>(refusal: Refusal, err: &mut E, tally: &mut Tally)
     }
 }
 
-/// The turn of an entry with this answer: its files and then its summary are written, or the line of its
-/// refusal.
+/// The turn of an entry with its answer: its files and then its summary are written, or the line of
+/// its refusal.
 fn take_turn<S: Shelf, O: Sink, E: Sink>(
     alloc: Global,
-    entry: &Entry,
-    answer: Answer,
+    turn: Turn<'_>,
     shelf: &mut S,
     out: &mut O,
     err: &mut E,
     tally: &mut Tally,
 ) -> Result<(), WriteStop>
     requires { tally.old.refused < MAX_ENTRIES }
-    ensures shown { IsTrue S.tells → (v : Verdict) → Answers entry.now.out v answer → TurnShown v result }
-    ensures files { IsTrue S.tells → (v : Verdict) → Answers entry.now.out v answer
-        → FilesPut (turn_end result) v (S.held shelf.old) (S.held shelf.new) }
-    ensures out { IsTrue O.tells → (v : Verdict) → Answers entry.now.out v answer
-        → OutStands (turn_end result) v (O.written out.old) (O.written out.new) }
-    ensures writing { WritingTurned result (S.writing shelf.old) (S.writing shelf.new) }
-    ensures unfinished { UnfinishedStands (names_for entry.now) (turn_end result) (S.unfinished shelf.old) (S.unfinished shelf.new) }
-    ensures finished { (v : Verdict) → Answers entry.now.out v answer
-        → IfOk result (λ done. AreFinished (outputs_of v) (S.unfinished shelf.new)) }
-    ensures counts { CountsShow (names_for entry.now) (turn_end result)
-        (faults (S.read_faults shelf.old) (S.write_faults shelf.old) (O.faults out.old))
-        (faults (S.read_faults shelf.new) (S.write_faults shelf.new) (O.faults out.new)) }
-    ensures refused { (v : Verdict) → Answers entry.now.out v answer
-        → tally.new.refused ≡ tally.old.refused + turn_refused v result }
-    ensures at_most { tally.new.refused ≤ tally.old.refused + 1 }
-    ensures lines { IsTrue E.tells → (v : Verdict) → Answers entry.now.out v answer
-        → ReceivesMore tally.old.whole tally.new.whole (turn_line v result) (E.written err.old) (E.written err.new) }
-    ensures whole { StaysWhole tally.old.whole tally.new.whole (E.faults err.old) (E.faults err.new) }
-    ensures err_faults { E.faults err.old ≤ E.faults err.new }
+    ensures { TurnEnds turn.entry.entry.now turn.entry.answer result
+        (series_at S.Shelf O.Sink E.Sink shelf.old out.old err.old tally.old)
+        (series_at S.Shelf O.Sink E.Sink shelf.new out.new err.new tally.new) }
 {
+    let Turn { entry, answer } = turn;
     match answer {
         Ok(texts) => write_entry(alloc, entry, texts, shelf, out),
         Err(TextsError::Refused(refusal)) => {
@@ -143,42 +133,29 @@ fn take_turn<S: Shelf, O: Sink, E: Sink>(
     }
 }
 
-/// The turns of some entries with these answers, in order, until one stops: the files and the summary of
-/// an entry are written, or the line of its refusal. Once `err` has failed it gets no more lines.
+/// The turns of some entries with their answers, in order, until one stops: the files and the
+/// summary of an entry are written, or the line of its refusal. Once `err` has failed it gets no
+/// more lines.
 pub fn take_turns<S: Shelf, O: Sink, E: Sink>(
     alloc: Global,
-    entries: &[Entry],
-    answers: Vec<Answer>,
+    answered: Answered<'_>,
     shelf: &mut S,
     out: &mut O,
     err: &mut E,
     tally: &mut Tally,
 ) -> Result<(), TurnsStop>
-    requires count { length answers.items ≡ length entries.now }
-    requires refused { tally.old.refused + length entries.now ≤ MAX_ENTRIES }
-    ensures shown { IsTrue S.tells → (verdicts : List Verdict) → AreAnswered entries.now answers.items verdicts
-        → TurnsShown verdicts result }
-    ensures files { IsTrue S.tells → (verdicts : List Verdict) → AreAnswered entries.now answers.items verdicts
-        → FilesTurned result verdicts (S.held shelf.old) (S.held shelf.new) }
-    ensures out { IsTrue O.tells → (verdicts : List Verdict) → AreAnswered entries.now answers.items verdicts
-        → OutTurned result verdicts (O.written out.old) (O.written out.new) }
-    ensures writing { WritingTurned result (S.writing shelf.old) (S.writing shelf.new) }
-    ensures unfinished { UnfinishedTurned entries.now result (S.unfinished shelf.old) (S.unfinished shelf.new) }
-    ensures finished { (verdicts : List Verdict) → AreAnswered entries.now answers.items verdicts
-        → IfOk result (λ done. AreFinished (files_for verdicts) (S.unfinished shelf.new)) }
-    ensures counts { TurnsCounts entries.now result
-        (faults (S.read_faults shelf.old) (S.write_faults shelf.old) (O.faults out.old))
-        (faults (S.read_faults shelf.new) (S.write_faults shelf.new) (O.faults out.new)) }
-    ensures refused { (verdicts : List Verdict) → AreAnswered entries.now answers.items verdicts
-        → tally.new.refused ≡ tally.old.refused + count_by is_refused (turned result verdicts) }
-    ensures at_most { tally.new.refused ≤ tally.old.refused + length entries.now }
-    ensures lines { IsTrue E.tells → (verdicts : List Verdict) → AreAnswered entries.now answers.items verdicts
-        → ReceivesMore tally.old.whole tally.new.whole (lines_for (turned result verdicts)) (E.written err.old) (E.written err.new) }
-    ensures whole { StaysWhole tally.old.whole tally.new.whole (E.faults err.old) (E.faults err.new) }
-    ensures err_faults { E.faults err.old ≤ E.faults err.new }
+    requires { tally.old.refused + length answered.entries.now ≤ MAX_ENTRIES }
+    ensures { TurnsEnd answered.entry.entries.now answered.entry.answers.items result
+        (series_at S.Shelf O.Sink E.Sink shelf.old out.old err.old tally.old)
+        (series_at S.Shelf O.Sink E.Sink shelf.new out.new err.new tally.new) }
 {
+    let Answered { entries, answers } = answered;
     for (place, answer) in answers.into_iter().enumerate() {
-        match take_turn(alloc, &entries[place], answer, shelf, out, err, tally) {
+        let turn = Turn {
+            entry: &entries[place],
+            answer,
+        };
+        match take_turn(alloc, turn, shelf, out, err, tally) {
             Ok(()) => {}
             Err(stop) => return Err(TurnsStop { place, stop }),
         }

@@ -44,7 +44,8 @@ fn inputs(alloc: Global, right: &[u8], calib: Option<Vec<u8>>) -> Result<Inputs,
     })
 }
 
-/// The worked example, a pair whose right image is none, and the example's pair under the plain calibration.
+/// The worked example, a pair whose right image is none, and the example's pair under the plain
+/// calibration.
 fn batch(alloc: Global) -> Result<Vec<Inputs>, AllocError>
     ensures { IfOk result (λ batch. vec_len batch ≡ 3) }
 {

@@ -1,5 +1,5 @@
-//! The tests of `sgm_batch` and `sgm_series`, which call them from outside. They stand apart from them, since a crate
-//! that has tests is proved a second time with them.
+//! The tests of `sgm_batch` and `sgm_series`, which call them from outside. They stand apart from
+//! them, since a crate that has tests is proved a second time with them.
 #![tactic(auto)]
 
 #[cfg(test)]

@@ -26,4 +26,5 @@ rows_of cut strip = first_row cut (strip + 1) - first_row cut strip
 
 -- the last of its rows to which a direction comes: the lowest or the highest
 abbrev pub last_row : CutParts → Dir → ℕ → ℕ
-last_row cut dir strip = if goes_down dir then first_row cut (strip + 1) - 1 else first_row cut strip
+last_row cut dir strip = if goes_down dir then first_row cut (strip + 1) - 1
+    else first_row cut strip

@@ -1,4 +1,5 @@
--- Fronts: the row of path values with which a direction goes on, and the strips that it went through.
+-- Fronts: the row of path values with which a direction goes on, and the strips that it went
+-- through.
 use Rattle.std.specs.Prelude.{◌≡◌, ℕ, ◌-◌, ◌≤◌, false, List, length, slice_get, Some, All}
 use Rattle.sgm_base.specs.declared.limits.TheConstants.{MAX_PATH_VALUE}
 use Rattle.sgm_energy.specs.declared.dir.Dir.{Dir}
@@ -21,10 +22,17 @@ pub record FrontParts : Type 0 where
   pub visits : List Visit
 
 abbrev pub front_parts : SceneParts → CutParts → Dir → List ℕ → List Visit → FrontParts
-front_parts scene cut dir row visits = record { scene = scene; cut = cut; dir = dir; row = row; visits = visits }
+front_parts scene cut dir row visits = record {
+  scene = scene;
+  cut = cut;
+  dir = dir;
+  row = row;
+  visits = visits;
+}
 
--- what every front keeps: the strips visited are those of the positions 0, 1, 2 .. in order, and where one was visited the
--- row is the last row of path values, along the whole image's rays, of the strip visited last
+-- what every front keeps: the strips visited are those of the positions 0, 1, 2 .. in order, and
+-- where one was visited the row is the last row of path values, along the whole image's rays, of
+-- the strip visited last
 pub record IsFront (front : FrontParts) : Type 0 where
   pub scene_kept : IsScene front.scene
   pub cut_kept : IsCut front.cut
@@ -36,4 +44,5 @@ pub record IsFront (front : FrontParts) : Type 0 where
   pub in_order : (k : ℕ) (visit : Visit) → slice_get front.visits k ≡ Some visit
       → visit.strip ≡ strip_at front.dir k front.cut.strips
   pub last_held : (visit : Visit) → slice_get front.visits (length front.visits - 1) ≡ Some visit
-      → let g = problem_of front.scene in HoldsRow g (last_row front.cut front.dir visit.strip) (path_value g front.dir) front.row
+      → let g = problem_of front.scene in
+      HoldsRow g (last_row front.cut front.dir visit.strip) (path_value g front.dir) front.row

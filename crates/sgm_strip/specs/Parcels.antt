@@ -1,5 +1,7 @@
--- Parcels: the costs and the sums of a strip, with the set of directions whose path values are in the sums.
-use Rattle.std.specs.Prelude.{◌≡◌, ℕ, ◌<◌, ◌≤◌, Bool, true, false, List, [], ◌∷◌, length, slice_index_or, slice_set, All}
+-- Parcels: the costs and the sums of a strip, with the set of directions whose path values are in
+-- the sums.
+use Rattle.std.specs.Prelude.{◌≡◌, ℕ, ◌<◌, ◌≤◌, Bool, true, false, List, [], ◌∷◌, length}
+use Rattle.std.specs.Prelude.{slice_index_or, slice_set, All}
 use Rattle.sgm_base.specs.declared.limits.TheConstants.{MAX_COST}
 use Rattle.sgm_base.specs.Disparities.{Disparities}
 use Rattle.sgm_base.specs.Sides.{Sides}
@@ -42,8 +44,8 @@ abbrev pub parcel_of : SceneParts → CutParts → ℕ → List Bool → List �
 parcel_of scene cut strip done costs sums =
     record { scene = scene; cut = cut; strip = strip; done = done; costs = costs; sums = sums }
 
--- what every parcel keeps: the costs are the scene's costs of its rows, and each sum is that of the path values, along
--- the whole image's rays, over the directions done
+-- what every parcel keeps: the costs are the scene's costs of its rows, and each sum is that of the
+-- path values, along the whole image's rays, over the directions done
 pub record IsParcel (parcel : ParcelParts) : Type 0 where
   pub scene_kept : IsScene parcel.scene
   pub cut_kept : IsCut parcel.cut
@@ -54,12 +56,15 @@ pub record IsParcel (parcel : ParcelParts) : Type 0 where
   pub left_done : is_done parcel.done Left ≡ true
   pub costs_low : All (λ c. c ≤ MAX_COST) parcel.costs
   pub costs_held : let g = problem_of parcel.scene in
-      HoldsRows g (first_row parcel.cut parcel.strip) (rows_of parcel.cut parcel.strip) g.cost parcel.costs
+      HoldsRows g (first_row parcel.cut parcel.strip)
+      (rows_of parcel.cut parcel.strip) g.cost parcel.costs
   pub sums_held : let g = problem_of parcel.scene in
-      HoldsRows g (first_row parcel.cut parcel.strip) (rows_of parcel.cut parcel.strip) (sum_done (is_done parcel.done) g) parcel.sums
+      HoldsRows g (first_row parcel.cut parcel.strip) (rows_of parcel.cut parcel.strip)
+      (sum_done (is_done parcel.done) g) parcel.sums
 
 -- a size, a span, penalties and a guide are those of the scene
-pub record RunsOn (scene : SceneParts) (size : Sides) (span : Disparities) (penalties : Penalties) (guide : Values) : Type 0 where
+pub record RunsOn (scene : SceneParts) (size : Sides) (span : Disparities) (penalties : Penalties)
+    (guide : Values) : Type 0 where
   pub same_width : size.width ≡ scene.left.width
   pub same_height : size.height ≡ scene.left.height
   pub same_span : span ≡ scene.span

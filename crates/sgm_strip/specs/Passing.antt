@@ -1,5 +1,6 @@
 -- How a direction goes through the rows of a strip. No public clause speaks of this.
-use Rattle.std.specs.Prelude.{◌≡◌, ℕ, ◌+◌, ◌-◌, ◌*◌, ◌≤◌, Bool, List, ◌++◌, if◌then◌else◌, MatchBool, Some, None}
+use Rattle.std.specs.Prelude.{◌≡◌, ℕ, ◌+◌, ◌-◌, ◌*◌, ◌≤◌, Bool, List, ◌++◌, if◌then◌else◌}
+use Rattle.std.specs.Prelude.{MatchBool, Some, None}
 use Rattle.sgm_base.specs.Values.{Values, value_at}
 use Rattle.sgm_energy.specs.declared.dir.Dir.{Dir}
 use Rattle.sgm_energy.specs.Dirs.{goes_down}
@@ -10,25 +11,29 @@ use Rattle.sgm_energy.specs.Rows.{HoldsRow}
 use Rattle.sgm_path.specs.Paths.{HasFar, Suits}
 use Rattle.sgm_strip.specs.Volumes.{HoldsRows}
 
--- which row of a strip is the i-th to which a direction comes: from its top downwards, or from its bottom upwards
+-- which row of a strip is the i-th to which a direction comes: from its top downwards, or from its
+-- bottom upwards
 abbrev pub visited : Dir → ℕ → ℕ → ℕ
 visited dir rows i = if goes_down dir then i else rows - (i + 1)
 
--- a call with these penalties, this guide, this count, this length of a row and these costs is about so many rows of the
--- problem, from the row top on
-pub record SuitsRows (g : Problem) (top rows : ℕ) (penalties : Penalties) (guide : Values) (count row : ℕ) (costs : List ℕ) : Type 0 where
+-- a call with these penalties, this guide, this count, this length of a row and these costs is
+-- about so many rows of the problem, from the row top on
+pub record SuitsRows (g : Problem) (top rows : ℕ) (penalties : Penalties) (guide : Values)
+    (count row : ℕ) (costs : List ℕ) : Type 0 where
   pub same_count : g.count ≡ count
   pub same_row : g.width * g.count ≡ row
   pub same_p1 : g.p1 ≡ penalties.p1
-  pub same_far : (q p : Pixel) → g.far q p ≡ far_of penalties (value_at guide p.x p.y) (value_at guide q.x q.y)
+  pub same_far : (q p : Pixel)
+      → g.far q p ≡ far_of penalties (value_at guide p.x p.y) (value_at guide q.x q.y)
   pub same_width : g.width ≡ guide.width
   pub same_height : g.height ≡ guide.height
   pub inside : top + rows ≤ g.height
   pub holds : HoldsRows g top rows g.cost costs
 
--- The same of the row y alone. far z x is the penalty of a change by more than one from the column z of the row from which
--- the direction comes, where the image has one, to the column x.
-pub record SuitsRow (g : Problem) (dir : Dir) (y p1 count : ℕ) (far : ℕ → ℕ → ℕ) (costs : List ℕ) : Type 0 where
+-- The same of the row y alone. far z x is the penalty of a change by more than one from the column
+-- z of the row from which the direction comes, where the image has one, to the column x.
+pub record SuitsRow (g : Problem) (dir : Dir) (y p1 count : ℕ) (far : ℕ → ℕ
+    → ℕ) (costs : List ℕ) : Type 0 where
   pub suits : Suits g y p1 count costs
   pub has_far : (before : ℕ) → row_before dir g.height y ≡ Some before → HasFar g before y far
 
@@ -38,8 +43,8 @@ pub record HoldsBefore (g : Problem) (dir : Dir) (y : ℕ) (before : List ℕ) :
   pub comes_from : row_before dir g.height y ≡ Some row
   pub holds : HoldsRow g row (path_value g dir) before
 
--- where the direction has begun, before holds the path values of the row from which it comes to the row y, and otherwise
--- it begins there
+-- where the direction has begun, before holds the path values of the row from which it comes to the
+-- row y, and otherwise it begins there
 abbrev pub ComesBefore : Problem → Dir → ℕ → Bool → List ℕ → Type 0
 ComesBefore g dir y begun before =
     MatchBool begun (HoldsBefore g dir y before) (row_before dir g.height y ≡ None)

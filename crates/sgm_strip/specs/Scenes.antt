@@ -1,4 +1,5 @@
--- What is matched: two planes of codes, the disparities that are tried, the penalties, and the guide that they may follow.
+-- What is matched: two planes of codes, the disparities that are tried, the penalties, and the
+-- guide that they may follow.
 use Rattle.std.specs.Prelude.{◌≡◌, ℕ, ◌*◌, ◌≤◌}
 use Rattle.sgm_base.specs.declared.limits.TheConstants.{MAX_PENALTY}
 use Rattle.sgm_base.specs.Disparities.{Disparities, IsCount, IsFirst}

@@ -15,8 +15,8 @@ pub struct Visit {
     pub worker: u32,
 }
 
-/// What a direction that is not level goes on with: the last row of path values of the strip that it
-/// went through last, and its visits in order.
+/// What a direction that is not level goes on with: the last row of path values of the strip that
+/// it went through last, and its visits in order.
 #[derive(Drop)]
 pub struct Front {
     pub(crate) scene: Snapshot<Scene>,
@@ -31,7 +31,8 @@ impl Model for Front {
 
     ghost view = { λ f. front_parts f.scene.value f.cut f.dir f.row.items f.visits.items };
 
-    ghost invariant = { λ f. IsFront (front_parts f.scene.value f.cut f.dir f.row.items f.visits.items)
+    ghost invariant = { λ f.
+        IsFront (front_parts f.scene.value f.cut f.dir f.row.items f.visits.items)
         × (f.cut.strips ≤ vec_capacity f.visits) };
 }
 

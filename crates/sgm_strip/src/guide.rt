@@ -7,8 +7,8 @@ use std::alloc::{AllocError, Global};
 use std::marker::Model;
 use std::sync::Arc;
 
-/// What an adaptive pen's penalties follow: for each pixel, row by row, a grey value from 0 to 255, or None where
-/// the image is void.
+/// What an adaptive pen's penalties follow: for each pixel, row by row, a grey value from 0 to 255,
+/// or None where the image is void.
 #[derive(Drop)]
 pub struct Guide {
     size: Size,
@@ -24,7 +24,8 @@ impl Model for Guide {
 
     ghost view = { λ g. values_of g.size.width g.size.height (arc_value g.entries).items };
 
-    ghost invariant = { λ g. IsValues (values_of g.size.width g.size.height (arc_value g.entries).items) };
+    ghost invariant = { λ g.
+        IsValues (values_of g.size.width g.size.height (arc_value g.entries).items) };
 }
 
 /// A value of an image whose values go up to `maxval`, as a grey value; None where it is void.
@@ -42,8 +43,8 @@ fn grey(entry: Option<u16>, maxval: u16) -> Option<u8>
 }
 
 impl Guide {
-    /// The guide of a plane whose values go up to `maxval`: at each pixel floor(255 * value / maxval), and None
-    /// where the plane is void.
+    /// The guide of a plane whose values go up to `maxval`: at each pixel
+    /// floor(255 * value / maxval), and None where the plane is void.
     pub fn make(alloc: Global, plane: &Plane, maxval: u16) -> Result<Guide, AllocError>
         requires maxval { 1 ≤ maxval }
         requires values { AtMost maxval plane.now.entries }

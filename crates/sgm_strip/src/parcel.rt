@@ -6,7 +6,8 @@ ghost use Rattle.sgm_energy.specs.Pens.{penalties_of};
 ghost use Rattle.sgm_energy.specs.Rows.{HoldsRow};
 ghost use Rattle.sgm_strip.specs.Cuts.{first_row, rows_of};
 ghost use Rattle.sgm_strip.specs.Scenes.{problem_of, row_length};
-ghost use Rattle.sgm_strip.specs.Parcels.{ParcelParts, IsParcel, IsComplete, RunsOn, is_done, level_done, parcel_of};
+ghost use Rattle.sgm_strip.specs.Parcels.{ParcelParts, IsParcel, IsComplete, RunsOn, is_done};
+ghost use Rattle.sgm_strip.specs.Parcels.{level_done, parcel_of};
 
 use crate::making::strip_rows;
 use crate::{Cut, Guide, Scene};
@@ -16,8 +17,8 @@ use std::alloc::{AllocError, Global};
 use std::marker::Model;
 use std::snapshot::Snapshot;
 
-/// The costs and the sums of one strip: for each of its pixels, row by row, one of each index. The sums
-/// are those of the path values over the directions that are done.
+/// The costs and the sums of one strip: for each of its pixels, row by row, one of each index. The
+/// sums are those of the path values over the directions that are done.
 #[derive(Drop)]
 pub struct Parcel {
     pub(crate) scene: Snapshot<Scene>,
@@ -39,7 +40,8 @@ impl Model for Parcel {
 
     ghost view = { λ p. parcel_of p.scene.value p.cut p.strip p.done p.costs.items p.sums.items };
 
-    ghost invariant = { λ p. IsParcel (parcel_of p.scene.value p.cut p.strip p.done p.costs.items p.sums.items)
+    ghost invariant = { λ p.
+        IsParcel (parcel_of p.scene.value p.cut p.strip p.done p.costs.items p.sums.items)
         × RunsOn p.scene.value p.size p.span (penalties_of p.pen) p.guide };
 }
 
@@ -63,7 +65,8 @@ impl Parcel {
     pub fn make(alloc: Global, scene: &Scene, cut: Cut, strip: u32) -> Result<Parcel, AllocError>
         requires cut { cut.height ≡ scene.now.left.height }
         requires strip { strip < cut.strips }
-        ensures made { IfOk result (λ parcel. parcel ≡ parcel_of scene.now cut strip level_done parcel.costs parcel.sums) }
+        ensures made { IfOk result (λ parcel. parcel
+            ≡ parcel_of scene.now cut strip level_done parcel.costs parcel.sums) }
         ensures kept { IfOk result IsParcel }
     {
         let guide = scene.guide.share()?;
@@ -132,12 +135,14 @@ impl Parcel {
         are_all(&self.done)
     }
 
-    /// The sums of the row `y`, counted from the image's top: that of the column x and the index d at
-    /// `x * count + d`.
+    /// The sums of the row `y`, counted from the image's top: that of the column x and the index d
+    /// at `x * count + d`.
     pub fn sums_row(&self, y: u32) -> &[u16]
         requires after_top { first_row self.now.cut self.now.strip ≤ y }
-        requires before_end { y < first_row self.now.cut self.now.strip + rows_of self.now.cut self.now.strip }
-        ensures { let g = problem_of self.now.scene in HoldsRow g y (sum_done (is_done self.now.done) g) result.now }
+        requires before_end { y
+            < first_row self.now.cut self.now.strip + rows_of self.now.cut self.now.strip }
+        ensures { let g = problem_of self.now.scene in
+            HoldsRow g y (sum_done (is_done self.now.done) g) result.now }
     {
         let row = self.row_length();
         let cut = self.cut;

@@ -8,21 +8,24 @@ use crate::parcel::place;
 use crate::sweeping::{StripCosts, pass_rows};
 use crate::{Front, Parcel, Row, Visit};
 
-/// Passes a front on through a strip: adds the path values of its direction to the sums of the parcel.
-/// The strip is the one that comes next for the front, and the direction is not done in it. The front's row
-/// is rewritten in place; what `spare`, which has room for a row, holds does not matter. Takes no memory.
+/// Passes a front on through a strip: adds the path values of its direction to the sums of the
+/// parcel. The strip is the one that comes next for the front, and the direction is not done in it.
+/// The front's row is rewritten in place; what `spare`, which has room for a row, holds does not
+/// matter. Takes no memory.
 pub fn pass(parcel: &mut Parcel, front: &mut Front, spare: &mut Row, worker: u32)
     requires scene { front.old.scene ≡ parcel.old.scene }
     requires cut { front.old.cut ≡ parcel.old.cut }
     requires spare { spare.old ≡ row_length parcel.old.scene }
-    requires next { length front.old.visits ≡ position_of front.old.dir parcel.old.strip parcel.old.cut.strips }
+    requires next { length front.old.visits
+        ≡ position_of front.old.dir parcel.old.strip parcel.old.cut.strips }
     requires left { is_done parcel.old.done front.old.dir ≡ false }
 
     // The direction is done in the parcel, the front has this visit, and all else stands.
     ensures parcel { parcel.new ≡ parcel_of parcel.old.scene parcel.old.cut parcel.old.strip
         (with_done parcel.old.done front.old.dir) parcel.old.costs parcel.new.sums }
     ensures done { is_done parcel.new.done front.old.dir ≡ true }
-    ensures front { front.new ≡ front_parts front.old.scene front.old.cut front.old.dir front.new.row
+    ensures front { front.new
+        ≡ front_parts front.old.scene front.old.cut front.old.dir front.new.row
         (front.old.visits ++ visit_of parcel.old.strip worker ∷ []) }
     ensures spare { spare.new ≡ spare.old }
 

@@ -4,7 +4,8 @@ use sgm_base::{Size, Span};
 use std::alloc::{AllocError, Global};
 use std::marker::Model;
 
-/// Room for one row of path values. Contracts see how many entries it has: what they are means nothing.
+/// Room for one row of path values. Contracts see how many entries it has: what they are means
+/// nothing.
 #[derive(Drop)]
 pub struct Row {
     pub(crate) values: Vec<u16>,

@@ -10,8 +10,9 @@ use sgm_census::{CodePlane, cost_at};
 use sgm_energy::Pen;
 use std::marker::Model;
 
-/// What is matched: the codes of the left and of the right image, of one size, one window and one rule of cost, the
-/// disparities that are tried, the penalties, and the guide that they follow where the pen is adaptive.
+/// What is matched: the codes of the left and of the right image, of one size, one window and one
+/// rule of cost, the disparities that are tried, the penalties, and the guide that they follow
+/// where the pen is adaptive.
 #[derive(Drop)]
 pub struct Scene {
     pub(crate) left: CodePlane,
@@ -26,7 +27,8 @@ impl Model for Scene {
 
     ghost view = { λ s. scene_of s.left s.right s.span (penalties_of s.pen) s.guide };
 
-    ghost invariant = { λ s. IsScene (scene_of s.left s.right s.span (penalties_of s.pen) s.guide) };
+    ghost invariant = { λ s.
+        IsScene (scene_of s.left s.right s.span (penalties_of s.pen) s.guide) };
 }
 
 impl Scene {
@@ -104,8 +106,8 @@ impl Scene {
         cost_at(&self.left, &self.right, self.span, x, y, d)
     }
 
-    /// The penalty of a change of the index by more than one, from the pixel (before_x, before_y) to (x, y).
-    /// Takes no memory.
+    /// The penalty of a change of the index by more than one, from the pixel (before_x, before_y)
+    /// to (x, y). Takes no memory.
     pub fn far(&self, x: u32, y: u32, before_x: u32, before_y: u32) -> u16
         requires column { x < self.now.left.width }
         requires row { y < self.now.left.height }

@@ -1,5 +1,6 @@
 // One direction through the rows of a strip.
-ghost use Rattle.std.specs.Prelude.{◌≡◌, ℕ, ◌+◌, ◌*◌, ◌/◌, ◌%◌, ◌-◌, ◌^◌, ◌<◌, ◌≤◌, ◌⊎◌, ◌||◌, false, Some, nat_lt, length, slice_index, EachIndex, All};
+ghost use Rattle.std.specs.Prelude.{◌≡◌, ℕ, ◌+◌, ◌*◌, ◌/◌, ◌%◌, ◌-◌, ◌^◌, ◌<◌, ◌≤◌, ◌⊎◌, ◌||◌};
+ghost use Rattle.std.specs.Prelude.{false, Some, nat_lt, length, slice_index, EachIndex, All};
 ghost use Rattle.sgm_base.specs.declared.limits.TheConstants.{MAX_COST, MAX_COUNT, MAX_PATH_VALUE};
 ghost use Rattle.sgm_energy.specs.Dirs.{is_level};
 ghost use Rattle.sgm_energy.specs.Pens.{penalties_of};
@@ -30,7 +31,8 @@ fn is_begun(begun: bool, i: usize) -> bool
     begun || 0 < i
 }
 
-/// The row from which a direction comes to the row `y`, and where the image has none the row itself.
+/// The row from which a direction comes to the row `y`, and where the image has none the row
+/// itself.
 fn row_from(dir: Dir, height: u32, y: u32) -> u32
     requires inside { y < height }
     ensures value { (before : ℕ) → row_before dir height y ≡ Some before → result ≡ before }
@@ -39,7 +41,8 @@ fn row_from(dir: Dir, height: u32, y: u32) -> u32
     dir.row_before(height, y).unwrap_or(y)
 }
 
-/// The costs of a strip that begins at the row `top`, with what the path values of its rows follow from.
+/// The costs of a strip that begins at the row `top`, with what the path values of its rows follow
+/// from.
 #[derive(Clone, Copy)]
 pub(crate) struct StripCosts<'a> {
     pub(crate) pen: Pen,
@@ -54,9 +57,9 @@ pub(crate) struct StripCosts<'a> {
     ghost low: { All (λ c. c ≤ MAX_COST) costs.now },
 }
 
-/// Goes on to the next row, whose sums begin at `at`: where a row was visited before (`begun`), `last` has
-/// its path values, and then those of this one, which are added to its sums. What `spare` holds does not
-/// matter.
+/// Goes on to the next row, whose sums begin at `at`: where a row was visited before (`begun`),
+/// `last` has its path values, and then those of this one, which are added to its sums. What
+/// `spare` holds does not matter.
 fn advance(
     row: &RowPass,
     begun: bool,
@@ -70,9 +73,11 @@ fn advance(
     requires spare_length { (terms_of row.now).count ≤ length spare.old }
     requires values { All (λ v. v ≤ MAX_PATH_VALUE) last.old }
     requires inside { at + length last.old ≤ length sums.old }
-    requires room { (k : ℕ) → k < length last.old → slice_index sums.old (at + k) + MAX_PATH_VALUE < 2 ^ 16 }
+    requires room { (k : ℕ) → k < length last.old
+        → slice_index sums.old (at + k) + MAX_PATH_VALUE < 2 ^ 16 }
     ensures bound { All (λ v. v ≤ MAX_PATH_VALUE) last.new }
-    ensures others { (k : ℕ) → (k < at) ⊎ (at + length last.old ≤ k) → slice_index sums.new k ≡ slice_index sums.old k }
+    ensures others { (k : ℕ) → (k < at) ⊎ (at + length last.old ≤ k)
+        → slice_index sums.new k ≡ slice_index sums.old k }
     ensures added { (k : ℕ) → k < length last.old
         → slice_index sums.new (at + k) ≡ slice_index sums.old (at + k) + slice_index last.new k }
     ensures paths { let t = terms_of row.now in (g : Problem) (y : ℕ)
@@ -88,9 +93,9 @@ fn advance(
     }
 }
 
-/// Adds the path values of one direction to the sums of a strip. Where the direction has `begun`, `last`
-/// hands in the row from which it comes to the strip; afterwards it has the last row of the strip. `spare`
-/// has room for a pixel, and what it holds does not matter.
+/// Adds the path values of one direction to the sums of a strip. Where the direction has `begun`,
+/// `last` hands in the row from which it comes to the strip; afterwards it has the last row of the
+/// strip. `spare` has room for a pixel, and what it holds does not matter.
 pub(crate) fn pass_rows(
     dir: Dir,
     strip: &StripCosts,
@@ -107,11 +112,13 @@ pub(crate) fn pass_rows(
     requires room { EachIndex sums.old (λ k. slice_index sums.old k + MAX_PATH_VALUE < 2 ^ 16) }
     ensures bound { All (λ v. v ≤ MAX_PATH_VALUE) last.new }
     ensures last { let s = strip.now in (g : Problem) (rows : ℕ)
-        → SuitsRows g s.top rows (penalties_of s.pen) s.guide.now s.count (length last.old) s.costs.now
+        → SuitsRows g s.top rows (penalties_of s.pen) s.guide.now s.count
+        (length last.old) s.costs.now
         → 0 < rows → ComesBefore g dir (s.top + visited dir rows 0) begun last.old
         → HoldsRow g (s.top + visited dir rows (rows - 1)) (path_value g dir) last.new }
     ensures sums { let s = strip.now in (g : Problem) (rows : ℕ) (f : Pixel → ℕ → ℕ)
-        → SuitsRows g s.top rows (penalties_of s.pen) s.guide.now s.count (length last.old) s.costs.now
+        → SuitsRows g s.top rows (penalties_of s.pen) s.guide.now s.count
+        (length last.old) s.costs.now
         → 0 < rows → ComesBefore g dir (s.top + visited dir rows 0) begun last.old
         → HoldsRows g s.top rows f sums.old
         → HoldsRows g s.top rows (λ p d. f p d + path_value g dir p d) sums.new }

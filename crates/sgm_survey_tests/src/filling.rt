@@ -11,7 +11,8 @@ use std::test::Fail;
 
 /// Whether all matches are of the indices 0 and 1, in sixteenths.
 fn are_indices(entries: &[Option<u16>]) -> bool
-    ensures { result ≡ list_all (λ entry. (unwrap_or entry 0 == 0) || (unwrap_or entry 0 == 16)) entries.now }
+    ensures { result
+        ≡ list_all (λ entry. (unwrap_or entry 0 == 0) || (unwrap_or entry 0 == 16)) entries.now }
 {
     entries.iter().all(|entry| entry.unwrap_or(0) == 0 || entry.unwrap_or(0) == 16)
 }

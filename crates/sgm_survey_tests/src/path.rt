@@ -2,7 +2,8 @@
 //! repository, which tries every sequence along whole rays; certificates of rays in all directions
 //! are stored cases of `sgm_cases`.
 
-ghost use Rattle.std.specs.Prelude.{◌≡◌, ◌+◌, ◌/◌, ◌%◌, ◌^◌, ◌<◌, ◌≤◌, length, All, IfSome, IsTrue, false};
+ghost use Rattle.std.specs.Prelude.{◌≡◌, ◌+◌, ◌/◌, ◌%◌, ◌^◌, ◌<◌, ◌≤◌, length, All, IfSome, IsTrue};
+ghost use Rattle.std.specs.Prelude.{false};
 ghost use Rattle.sgm_energy.specs.Dirs.{is_level};
 
 use sgm_base::{MAX_COST, MAX_COUNT, MAX_PATH_VALUE};

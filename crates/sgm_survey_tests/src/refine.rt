@@ -1,8 +1,8 @@
 //! Peaks of the worked row. More are stored runs of `sgm_cases`.
 
 use crate::fixtures::map_of;
-use sgm_base::{DispMap, Size};
-use sgm_refine::{MAX_PEAK, Refine, peaks};
+use sgm_base::{DispMap, MAX_PEAK, Refine, Size};
+use sgm_refine::peaks;
 use std::alloc::{AllocError, Global};
 use std::test::Fail;
 

@@ -1,5 +1,5 @@
-//! Texts: the lines and words of one, a line that is put together on the stack, and what is added at
-//! the end of one.
+//! Texts: the lines and words of one, a line that is put together on the stack, and what is added
+//! at the end of one.
 #![tactic(auto)]
 
 mod append;

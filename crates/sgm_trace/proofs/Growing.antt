@@ -3,7 +3,7 @@ use Rattle.std.proofs.Common.{◌≡◌, ℕ, ◌+◌, ◌*◌, ◌<◌, ◌≤�
 use Rattle.std.specs.List.{All}
 use Rattle.std.proofs.lemmas.List.{take_more, length-map, get_or-map}
 use Rattle.std.proofs.lemmas.List.FromFn.{length-map-range_with_len, get_or-map-range_with_len}
-use Rattle.sgm_terms.specs.Step.{carried}
+use Rattle.sgm_energy.specs.Step.{carried}
 use Rattle.sgm_energy.specs.Rays.{Pixel, pixel_at, Problem, IsInside}
 use Rattle.sgm_energy.specs.Energies.{least_ending}
 use Rattle.sgm_energy.proofs.Steps.{change_same, step_is}

@@ -10,7 +10,8 @@ use Rattle.sgm_trace.specs.Best.{best, steps_of}
 
 -- a step: `X Y D COST JUMP`
 abbrev pub step_text : Step → List ℕ
-step_text step = line (join_with_byte 32 (map decimal (step.x ∷ step.y ∷ step.d ∷ step.cost ∷ step.jump ∷ [])))
+step_text step =
+    line (join_with_byte 32 (map decimal (step.x ∷ step.y ∷ step.d ∷ step.cost ∷ step.jump ∷ [])))
 
 -- `least E`, and the steps
 abbrev pub traced_text : ℕ → List Step → List ℕ
@@ -18,4 +19,5 @@ traced_text energy steps = line (codes "least " ++ decimal energy) ++ flat_map s
 
 -- the certificate of the index d at the pixel p in a direction
 abbrev pub trace_text : Problem → Dir → Pixel → ℕ → List ℕ
-trace_text g dir p d = let ps = ray g dir p in traced_text (least_ending g ps d) (steps_of g ps (best g ps d))
+trace_text g dir p d = let ps = ray g dir p in
+    traced_text (least_ending g ps d) (steps_of g ps (best g ps d))

@@ -14,10 +14,11 @@ use sgm_energy::Dir;
 use sgm_strip::Scene;
 use std::alloc::{AllocError, Global};
 
-/// The certificate of the index `d` at the pixel (x, y) in a direction: the least energy of the sequences along
-/// the ray that comes to the pixel that end in `d`, and one that has it, step by step. Of several it is the
-/// one that is least when they are compared index by index from their ends backwards. The costs and
-/// penalties of the steps add up to the energy, which is at most 4096 * 4062. Takes memory for one ray.
+/// The certificate of the index `d` at the pixel (x, y) in a direction: the least energy of the
+/// sequences along the ray that comes to the pixel that end in `d`, and one that has it, step by
+/// step. Of several it is the one that is least when they are compared index by index from their
+/// ends backwards. The costs and penalties of the steps add up to the energy, which is at most
+/// 4096 * 4062. Takes memory for one ray.
 pub fn trace(
     alloc: Global,
     scene: &Scene,
@@ -31,10 +32,12 @@ pub fn trace(
     requires index { d < scene.now.span.count }
     ensures energy { IfOk result (λ t. t.energy
         ≡ least_ending (problem_of scene.now) (ray (problem_of scene.now) dir (pixel_at x y)) d) }
-    ensures steps { IfOk result (λ t. t.steps.items ≡ steps_of (problem_of scene.now) (ray (problem_of scene.now) dir (pixel_at x y))
+    ensures steps { IfOk result (λ t. t.steps.items
+        ≡ steps_of (problem_of scene.now) (ray (problem_of scene.now) dir (pixel_at x y))
         (best (problem_of scene.now) (ray (problem_of scene.now) dir (pixel_at x y)) d)) }
     ensures bound { IfOk result (λ t. t.energy ≤ MAX_SIDE * MAX_PATH_VALUE) }
-    ensures adds { IfOk result (λ t. sum_by (λ (step : Step). step.cost + step.jump) t.steps.items ≡ t.energy) }
+    ensures adds { IfOk result (λ t. sum_by (λ (step : Step). step.cost + step.jump) t.steps.items
+        ≡ t.energy) }
 {
     // Known from here on: what a scene keeps.
     let _size = scene.size();

@@ -1,9 +1,10 @@
-ghost use Rattle.std.specs.Prelude.{◌≡◌, ◌+◌, ◌<◌, ◌≤◌, ℕ, List, [], ◌∷◌, ◌++◌, All, IfOk, length, map, slice_index};
+ghost use Rattle.std.specs.Prelude.{◌≡◌, ◌+◌, ◌<◌, ◌≤◌, ℕ, List, [], ◌∷◌, ◌++◌, All, IfOk, length};
+ghost use Rattle.std.specs.Prelude.{map, slice_index};
 ghost use Rattle.sgm_base.specs.declared.limits.TheConstants.{MAX_COST, MAX_PENALTY, MAX_SIDE};
 ghost use Rattle.sgm_energy.specs.Energies.{IsWithin};
 ghost use Rattle.sgm_energy.specs.Rays.{IsInside, Pixel};
 ghost use Rattle.sgm_strip.specs.Scenes.{problem_of};
-ghost use Rattle.sgm_terms.specs.Step.{carried};
+ghost use Rattle.sgm_energy.specs.Step.{carried};
 ghost use Rattle.sgm_trace.specs.Rows.{AreSmall, energies_of, first_energies, pixel_of};
 
 use crate::place::Place;
@@ -20,7 +21,8 @@ pub(crate) fn energies(
     requires few { length places.now ≤ MAX_SIDE }
     requires inside { All (λ p. IsInside (problem_of scene.now) (pixel_of p)) places.now }
     requires within { IsWithin (problem_of scene.now) MAX_COST MAX_PENALTY }
-    ensures { IfOk result (λ v. map (λ row. row.items) v.items ≡ first_energies (problem_of scene.now) (map pixel_of places.now) (length places.now)) }
+    ensures { IfOk result (λ v. map (λ row. row.items) v.items
+        ≡ first_energies (problem_of scene.now) (map pixel_of places.now) (length places.now)) }
 {
     let mut rows = Vec::new(alloc);
     rows.push(first_row(alloc, scene, places[0])?)?;
@@ -34,7 +36,8 @@ pub(crate) fn energies(
 /// At the first pixel of a ray: the costs.
 fn first_row(alloc: Global, scene: &Scene, first: Place) -> Result<Vec<u32>, AllocError>
     requires { IsInside (problem_of scene.now) (pixel_of first) }
-    ensures { IfOk result (λ v. v.items ≡ energies_of (problem_of scene.now) (pixel_of first ∷ [])) }
+    ensures { IfOk result (λ v. v.items
+        ≡ energies_of (problem_of scene.now) (pixel_of first ∷ [])) }
 {
     let span = scene.span();
     let mut row = Vec::with_capacity(alloc, span.count as usize)?;
@@ -57,8 +60,10 @@ fn next_row(
     requires small { AreSmall before.now }
     requires from_inside { IsInside (problem_of scene.now) (pixel_of from) }
     requires inside { IsInside (problem_of scene.now) (pixel_of here) }
-    ensures { (ps : List Pixel) → before.now ≡ energies_of (problem_of scene.now) (ps ++ pixel_of from ∷ [])
-        → IfOk result (λ v. v.items ≡ energies_of (problem_of scene.now) ((ps ++ pixel_of from ∷ []) ++ pixel_of here ∷ [])) }
+    ensures { (ps : List Pixel)
+        → before.now ≡ energies_of (problem_of scene.now) (ps ++ pixel_of from ∷ [])
+        → IfOk result (λ v. v.items
+        ≡ energies_of (problem_of scene.now) ((ps ++ pixel_of from ∷ []) ++ pixel_of here ∷ [])) }
 {
     let span = scene.span();
     let near = scene.pen().p1();
@@ -85,7 +90,8 @@ fn least_of(energies: &[u32]) -> u32
     least
 }
 
-/// What is carried to the index `d` from the energies at the pixel before, the least of which is `least`.
+/// What is carried to the index `d` from the energies at the pixel before, the least of which is
+/// `least`.
 fn carried(before: &[u32], near: u16, far: u16, least: u32, d: usize) -> u32
     requires inside { d < length before.now }
     requires small { AreSmall before.now }

@@ -1,5 +1,5 @@
-//! Certificates: for a pixel, a direction and an index, a sequence of indices along the ray that ends in the
-//! index and has the least energy, with the parts of that energy.
+//! Certificates: for a pixel, a direction and an index, a sequence of indices along the ray that
+//! ends in the index and has the least energy, with the parts of that energy.
 #![tactic(auto)]
 
 mod certificate;

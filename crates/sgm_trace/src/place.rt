@@ -36,8 +36,10 @@ pub(crate) fn places(
     last: Place,
 ) -> Result<Vec<Place>, AllocError>
     requires { IsInside (problem_of scene.now) (pixel_of last) }
-    ensures ray { IfOk result (λ v. map pixel_of v.items ≡ ray (problem_of scene.now) dir (pixel_of last)) }
-    ensures inside { IfOk result (λ v. All (λ p. IsInside (problem_of scene.now) (pixel_of p)) v.items) }
+    ensures ray { IfOk result (λ v. map pixel_of v.items
+        ≡ ray (problem_of scene.now) dir (pixel_of last)) }
+    ensures inside { IfOk result
+        (λ v. All (λ p. IsInside (problem_of scene.now) (pixel_of p)) v.items) }
     ensures short { IfOk result (λ v. (1 ≤ length v.items) × (length v.items ≤ MAX_SIDE)) }
 {
     let size = scene.size();

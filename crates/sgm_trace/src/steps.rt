@@ -1,5 +1,6 @@
 ghost use Rattle.std.specs.Prelude.{◌≡◌, ◌+◌, ◌<◌, ◌≤◌, ℕ, All, IfOk, length, map, slice_index};
-ghost use Rattle.sgm_base.specs.declared.limits.TheConstants.{MAX_COST, MAX_COUNT, MAX_PENALTY, MAX_SIDE};
+ghost use Rattle.sgm_base.specs.declared.limits.TheConstants.{MAX_COST, MAX_COUNT, MAX_PENALTY};
+ghost use Rattle.sgm_base.specs.declared.limits.TheConstants.{MAX_SIDE};
 ghost use Rattle.sgm_energy.specs.Energies.{IsWithin, change};
 ghost use Rattle.sgm_energy.specs.Rays.{IsInside};
 ghost use Rattle.sgm_strip.specs.Scenes.{problem_of};
@@ -11,8 +12,8 @@ use crate::traced::Step;
 use sgm_strip::Scene;
 use std::alloc::{AllocError, Global};
 
-/// The steps of the sequence that ends in the index `d`, by the least energies at each pixel: from the last
-/// pixel backwards, each index is the least from which the energy is reached.
+/// The steps of the sequence that ends in the index `d`, by the least energies at each pixel: from
+/// the last pixel backwards, each index is the least from which the energy is reached.
 pub(crate) fn steps(
     alloc: Global,
     scene: &Scene,
@@ -26,7 +27,8 @@ pub(crate) fn steps(
     requires index { d < (problem_of scene.now).count }
     requires count { (problem_of scene.now).count ≤ MAX_COUNT }
     requires within { IsWithin (problem_of scene.now) MAX_COST MAX_PENALTY }
-    requires rows { map (λ row. row.items) rows.now ≡ first_energies (problem_of scene.now) (map pixel_of places.now) (length places.now) }
+    requires rows { map (λ row. row.items) rows.now
+        ≡ first_energies (problem_of scene.now) (map pixel_of places.now) (length places.now) }
     ensures { IfOk result (λ v. v.items ≡ steps_of (problem_of scene.now) (map pixel_of places.now)
         (best (problem_of scene.now) (map pixel_of places.now) d)) }
 {
@@ -60,11 +62,18 @@ fn step_to(scene: &Scene, energies: &[u32], from: Place, here: Place, d: u32) ->
     requires inside { IsInside (problem_of scene.now) (pixel_of here) }
     requires index { d < (problem_of scene.now).count }
     ensures before { result.before < (problem_of scene.now).count }
-    ensures made { result.made ≡ step_between (problem_of scene.now) (pixel_of from) (pixel_of here) result.before d }
-    ensures low { (a : ℕ) → a < (problem_of scene.now).count → slice_index energies.now result.before + result.made.jump
-        ≤ slice_index energies.now a + change (problem_of scene.now).p1 ((problem_of scene.now).far (pixel_of from) (pixel_of here)) a d }
-    ensures first { (a : ℕ) → a < result.before → slice_index energies.now result.before + result.made.jump
-        < slice_index energies.now a + change (problem_of scene.now).p1 ((problem_of scene.now).far (pixel_of from) (pixel_of here)) a d }
+    ensures made { result.made
+        ≡ step_between (problem_of scene.now) (pixel_of from) (pixel_of here) result.before d }
+    ensures low { (a : ℕ) → a < (problem_of scene.now).count
+        → slice_index energies.now result.before + result.made.jump
+        ≤ slice_index energies.now a
+        + change (problem_of scene.now).p1
+        ((problem_of scene.now).far (pixel_of from) (pixel_of here)) a d }
+    ensures first { (a : ℕ) → a < result.before
+        → slice_index energies.now result.before + result.made.jump
+        < slice_index energies.now a
+        + change (problem_of scene.now).p1
+        ((problem_of scene.now).far (pixel_of from) (pixel_of here)) a d }
 {
     let near = scene.pen().p1();
     let far = scene.far(here.x, here.y, from.x, from.y);
@@ -105,9 +114,11 @@ fn index_before(energies: &[u32], near: u16, far: u16, d: usize) -> usize
     requires small { AreSmall energies.now }
     ensures inside { result < length energies.now }
     ensures low { (a : ℕ) → a < length energies.now
-        → slice_index energies.now result + change near far result d ≤ slice_index energies.now a + change near far a d }
+        → slice_index energies.now result + change near far result d
+        ≤ slice_index energies.now a + change near far a d }
     ensures first { (a : ℕ) → a < result
-        → slice_index energies.now result + change near far result d < slice_index energies.now a + change near far a d }
+        → slice_index energies.now result + change near far result d
+        < slice_index energies.now a + change near far a d }
 {
     let mut best = 0;
     let mut least = energies[0] + u32::from(change(near, far, 0, d));

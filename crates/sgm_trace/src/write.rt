@@ -6,10 +6,11 @@ use crate::traced::{Step, Traced};
 use sgm_text::append_number;
 use std::alloc::AllocError;
 
-/// Adds the certificate's text: `least E` with its energy, then for each step a line `X Y D COST JUMP`. Each
-/// line ends in a line feed. `into` is unchanged on Err.
+/// Adds the certificate's text: `least E` with its energy, then for each step a line `X Y D COST
+/// JUMP`. Each line ends in a line feed. `into` is unchanged on Err.
 pub fn write_trace(traced: &Traced, into: &mut Vec<u8>) -> Result<(), AllocError>
-    ensures ok { OnOk result (into.new.items ≡ into.old.items ++ traced_text traced.now.energy traced.now.steps.items) }
+    ensures ok { OnOk result (into.new.items
+        ≡ into.old.items ++ traced_text traced.now.energy traced.now.steps.items) }
     ensures err { OnErr result (into.new.items ≡ into.old.items) }
 {
     let start = into.len();
@@ -23,7 +24,8 @@ pub fn write_trace(traced: &Traced, into: &mut Vec<u8>) -> Result<(), AllocError
 /// Adds the text. On Err a part of it may have been added.
 #[tactic(auto, using(sgm_text::proofs::Beginnings::starts_on, sgm_text::proofs::Beginnings::starts_append))]
 fn append_text(traced: &Traced, into: &mut Vec<u8>) -> Result<(), AllocError>
-    ensures ok { OnOk result (into.new.items ≡ into.old.items ++ traced_text traced.now.energy traced.now.steps.items) }
+    ensures ok { OnOk result (into.new.items
+        ≡ into.old.items ++ traced_text traced.now.energy traced.now.steps.items) }
     ensures err { OnErr result (StartsAs into.old.items into.new.items) }
 {
     into.extend_from_slice(b"least ")?;

@@ -4,11 +4,12 @@ use Rattle.std.specs.Str.{bytes_eq}
 use Rattle.sgm_words.specs.declared.commands.Command.{Command}
 use Rattle.sgm_words.specs.declared.commands.Command.TheVariants.{Match, Demo, Trace, Change, Merge}
 use Rattle.sgm_words.specs.declared.files.Output.{Output}
-use Rattle.sgm_words.specs.declared.files.Output.TheVariants.{Disparity, Heights, Report, Difference, Volumes}
+use Rattle.sgm_words.specs.declared.files.Output.TheVariants.{Disparity, Heights, Report}
+use Rattle.sgm_words.specs.declared.files.Output.TheVariants.{Difference, Volumes}
 
--- a command: its name, how many operands it has, how many of them are names, which come first, whether a direction
--- comes after the names, how many are numbers, which come last, whether options follow, and the outputs that are named
--- after its last name
+-- a command: its name, how many operands it has, how many of them are names, which come first,
+-- whether a direction comes after the names, how many are numbers, which come last, whether options
+-- follow, and the outputs that are named after its last name
 pub record CommandEntry : Type 0 where
   pub name : List ℕ
   pub operands : ℕ

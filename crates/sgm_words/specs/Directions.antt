@@ -3,7 +3,8 @@ use Rattle.std.specs.Prelude.{ℕ, List, Bool, codes, Option, find}
 use Rattle.std.specs.Str.{bytes_eq}
 use Rattle.sgm_energy.specs.Dirs.{directions}
 use Rattle.sgm_energy.specs.declared.dir.Dir.{Dir}
-use Rattle.sgm_energy.specs.declared.dir.Dir.TheVariants.{Right, Left, Down, DownRight, DownLeft, Up, UpRight, UpLeft}
+use Rattle.sgm_energy.specs.declared.dir.Dir.TheVariants.{Right, Left, Down, DownRight, DownLeft}
+use Rattle.sgm_energy.specs.declared.dir.Dir.TheVariants.{Up, UpRight, UpLeft}
 
 -- a direction's word
 abbrev pub direction_word : Dir → List ℕ

@@ -1,5 +1,7 @@
--- What is wrong with the words after a command. A fault is looked for at each position, and the first counts.
-use Rattle.std.specs.Prelude.{ℕ, ◌+◌, ◌-◌, List, [], Bool, not, ◌&&◌, nat_lt, if◌then◌else◌, Option, None, Some, is_some, take, drop, length, slice_get}
+-- What is wrong with the words after a command. A fault is looked for at each position, and the
+-- first counts.
+use Rattle.std.specs.Prelude.{ℕ, ◌+◌, ◌-◌, List, [], Bool, not, ◌&&◌, nat_lt, if◌then◌else◌, Option}
+use Rattle.std.specs.Prelude.{None, Some, is_some, take, drop, length, slice_get}
 use Rattle.std.specs.List.{filter_map, list_any, range_with_len}
 use Rattle.std.specs.Option.{option_or}
 use Rattle.std.specs.Str.{bytes_eq}
@@ -12,7 +14,9 @@ use Rattle.sgm_words.specs.OptionTable.{set_by, given}
 use Rattle.sgm_words.specs.declared.commands.Command.{Command}
 use Rattle.sgm_words.specs.declared.option_table.Setting.{Setting}
 use Rattle.sgm_words.specs.declared.usage.UsageFault.{UsageFault}
-use Rattle.sgm_words.specs.declared.usage.UsageFault.TheVariants.{TooFew, EmptyName, BadDirection, BadNumber, BadOption, RepeatedOption, OutputIsInput}
+use Rattle.sgm_words.specs.declared.usage.UsageFault.TheVariants.{TooFew, EmptyName, BadDirection}
+use Rattle.sgm_words.specs.declared.usage.UsageFault.TheVariants.{BadNumber, BadOption}
+use Rattle.sgm_words.specs.declared.usage.UsageFault.TheVariants.{RepeatedOption, OutputIsInput}
 
 -- the first fault that a check finds at one of so many positions from this one on
 unfoldable pub first_fault : (ℕ → Option UsageFault) → ℕ → ℕ → Option UsageFault
@@ -26,17 +30,20 @@ too_few command words =
 
 -- the name at this position is empty
 abbrev pub name_fault : List (List ℕ) → ℕ → Option UsageFault
-name_fault words position = if bytes_eq (word words position) [] then Some (EmptyName position) else None
+name_fault words position = if bytes_eq (word words position) [] then Some (EmptyName position)
+    else None
 
 -- the command has a direction, and the word after the names is none
 abbrev pub direction_fault : Command → List (List ℕ) → Option UsageFault
 direction_fault command words =
     let position = (entry_of command).names + 1 in
-    if (entry_of command).has_direction && not (is_some (direction_of (word words position))) then Some (BadDirection position) else None
+    if (entry_of command).has_direction && not (is_some (direction_of (word words position)))
+    then Some (BadDirection position) else None
 
 -- the word at this position is no number
 abbrev pub number_fault : List (List ℕ) → ℕ → Option UsageFault
-number_fault words position = if is_some (number_of (word words position)) then None else Some (BadNumber position)
+number_fault words position = if is_some (number_of (word words position)) then None
+    else Some (BadNumber position)
 
 -- where options begin
 abbrev pub options_at : Command → ℕ
@@ -49,22 +56,26 @@ set_for command text = if (entry_of command).has_options then set_by text else N
 -- a word that sets this, after these words, is no option, or it repeats one
 abbrev pub setting_fault : List (List ℕ) → Option Setting → ℕ → Option UsageFault
 setting_fault before None position = Some (BadOption position)
-setting_fault before (Some setting) position = if is_some (given setting.place before) then Some (RepeatedOption position) else None
+setting_fault before (Some setting) position = if is_some (given setting.place before)
+    then Some (RepeatedOption position) else None
 
 -- the word at this position, behind the operands, is no option, or it repeats one
 abbrev pub option_fault : Command → List (List ℕ) → ℕ → Option UsageFault
 option_fault command words position =
     let start = options_at command in
-    setting_fault (take (position - start) (drop start words)) (set_for command (word words position)) position
+    setting_fault (take (position - start) (drop start words))
+    (set_for command (word words position)) position
 
 -- the name is that of an output of the command
 abbrev pub is_output : Command → List ℕ → List ℕ → Bool
-is_output command out name = list_any (λ output. is_file_name output out name) (entry_of command).outputs
+is_output command out name = list_any (λ output. is_file_name output out name)
+    (entry_of command).outputs
 
 -- the name at this position is that of an output
 abbrev pub output_fault : Command → List (List ℕ) → ℕ → Option UsageFault
 output_fault command words position =
-    if is_output command (word words (entry_of command).names) (word words position) then Some (OutputIsInput position) else None
+    if is_output command (word words (entry_of command).names) (word words position)
+    then Some (OutputIsInput position) else None
 
 -- what is wrong with the operands themselves
 abbrev pub operand_fault : Command → List (List ℕ) → Option UsageFault
@@ -77,12 +88,15 @@ operand_fault command words =
 
 -- the first fault of the words after the operands
 abbrev pub options_fault : Command → List (List ℕ) → Option UsageFault
-options_fault command words = first_fault (option_fault command words) (options_at command) (length words - options_at command)
+options_fault command words = first_fault (option_fault command words) (options_at command)
+    (length words - options_at command)
 
 -- the first name, the last one apart, that is that of an output
 abbrev pub overwrite_fault : Command → List (List ℕ) → Option UsageFault
-overwrite_fault command words = first_fault (output_fault command words) 1 ((entry_of command).names - 1)
+overwrite_fault command words = first_fault (output_fault command words) 1
+    ((entry_of command).names - 1)
 
 -- the checks of a command, in order
 abbrev pub fault_of : Command → List (List ℕ) → Option UsageFault
-fault_of command words = option_or (operand_fault command words) (option_or (options_fault command words) (overwrite_fault command words))
+fault_of command words = option_or (operand_fault command words)
+    (option_or (options_fault command words) (overwrite_fault command words))

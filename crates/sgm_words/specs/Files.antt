@@ -1,11 +1,13 @@
 -- What a run reads and writes: the words for it in fault lines, and the names of its files.
-use Rattle.std.specs.Prelude.{◌≡◌, ℕ, List, ◌++◌, Bool, false, codes, decimal, Option, None, Some, IsSomeAnd}
+use Rattle.std.specs.Prelude.{◌≡◌, ℕ, List, ◌++◌, Bool, false, codes, decimal, Option, None, Some}
+use Rattle.std.specs.Prelude.{IsSomeAnd}
 use Rattle.std.specs.Option.{option_map_or}
 use Rattle.std.specs.Str.{bytes_eq}
 use Rattle.sgm_words.specs.declared.files.Input.{Input}
 use Rattle.sgm_words.specs.declared.files.Input.TheVariants as input
 use Rattle.sgm_words.specs.declared.files.Output.{Output}
-use Rattle.sgm_words.specs.declared.files.Output.TheVariants.{Disparity, Heights, Report, Summary, Difference, Volumes}
+use Rattle.sgm_words.specs.declared.files.Output.TheVariants.{Disparity, Heights, Report, Summary}
+use Rattle.sgm_words.specs.declared.files.Output.TheVariants.{Difference, Volumes}
 
 -- an input's word in fault lines, before its number where it has one
 abbrev pub input_word : Input → List ℕ
@@ -60,4 +62,5 @@ IsFileName output out name = IsSomeAnd (ending_of output) (λ ending. name ≡ o
 
 -- the same, as a test
 abbrev pub is_file_name : Output → List ℕ → List ℕ → Bool
-is_file_name output out name = option_map_or (λ ending. bytes_eq name (out ++ ending)) (ending_of output) false
+is_file_name output out name = option_map_or (λ ending. bytes_eq name (out ++ ending))
+    (ending_of output) false

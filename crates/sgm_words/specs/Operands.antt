@@ -1,12 +1,14 @@
 -- The words after the command, and the names of files among them.
-use Rattle.std.specs.Prelude.{◌≡◌, ⊤, ℕ, List, [], Bool, false, codes, String, string_bytes, map, slice_index_or, slice_get, Option, None, Some}
+use Rattle.std.specs.Prelude.{◌≡◌, ⊤, ℕ, List, [], Bool, false, codes, String, string_bytes, map}
+use Rattle.std.specs.Prelude.{slice_index_or, slice_get, Option, None, Some}
 use Rattle.std.specs.Str.{bytes_eq}
 use Rattle.std.specs.declared.alloc.Global.{Global}
 use Rattle.sgm_words.specs.Files.{IsFileName}
 use Rattle.sgm_words.specs.declared.files.Input.{Input}
 use Rattle.sgm_words.specs.declared.files.Input.TheVariants as input
 use Rattle.sgm_words.specs.declared.files.Output.{Output}
-use Rattle.sgm_words.specs.declared.files.Output.TheVariants.{Disparity, Heights, Report, Summary, Difference, Volumes}
+use Rattle.sgm_words.specs.declared.files.Output.TheVariants.{Disparity, Heights, Report, Summary}
+use Rattle.sgm_words.specs.declared.files.Output.TheVariants.{Difference, Volumes}
 use Rattle.sgm_words.specs.declared.options.Options.{Options}
 use Rattle.sgm_words.specs.declared.options.Options.TheVariants.{Match, Demo, Trace, Change, Merge}
 
@@ -26,7 +28,12 @@ pub record Operands : Type 0 where
   pub out : List ℕ
 
 abbrev pub operands : List (List ℕ) → Operands
-operands words = record { left = word words 1; right = word words 2; calib = word words 3; out = word words 4 }
+operands words = record {
+  left = word words 1;
+  right = word words 2;
+  calib = word words 3;
+  out = word words 4;
+}
 
 -- the word for a calibration that means the plain settings
 abbrev pub is_plain_word : List ℕ → Bool

@@ -1,10 +1,11 @@
 -- The options, and what words set them to.
-use Rattle.std.specs.Prelude.{ℕ, ◌+◌, List, [], ◌∷◌, ◌==◌, if◌then◌else◌, codes, Option, None, option_map, unwrap_or, take, drop, length, slice_index_or, find}
+use Rattle.std.specs.Prelude.{ℕ, ◌+◌, List, [], ◌∷◌, ◌==◌, if◌then◌else◌, codes, Option, None}
+use Rattle.std.specs.Prelude.{option_map, unwrap_or, take, drop, length, slice_index_or, find}
 use Rattle.std.specs.List.{filter_map}
 use Rattle.std.specs.Option.{option_or}
 use Rattle.std.specs.Str.{bytes_eq}
 use Rattle.sgm_base.specs.declared.limits.TheConstants.{MAX_STRIPS, MAX_WORKERS}
-use Rattle.sgm_refine.specs.declared.refine.TheConstants.{MAX_PEAK}
+use Rattle.sgm_base.specs.declared.limits.TheConstants.{MAX_PEAK}
 use Rattle.sgm_words.specs.Numbers.{number_within}
 use Rattle.sgm_words.specs.declared.option_table.Setting.{Setting}
 
@@ -16,7 +17,12 @@ pub record OptionEntry : Type 0 where
   pub missing : ℕ
 
 abbrev pub option_entry : List ℕ → ℕ → ℕ → ℕ → OptionEntry
-option_entry name least greatest missing = record { name = name; least = least; greatest = greatest; missing = missing }
+option_entry name least greatest missing = record {
+  name = name;
+  least = least;
+  greatest = greatest;
+  missing = missing;
+}
 
 -- the table of options
 abbrev pub option_table : List OptionEntry
@@ -30,12 +36,15 @@ option_table =
 -- the value that a word gives to an option: its name and then a number in its range
 unfoldable pub value_for : List ℕ → OptionEntry → Option ℕ
 value_for text entry =
-    if bytes_eq (take (length entry.name) text) entry.name then number_within entry.least entry.greatest (drop (length entry.name) text) else None
+    if bytes_eq (take (length entry.name) text) entry.name
+    then number_within entry.least entry.greatest (drop (length entry.name) text) else None
 
 -- what a word sets, of these entries, the first of which stands at this place
 abbrev pub set_among : ℕ → List OptionEntry → List ℕ → Option Setting
 set_among place [] text = None
-set_among place (entry ∷ later) text = option_or (option_map (λ value. record { place = place; value = value }) (value_for text entry)) (set_among (place + 1) later text)
+set_among place (entry ∷ later) text =
+    option_or (option_map (λ value. record { place = place; value = value }) (value_for text entry))
+    (set_among (place + 1) later text)
 
 -- what a word sets, if it is an option
 unfoldable pub set_by : List ℕ → Option Setting
@@ -43,7 +52,8 @@ set_by text = set_among 0 option_table text
 
 -- the value to which the words set the option at a place: that of the first that sets it
 unfoldable pub given : ℕ → List (List ℕ) → Option ℕ
-given place words = option_map (λ setting. setting.value) (find (λ setting. setting.place == place) (filter_map set_by words))
+given place words = option_map (λ setting. setting.value)
+    (find (λ setting. setting.place == place) (filter_map set_by words))
 
 -- the entry at a place of the table
 abbrev pub entry_at : ℕ → OptionEntry

@@ -1,8 +1,9 @@
 -- What the words ask for.
-use Rattle.std.specs.Prelude.{ℕ, List, [], ◌∷◌, ◌==◌, Option, None, Some, unwrap_or, Result, Ok, Err, drop}
+use Rattle.std.specs.Prelude.{ℕ, List, [], ◌∷◌, ◌==◌, Option, None, Some, unwrap_or, Result, Ok}
+use Rattle.std.specs.Prelude.{Err, drop}
 use Rattle.sgm_energy.specs.declared.dir.Dir.{Dir}
 use Rattle.sgm_energy.specs.declared.dir.Dir.TheVariants as dir
-use Rattle.sgm_refine.specs.Refining.{Refining}
+use Rattle.sgm_base.specs.Refining.{Refining}
 use Rattle.sgm_words.specs.Commands.{command_named}
 use Rattle.sgm_words.specs.Directions.{direction_of}
 use Rattle.sgm_words.specs.Faults.{options_at, fault_of}
@@ -37,7 +38,8 @@ asked_of command.Match words =
 asked_of command.Demo words =
     let later = drop (options_at command.Demo) words in
     Demo (number_at words 1) (setting_of STRIPS later) (setting_of WORKERS later) (refine_of later)
-asked_of command.Trace words = Trace (direction_at words 4) (number_at words 5) (number_at words 6) (number_at words 7)
+asked_of command.Trace words = Trace (direction_at words 4) (number_at words 5) (number_at words 6)
+    (number_at words 7)
 asked_of command.Change words = Change
 asked_of command.Merge words = Merge
 

@@ -13,9 +13,9 @@ pub enum Command {
     Merge,
 }
 
-/// A command: its name, how many operands it has, how many of them are names, which come first, whether a
-/// direction comes after the names, how many are numbers, which come last, whether options follow, and the
-/// outputs that are named after its last name.
+/// A command: its name, how many operands it has, how many of them are names, which come first,
+/// whether a direction comes after the names, how many are numbers, which come last, whether
+/// options follow, and the outputs that are named after its last name.
 #[derive(Clone, Copy)]
 pub struct CommandRow {
     pub name: &'static str,

@@ -1,7 +1,8 @@
 //! What is wrong with the operands of a command.
 ghost use Rattle.std.specs.Prelude.{◌≡◌, ◌<◌, ◌+◌, ◌^◌};
 ghost use Rattle.std.specs.Option.{option_or};
-ghost use Rattle.sgm_words.specs.Faults.{first_fault, too_few, name_fault, direction_fault, number_fault};
+ghost use Rattle.sgm_words.specs.Faults.{first_fault, too_few, name_fault, direction_fault};
+ghost use Rattle.sgm_words.specs.Faults.{number_fault};
 ghost use Rattle.sgm_words.specs.Faults.{is_output, output_fault, operand_fault, overwrite_fault};
 ghost use Rattle.sgm_words.specs.Operands.{bytes_of};
 

@@ -1,5 +1,5 @@
-//! The words of the command line: the commands, their operands and options, the first fault of the words,
-//! and the names of what a run reads and writes.
+//! The words of the command line: the commands, their operands and options, the first fault of the
+//! words, and the names of what a run reads and writes.
 #![tactic(auto)]
 
 mod commands;

@@ -1,5 +1,6 @@
 ghost use Rattle.std.specs.Prelude.{◌≡◌, ◌<◌, length};
-ghost use Rattle.sgm_words.specs.Operands.{bytes_of, word, operands, change_operands, merge_operands};
+ghost use Rattle.sgm_words.specs.Operands.{bytes_of, word, operands, change_operands};
+ghost use Rattle.sgm_words.specs.Operands.{merge_operands};
 ghost use Rattle.sgm_words.specs.Operands.{is_plain, is_plain_word};
 
 use std::marker::Model;
@@ -18,7 +19,12 @@ impl<'a> Model for OperandWords<'a> {
 
     ghost Value = { Operands };
 
-    ghost view = { λ o. record { left = o.left.now; right = o.right.now; calib = o.calib.now; out = o.out.now } };
+    ghost view = { λ o. record {
+      left = o.left.now;
+      right = o.right.now;
+      calib = o.calib.now;
+      out = o.out.now;
+    } };
 }
 
 impl<'a> OperandWords<'a> {
@@ -37,7 +43,13 @@ impl<'a> OperandWords<'a> {
 
     /// The operands with these names.
     pub fn named(left: &'a str, right: &'a str, calib: &'a str, out: &'a str) -> OperandWords<'a>
-        ensures { result ≡ record { left = left.entry.now; right = right.entry.now; calib = calib.entry.now; out = out.entry.now } }
+        ensures { result
+            ≡ record {
+              left = left.entry.now;
+              right = right.entry.now;
+              calib = calib.entry.now;
+              out = out.entry.now;
+            } }
     {
         OperandWords {
             left,

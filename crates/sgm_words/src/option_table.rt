@@ -3,8 +3,7 @@ ghost use Rattle.std.specs.Prelude.{◌≡◌, ◌<◌, IfSome};
 ghost use Rattle.sgm_words.specs.OptionTable.{value_for, set_by, entry_at};
 
 use crate::numbers::number_within;
-use sgm_base::{MAX_STRIPS, MAX_WORKERS};
-use sgm_refine::MAX_PEAK;
+use sgm_base::{MAX_PEAK, MAX_STRIPS, MAX_WORKERS};
 
 /// An option: its name with the sign, its least and greatest value, and what a missing one is.
 pub struct OptionRow {

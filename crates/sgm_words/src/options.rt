@@ -1,5 +1,5 @@
+use sgm_base::Refine;
 use sgm_energy::Dir;
-use sgm_refine::Refine;
 
 /// What the words ask for. The operands of `match` are the words 1 to 4, those of `change` and of
 /// `merge` the words 1 to 3, and the images and the calibration of `trace` the words 1 to 3.

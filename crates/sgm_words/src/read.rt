@@ -14,8 +14,8 @@ use crate::operands::word_at;
 use crate::option_table::{FILL, PEAK, STRIPS, WORKERS};
 use crate::settings::{Settings, read_settings, value_at};
 use crate::{Options, UsageFault};
+use sgm_base::Refine;
 use sgm_energy::Dir;
-use sgm_refine::Refine;
 
 // The number at a position.
 fn number_at(words: &[String], position: usize) -> u32
@@ -72,7 +72,9 @@ fn asked(command: Command, words: &[String], settings: &Settings) -> Options
 // The options of a command, or the first fault of its words.
 fn read_command(command: Command, words: &[String]) -> Result<Options, UsageFault>
     requires { 0 < length words.now }
-    ensures exact { result ≡ unless_fault (fault_of command (bytes_of words.now)) (asked_of command (bytes_of words.now)) }
+    ensures exact { result
+        ≡ unless_fault (fault_of command (bytes_of words.now))
+        (asked_of command (bytes_of words.now)) }
     ensures in_range { IfOk result AreInRange }
     ensures operands { IfOk result (λ options. operand_count options < length words.now) }
 {

@@ -1,5 +1,6 @@
 //! The words after the operands, which are options.
-ghost use Rattle.std.specs.Prelude.{◌≡◌, ◌<◌, ℕ, drop, slice_index_or, unwrap_or, Option, None, Some, IfOk, IfSome, MatchResult};
+ghost use Rattle.std.specs.Prelude.{◌≡◌, ◌<◌, ℕ, drop, slice_index_or, unwrap_or, Option, None};
+ghost use Rattle.std.specs.Prelude.{Some, IfOk, IfSome, MatchResult};
 ghost use Rattle.sgm_words.specs.Faults.{options_at, options_fault, set_for};
 ghost use Rattle.sgm_words.specs.Operands.{bytes_of};
 ghost use Rattle.sgm_words.specs.OptionTable.{entry_at};
@@ -29,7 +30,8 @@ fn set_for(command: Command, text: &[u8]) -> Option<Setting>
 pub fn read_settings(command: Command, words: &[String]) -> Result<Settings, UsageFault>
     ensures fault { MatchResult result (λ _. options_fault command (bytes_of words.now) ≡ None)
         (λ fault. options_fault command (bytes_of words.now) ≡ Some fault) }
-    ensures given { IfOk result (λ settings. AreGiven (drop (options_at command) (bytes_of words.now)) settings) }
+    ensures given { IfOk result
+        (λ settings. AreGiven (drop (options_at command) (bytes_of words.now)) settings) }
 {
     let start = command.row().operands + 1;
     let mut settings = [None; OPTION_COUNT];

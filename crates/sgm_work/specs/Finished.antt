@@ -16,17 +16,20 @@ pub record HasVisitedAll (cut : CutParts) (front : FrontParts) : Type 0 where
   pub in_order : (position : ℕ) (visit : Visit) → slice_get front.visits position ≡ Some visit
       → visit.strip ≡ strip_at front.dir position cut.strips
 
--- The parcels are those of all strips of the cut, in order, and in each all eight directions are done. The fronts are the
--- six, in order, and each went through all strips
-pub record AreFinished (scene : SceneParts) (cut : CutParts) (parcels : List ParcelParts) (fronts : List FrontParts) : Type 0 where
+-- The parcels are those of all strips of the cut, in order, and in each all eight directions are
+-- done. The fronts are the six, in order, and each went through all strips
+pub record AreFinished (scene : SceneParts) (cut : CutParts) (parcels : List ParcelParts)
+    (fronts : List FrontParts) : Type 0 where
   pub strips : AreStrips scene cut parcels
   pub complete : All (λ parcel. IsComplete parcel.done) parcels
   pub six : length fronts ≡ 6
-  pub each : (dir : Dir) (front : FrontParts) → IsAt fronts dir front → IsFrontOf scene cut dir front
+  pub each : (dir : Dir) (front : FrontParts) → IsAt fronts dir front
+      → IsFrontOf scene cut dir front
   pub visited : All (HasVisitedAll cut) fronts
 
 -- parcels and fronts that are settled, of some scene and cut, and room for a row of that scene
-pub record CanFinish (parcels : List ParcelParts) (fronts : List FrontParts) (room : ℕ) : Type 0 where
+pub record CanFinish (parcels : List ParcelParts) (fronts : List FrontParts)
+    (room : ℕ) : Type 0 where
   pub scene : SceneParts
   pub cut : CutParts
   pub settled : AreSettled scene cut parcels fronts

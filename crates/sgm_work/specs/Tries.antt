@@ -1,4 +1,5 @@
--- What a try, the tries at a strip and a visit of a strip leave of a pass. No public clause speaks of this.
+-- What a try, the tries at a strip and a visit of a strip leave of a pass. No public clause speaks
+-- of this.
 use Rattle.std.specs.Prelude.{◌≡◌, ◌≢◌, ℕ, ◌+◌, ◌<◌, ◌≤◌, ◌⊎◌, Some}
 use Rattle.sgm_energy.specs.declared.dir.Dir.{Dir}
 use Rattle.sgm_energy.specs.Dirs.{front_of, number_of}
@@ -11,7 +12,8 @@ pub record HasTried (strip : ℕ) (dir : Dir) (handed : ℕ) (p q : PassParts) :
   pub same : IsSamePass p q
   pub claims : q.claims ≡ p.claims
   pub here : q.tries strip dir ≡ p.tries strip dir + 1
-  pub others : (s : ℕ) (d : Dir) → (s ≢ strip) ⊎ (number_of d ≢ number_of dir) → q.tries s d ≡ p.tries s d
+  pub others : (s : ℕ) (d : Dir) → (s ≢ strip) ⊎ (number_of d ≢ number_of dir)
+      → q.tries s d ≡ p.tries s d
   pub puts : q.puts ≡ p.puts + handed
   pub looks : (s : ℕ) → q.looks (strip_word s) ≡ p.looks (strip_word s)
 
@@ -19,8 +21,10 @@ pub record HasTried (strip : ℕ) (dir : Dir) (handed : ℕ) (p q : PassParts) :
 pub record HasTriedFirst (strip count handed : ℕ) (p q : PassParts) : Type 0 where
   pub same : IsSamePass p q
   pub claims : q.claims ≡ p.claims
-  pub tried : (dir : Dir) (front : ℕ) → front_of dir ≡ Some front → front < count → q.tries strip dir ≡ p.tries strip dir + 1
-  pub left : (dir : Dir) (front : ℕ) → front_of dir ≡ Some front → count ≤ front → q.tries strip dir ≡ p.tries strip dir
+  pub tried : (dir : Dir) (front : ℕ) → front_of dir ≡ Some front → front < count
+      → q.tries strip dir ≡ p.tries strip dir + 1
+  pub left : (dir : Dir) (front : ℕ) → front_of dir ≡ Some front → count ≤ front
+      → q.tries strip dir ≡ p.tries strip dir
   pub others : (s : ℕ) (dir : Dir) → s ≢ strip → q.tries s dir ≡ p.tries s dir
   pub puts : q.puts ≡ p.puts + handed
   pub looks : (s : ℕ) → p.looks (strip_word s) ≤ q.looks (strip_word s)

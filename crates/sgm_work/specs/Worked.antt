@@ -13,11 +13,13 @@ pub record IsSamePass (p q : PassParts) : Type 0 where
 -- at each strip as many tries of each direction that is not level were added as claims
 abbrev pub TriesWhatItClaims : PassParts → PassParts → Type 0
 TriesWhatItClaims p q =
-    (strip : ℕ) (dir : Dir) → is_level dir ≡ false → q.tries strip dir + p.claims strip ≡ p.tries strip dir + q.claims strip
+    (strip : ℕ) (dir : Dir) → is_level dir ≡ false
+    → q.tries strip dir + p.claims strip ≡ p.tries strip dir + q.claims strip
 
 -- each strip's word was looked at so many times more, or oftener
 abbrev pub LooksMore : ℕ → ℕ → PassParts → PassParts → Type 0
-LooksMore count strips p q = (strip : ℕ) → strip < strips → p.looks (strip_word strip) + count ≤ q.looks (strip_word strip)
+LooksMore count strips p q = (strip : ℕ) → strip < strips
+    → p.looks (strip_word strip) + count ≤ q.looks (strip_word strip)
 
 -- each direction's word was last seen at twice the number of strips: its front has passed them all
 abbrev pub SeesAllPassed : ℕ → PassParts → Type 0

@@ -20,12 +20,14 @@ pub const CALLER: u32 = 16;
 /// Passes a front on through the strips that it hasn't visited, in its order.
 fn finish_front(parcels: &mut [Parcel], front: &mut Front, spare: &mut Row)
     requires strips { AreStrips front.old.scene front.old.cut parcels.old }
-    requires done { IsDoneFirst front.old.dir front.old.cut.strips (length front.old.visits) parcels.old }
+    requires done { IsDoneFirst front.old.dir front.old.cut.strips
+        (length front.old.visits) parcels.old }
     requires spare { spare.old ≡ row_length front.old.scene }
     ensures strips { AreStrips front.old.scene front.old.cut parcels.new }
     ensures done { IsDoneFirst front.old.dir front.old.cut.strips front.old.cut.strips parcels.new }
     ensures others { KeepsOthers front.old.dir parcels.old parcels.new }
-    ensures front { (front.new.scene ≡ front.old.scene) × (front.new.cut ≡ front.old.cut) × (front.new.dir ≡ front.old.dir) }
+    ensures front { (front.new.scene ≡ front.old.scene) × (front.new.cut ≡ front.old.cut)
+        × (front.new.dir ≡ front.old.dir) }
     ensures visited { HasVisitedAll front.old.cut front.new }
     ensures goes_on { GoesOnBy 16 front.old front.new }
     ensures spare { spare.new ≡ spare.old }
@@ -39,13 +41,15 @@ fn finish_front(parcels: &mut [Parcel], front: &mut Front, spare: &mut Row)
 }
 
 /// Passes each front on through the strips that it hasn't visited, as the worker [`CALLER`].
-/// The parcels and the fronts are as [`sgm_board::Board::close`] gives them, and `spare` has room for a row
-/// of their scene. Takes no memory.
+/// The parcels and the fronts are as [`sgm_board::Board::close`] gives them, and `spare` has room
+/// for a row of their scene. Takes no memory.
 pub fn finish(parcels: &mut [Parcel], fronts: &mut [Front], spare: &mut Row)
     requires settled { CanFinish parcels.old fronts.old spare.old }
-    ensures finished { (scene : SceneParts) (cut : CutParts) → AreSettled scene cut parcels.old fronts.old
+    ensures finished { (scene : SceneParts) (cut : CutParts)
+        → AreSettled scene cut parcels.old fronts.old
         → AreFinished scene cut parcels.new fronts.new }
-    ensures complete { (scene : SceneParts) (cut : CutParts) → AreSettled scene cut parcels.old fronts.old
+    ensures complete { (scene : SceneParts) (cut : CutParts)
+        → AreSettled scene cut parcels.old fronts.old
         → AreComplete scene parcels.new }
     ensures goes_on { AllZip (GoesOnBy 16) fronts.old fronts.new }
     ensures spare { spare.new ≡ spare.old }

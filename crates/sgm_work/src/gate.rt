@@ -3,8 +3,8 @@ ghost use Rattle.std.specs.Prelude.{◌≡◌};
 
 use std::marker::PhantomData;
 
-/// A place that each worker comes to with each strip that it claims, before it tries a front there. All
-/// workers share it. It answers nothing, so it changes nothing of the work.
+/// A place that each worker comes to with each strip that it claims, before it tries a front there.
+/// All workers share it. It answers nothing, so it changes nothing of the work.
 pub trait Gate {
     /// The worker, by its number, has claimed this strip.
     fn at(&self, worker: u32, strip: u32);
@@ -18,8 +18,8 @@ impl Gate for OpenGate {
     fn at(&self, _worker: u32, _strip: u32) {}
 }
 
-/// That a worker has come to a gate of this type with a task: a strip, or an entry of a batch. Only [`come`]
-/// makes one, so what asks for one is done after the gate.
+/// That a worker has come to a gate of this type with a task: a strip, or an entry of a batch. Only
+/// [`come`] makes one, so what asks for one is done after the gate.
 #[derive(Drop)]
 pub struct Came<G> {
     worker: u32,

@@ -1,5 +1,6 @@
 //! All workers on one board.
-ghost use Rattle.std.specs.Prelude.{◌≡◌, ◌*◌, ◌<◌, ◌≤◌, ℕ, map, length, All, IfOk, slice_index_or, vec_len};
+ghost use Rattle.std.specs.Prelude.{◌≡◌, ◌*◌, ◌<◌, ◌≤◌, ℕ, map, length, All, IfOk, slice_index_or};
+ghost use Rattle.std.specs.Prelude.{vec_len};
 ghost use Rattle.crossbeam_utils.specs.declared.cache_padded.CachePadded.{CachePadded};
 ghost use Rattle.crossbeam_utils.specs.Padded.{padded_value};
 ghost use Rattle.sgm_base.specs.declared.limits.TheConstants.{MAX_WORKERS};
@@ -47,7 +48,8 @@ fn crew_of(
     span: Span,
 ) -> Result<Vec<CachePadded<Worker>>, AllocError>
     ensures passes { IfOk result (λ crew. map pass_of crew.items ≡ passes.items) }
-    ensures rooms { IfOk result (λ crew. All (λ worker. room_of worker ≡ size.width * span.count) crew.items) }
+    ensures rooms { IfOk result
+        (λ crew. All (λ worker. room_of worker ≡ size.width * span.count) crew.items) }
 {
     let mut crew = Vec::with_capacity(alloc, passes.len())?;
     for pass in passes {
@@ -79,7 +81,8 @@ fn run_all<R: Threads + Sync, G: Gate + Sync>(
     ensures count { length crew.new ≡ length crew.old }
     ensures can_work { AllCanWork board.now crew.new }
     ensures same { (k : ℕ) (d : CachePadded Worker) → k < length crew.old
-        → IsSamePass (parts_of (pass_of (slice_index_or crew.old k d))) (parts_of (pass_of (slice_index_or crew.new k d))) }
+        → IsSamePass (parts_of (pass_of (slice_index_or crew.old k d)))
+        (parts_of (pass_of (slice_index_or crew.new k d))) }
 {
     let threads = crew.len();
     for_each_mut(rt, crew, threads, &|_, worker| run(board, worker, gate));
@@ -90,7 +93,8 @@ fn gather(board: &Board, mut crew: Vec<CachePadded<Worker>>) -> Worker
     requires some { 0 < vec_len crew }
     requires can_work { AllCanWork board.now crew.items }
     ensures can_work { CanWork board.now result }
-    ensures all { All (λ worker. GathersFrom (parts_of (pass_of worker)) (parts_of result.pass)) crew.items }
+    ensures all { All
+        (λ worker. GathersFrom (parts_of (pass_of worker)) (parts_of result.pass)) crew.items }
 {
     let Some(last) = crew.pop() else {
         unreachable!()
@@ -102,10 +106,10 @@ fn gather(board: &Board, mut crew: Vec<CachePadded<Worker>>) -> Worker
     whole
 }
 
-/// Hands each front through all strips, by so many workers, at most [`sgm_base::MAX_WORKERS`]: each works
-/// on a board in a thread of its own where one can be made, and what they leave is done at the end. The
-/// parcels and the fronts are as [`Board::start`] takes them. An error comes before a worker starts, and
-/// all is then dropped.
+/// Hands each front through all strips, by so many workers, at most [`sgm_base::MAX_WORKERS`]: each
+/// works on a board in a thread of its own where one can be made, and what they leave is done at
+/// the end. The parcels and the fronts are as [`Board::start`] takes them. An error comes before a
+/// worker starts, and all is then dropped.
 pub fn match_all<R: Threads + Sync, G: Gate + Sync>(
     rt: &R,
     alloc: Global,
@@ -114,11 +118,15 @@ pub fn match_all<R: Threads + Sync, G: Gate + Sync>(
     workers: u32,
     gate: &G,
 ) -> Result<Matched, AllocError>
-    requires ready { (scene : SceneParts) × (cut : CutParts) × AreReady scene cut parcels.items fronts.items }
+    requires ready { (scene : SceneParts) × (cut : CutParts)
+        × AreReady scene cut parcels.items fronts.items }
     requires workers { (1 ≤ workers) × (workers ≤ MAX_WORKERS) }
-    ensures finished { (scene : SceneParts) (cut : CutParts) → AreReady scene cut parcels.items fronts.items
-        → IfOk result (λ matched. AreFinished scene cut matched.parcels.items matched.fronts.items) }
-    ensures complete { (scene : SceneParts) (cut : CutParts) → AreReady scene cut parcels.items fronts.items
+    ensures finished { (scene : SceneParts) (cut : CutParts)
+        → AreReady scene cut parcels.items fronts.items
+        → IfOk result
+        (λ matched. AreFinished scene cut matched.parcels.items matched.fronts.items) }
+    ensures complete { (scene : SceneParts) (cut : CutParts)
+        → AreReady scene cut parcels.items fronts.items
         → IfOk result (λ matched. AreComplete scene matched.parcels.items) }
 {
     let first = &parcels[0];

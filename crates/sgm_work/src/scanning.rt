@@ -12,7 +12,7 @@ use sgm_energy::Dir;
 use sgm_strip::{Parcel, Row, pass as go_through};
 
 /// The number of fronts: one for each direction that is not level.
-pub(crate) const FRONTS: usize = 6;
+pub(crate) const FRONTS: usize = Dir::FRONTS.len();
 
 /// The direction of a front.
 pub(crate) fn dir_of(front: usize) -> Dir
@@ -26,8 +26,8 @@ pub(crate) fn dir_of(front: usize) -> Dir
     dir
 }
 
-/// Tries to take the front of a direction at the strip held, with which the worker came to the gate, and
-/// passes it on if it comes. Answers how many were passed on.
+/// Tries to take the front of a direction at the strip held, with which the worker came to the
+/// gate, and passes it on if it comes. Answers how many were passed on.
 fn hand_on<G>(
     board: &Board,
     pass: &mut Pass,
@@ -104,10 +104,10 @@ fn visit<G: Gate>(board: &Board, pass: &mut Pass, spare: &mut Row, strip: u32, g
     }
 }
 
-/// Tries each strip once, in order. With each strip that it claims it comes to the gate, then tries each
-/// of the six directions that are not level once, passes on the fronts that it gets, and gives the strip
-/// back. Answers how many fronts it passed on. What `spare`, which has room for a row, holds does not
-/// matter. Takes no memory.
+/// Tries each strip once, in order. With each strip that it claims it comes to the gate, then tries
+/// each of the six directions that are not level once, passes on the fronts that it gets, and gives
+/// the strip back. Answers how many fronts it passed on. What `spare`, which has room for a row,
+/// holds does not matter. Takes no memory.
 pub fn scan<G: Gate>(board: &Board, pass: &mut Pass, spare: &mut Row, gate: &G) -> u32
     requires own { IsPassOf board.now pass.old }
     requires idle { IsIdle (parts_of pass.old) }

@@ -1,4 +1,5 @@
-//! A run makes exactly the calls on its shelf that it needs, one after the other, which no clause can say.
+//! A run makes exactly the calls on its shelf that it needs, one after the other, which no clause
+//! can say.
 
 use super::ended::run_line;
 use super::fixtures::{HEIGHTS, add, example};
@@ -42,7 +43,8 @@ fn trips_of(alloc: Global, name: &str) -> Result<Vec<Trip>, AllocError> {
     Ok(trips)
 }
 
-/// Notes the calls that a line makes over a shelf where the fetch of this name, if it is one, fails.
+/// Notes the calls that a line makes over a shelf where the fetch of this name, if it is one,
+/// fails.
 fn note_calls<R: Threads + Sync>(
     rt: &R,
     alloc: Global,
@@ -75,8 +77,8 @@ const CHANGE: &str = "change e.asc f.asc o";
 
 const MERGE: &str = "merge list c.json o";
 
-/// Lines of runs that are done, and the calls of each. The nine zeros of the difference have four digits fewer each than
-/// the heights, whose text has 176 bytes.
+/// Lines of runs that are done, and the calls of each. The nine zeros of the difference have four
+/// digits fewer each than the heights, whose text has 176 bytes.
 const DONE: [(&str, &str); 4] = [
     (
         MATCH,

@@ -20,8 +20,9 @@ fn prints<R: Threads + Sync>(rt: &R, alloc: Global, line: &str, out: &str) -> Re
     traces(rt, alloc, line, end)
 }
 
-// The row 1 of the pair has the costs (8,8), (6,8), (6,0), .. of the indices 0 and 1, and a change by one costs 1:
-// along the first three pixels the least energy that ends in 1 is 8 + 6 + 0 and one change.
+// The row 1 of the pair has the costs (8,8), (6,8), (6,0), .. of the indices 0 and 1, and a change
+// by one costs 1: along the first three pixels the least energy that ends in 1 is 8 + 6 + 0 and one
+// change.
 #[test]
 fn the_certificate_adds_up_to_the_least_energy(rt: HostRuntime) -> Result<(), Fail> {
     let alloc = rt.alloc();

@@ -6,8 +6,8 @@ use std::alloc::{AllocError, Global};
 use std::test::Fail;
 use std::thread::Threads;
 
-/// The heights of the worked example a month later: the first cell is 1 mm higher, the fourth has come and the fifth
-/// is gone.
+/// The heights of the worked example a month later: the first cell is 1 mm higher, the fourth has
+/// come and the fifth is gone.
 const LATER: &[u8] =
     b"ncols 4\nnrows 3\nxllcorner 2000\nyllcorner -2000\ncellsize 1000\nNODATA_value -2147483648\n51000 50000 50000 50000\n-2147483648 50000 50000 -2147483648\n50000 50000 50000 -2147483648\n";
 

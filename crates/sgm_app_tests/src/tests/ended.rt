@@ -8,8 +8,8 @@ use std::alloc::{AllocError, Global};
 use std::test::Fail;
 use std::thread::Threads;
 
-/// How a run is to end: its status, what the two streams receive, and what o.pgm, o.asc and o.csv hold, where they are
-/// there.
+/// How a run is to end: its status, what the two streams receive, and what o.pgm, o.asc and o.csv
+/// hold, where they are there.
 #[derive(Clone, Copy)]
 pub struct End<'a> {
     pub status: u8,
@@ -47,7 +47,8 @@ pub fn run_line<R: Threads + Sync, S: Shelf, G: Gate + Sync>(
     Ok(run(rt, alloc, &words, shelf, out, err, gate).status())
 }
 
-/// Whether the run of a line over a shelf, whose workers pass the gate, has this status, and the streams receive this.
+/// Whether the run of a line over a shelf, whose workers pass the gate, has this status, and the
+/// streams receive this.
 fn tells<R: Threads + Sync, G: Gate + Sync>(
     rt: &R,
     alloc: Global,

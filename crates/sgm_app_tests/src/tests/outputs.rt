@@ -68,7 +68,8 @@ fn the_calibration_asks_for_the_files(rt: HostRuntime) -> Result<(), Fail> {
     Ok(())
 }
 
-/// What the calibration of the worked example begins with in version 2, up to whether its penalties follow the image.
+/// What the calibration of the worked example begins with in version 2, up to whether its penalties
+/// follow the image.
 const SETTINGS_2: &str =
     "{\"version\":2,\"disparities\":{\"first\":0,\"count\":2},\"census\":{\"width\":3,\"height\":3},\"penalties\":{\"p1\":1,\"p2\":3";
 
@@ -84,7 +85,8 @@ fn penalties_may_follow_the_image(rt: HostRuntime) -> Result<(), Fail> {
     Ok(())
 }
 
-/// Peaks of fewer than twenty pixels are all there is of the fifteen, and nothing is left to fill the gaps with.
+/// Peaks of fewer than twenty pixels are all there is of the fifteen, and nothing is left to fill
+/// the gaps with.
 const NOTHING: End<'static> = End {
     status: 0,
     out: b"valid 0 of 15\n",

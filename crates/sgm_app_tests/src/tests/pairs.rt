@@ -96,7 +96,8 @@ fn sum_of_files(alloc: Global, shelf: &mut MemoryShelf) -> Result<u64, Fail> {
     Ok(sum)
 }
 
-/// Whether the run of a line over the generated pair is done, with this summary, and writes files of this sum.
+/// Whether the run of a line over the generated pair is done, with this summary, and writes files
+/// of this sum.
 fn writes<R: Threads + Sync>(
     rt: &R,
     alloc: Global,
@@ -108,8 +109,8 @@ fn writes<R: Threads + Sync>(
     Ok(is_done(rt, alloc, line, &mut shelf, summary)? && sum_of_files(alloc, &mut shelf)? == sum)
 }
 
-// `tests/large_pair.py` works out both summaries and both sums, apart from the program. Each run is a test of its own,
-// since it takes its time.
+// `tests/large_pair.py` works out both summaries and both sums, apart from the program. Each run is
+// a test of its own, since it takes its time.
 
 /// What a plain match prints, and the sum of what it writes.
 const PLAIN: (&str, u64) = ("valid 299947 of 307200\n", 0xba9e_fc21_dc40_7359);

@@ -1,5 +1,5 @@
-//! What a run calls once a write failed: nothing more on its shelf, which no clause can say. Each device here fails once,
-//! so that whatever is tried again succeeds and is seen.
+//! What a run calls once a write failed: nothing more on its shelf, which no clause can say. Each
+//! device here fails once, so that whatever is tried again succeeds and is seen.
 
 use super::ended::run_line;
 use super::fixtures::example;
@@ -11,7 +11,8 @@ use std::cell::RefCell;
 use std::test::Fail;
 use std::thread::Threads;
 
-/// Runs a line over the worked example, on a shelf with these trips that notes its calls, with this standard output.
+/// Runs a line over the worked example, on a shelf with these trips that notes its calls, with this
+/// standard output.
 fn run_noted<R: Threads + Sync>(
     rt: &R,
     alloc: Global,
@@ -26,7 +27,8 @@ fn run_noted<R: Threads + Sync>(
     run_line(rt, alloc, line, &mut shelf, out, &mut err, &OpenGate)
 }
 
-/// Whether such a run has this status, these calls, and this on standard output, which fails where `stop` is.
+/// Whether such a run has this status, these calls, and this on standard output, which fails where
+/// `stop` is.
 fn stops<R: Threads + Sync>(
     rt: &R,
     alloc: Global,

@@ -7,7 +7,8 @@ use sgm_work::OpenGate;
 use std::alloc::{AllocError, Global};
 use std::test::Fail;
 
-/// A shelf of the worked example whose append to o.asc fails that would reach beyond its first four lines.
+/// A shelf of the worked example whose append to o.asc fails that would reach beyond its first four
+/// lines.
 fn shelf_of_four_lines(alloc: Global) -> Result<MemoryShelf, AllocError> {
     let mut trips = Vec::new(alloc);
     trips.push(Trip::AppendAt {

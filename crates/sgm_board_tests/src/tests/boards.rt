@@ -1,5 +1,5 @@
-//! Boards can be made, and threads finish one. What is made stands apart from what is asked of it, since each way out of a
-//! body is proved to give back all that was made until then.
+//! Boards can be made, and threads finish one. What is made stands apart from what is asked of it,
+//! since each way out of a body is proved to give back all that was made until then.
 ghost use Rattle.std.specs.Prelude.{◌≡◌, ◌<◌};
 ghost use Rattle.sgm_strip.specs.Scenes.{row_length};
 ghost use Rattle.sgm_board.specs.Boards.{parts_of, scene_of, strips_of, IsPassOf, IsIdle};
@@ -55,7 +55,8 @@ fn a_strip_and_a_front_go_to_one_pass_at_a_time(rt: HostRuntime) -> Result<(), F
     go_on_a_board(rt.alloc(), &scene, &mut spare)
 }
 
-/// The parcels of a board of three strips on which two threads worked, once the caller has handed on what they left.
+/// The parcels of a board of three strips on which two threads worked, once the caller has handed
+/// on what they left.
 fn completed<R: Threads + Sync>(rt: &R, alloc: Global, scene: &Scene) -> Result<Vec<Parcel>, Fail> {
     let mut spare = row_of(alloc, scene)?;
     let rows = (row_of(alloc, scene)?, row_of(alloc, scene)?);

@@ -1,5 +1,6 @@
 //! Scenes, parcels, fronts and boards of the worked example.
-ghost use Rattle.std.specs.Prelude.{◌≡◌, ℕ, ◌≤◌, false, [], length, slice_get, Some, All, IsTrue, IfOk, IfSome, vec_len};
+ghost use Rattle.std.specs.Prelude.{◌≡◌, ℕ, ◌≤◌, false, [], length, slice_get, Some, All, IsTrue};
+ghost use Rattle.std.specs.Prelude.{IfOk, IfSome, vec_len};
 ghost use Rattle.sgm_base.specs.declared.limits.TheConstants.{MAX_STRIPS, MAX_WORKERS};
 ghost use Rattle.sgm_energy.specs.declared.dir.Dir.{Dir};
 ghost use Rattle.sgm_energy.specs.Dirs.{is_level, front_of, dir_of_front};
@@ -98,7 +99,8 @@ pub(super) fn dir_of(number: usize) -> Option<Dir>
 pub(super) fn fronts_of(alloc: Global, scene: &Scene, cut: Cut) -> Result<Vec<Front>, Fail>
     requires { cut.height ≡ scene.now.left.height }
     ensures six { IfOk result (λ v. length v.items ≡ 6) }
-    ensures new { IfOk result (λ v. (place : ℕ) (front : FrontParts) → slice_get v.items place ≡ Some front
+    ensures new { IfOk result (λ v. (place : ℕ) (front : FrontParts)
+        → slice_get v.items place ≡ Some front
         → (dir : Dir) × (dir_of_front place ≡ Some dir) × IsNewFront scene.now cut dir front) }
 {
     let mut fronts = Vec::new(alloc);
@@ -143,8 +145,10 @@ pub(super) fn only_of(board: &Board, mut passes: Vec<Pass>) -> Result<Pass, Fail
 /// The two passes of a board.
 fn both_of(board: &Board, mut passes: Vec<Pass>) -> Result<(Pass, Pass), Fail>
     requires { (vec_len passes ≡ 2) × AreNew board.now passes.items }
-    ensures first { IfOk result (λ both. IsPassOf board.now both.0 × (parts_of both.0 ≡ new_pass 0)) }
-    ensures second { IfOk result (λ both. IsPassOf board.now both.1 × (parts_of both.1 ≡ new_pass 1)) }
+    ensures first { IfOk result (λ both. IsPassOf board.now both.0
+        × (parts_of both.0 ≡ new_pass 0)) }
+    ensures second { IfOk result (λ both. IsPassOf board.now both.1
+        × (parts_of both.1 ≡ new_pass 1)) }
 {
     let _ = board;
     let Some(second) = passes.pop() else {

@@ -1,4 +1,5 @@
-//! Two strips: the lower one comes first in the direction Up, and the upper one in the direction Down.
+//! Two strips: the lower one comes first in the direction Up, and the upper one in the direction
+//! Down.
 ghost use Rattle.std.specs.Prelude.{◌≡◌, ◌<◌, true, None};
 ghost use Rattle.sgm_strip.specs.Scenes.{row_length};
 ghost use Rattle.sgm_board.specs.Boards.{parts_of, scene_of, strips_of, IsPassOf, IsIdle, IsHeld};
@@ -23,7 +24,8 @@ pub(super) fn refuses(board: &Board, pass: &mut Pass, strip: u32) -> bool
     }
 }
 
-/// The pass claims the lower strip, where it doesn't get the front of Down, and passes that of Up on.
+/// The pass claims the lower strip, where it doesn't get the front of Down, and passes that of Up
+/// on.
 pub(super) fn lower_strip_goes_first(
     board: &Board,
     pass: &mut Pass,

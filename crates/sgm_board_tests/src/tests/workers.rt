@@ -63,7 +63,8 @@ fn goes_down(front: &Front) -> bool {
     front.dir().offset().1 > 0
 }
 
-/// Whether all parcels of so many strips have their sums, and all six fronts went through them in their order.
+/// Whether all parcels of so many strips have their sums, and all six fronts went through them in
+/// their order.
 fn is_whole(found: &Matched, strips: u32) -> bool {
     let parcels = &found.parcels;
     let fronts = &found.fronts;
@@ -84,8 +85,8 @@ fn sums_are_the_same_whatever_the_strips_and_the_workers(rt: HostRuntime) -> Res
     Ok(())
 }
 
-// The first scan passes on all fronts that go down through all strips, and each that goes up through the last
-// one; each scan after it, these through one strip more.
+// The first scan passes on all fronts that go down through all strips, and each that goes up
+// through the last one; each scan after it, these through one strip more.
 #[test]
 fn one_worker_by_board(rt: HostRuntime) -> Result<(), Fail> {
     let recorder = Recorder::new();
@@ -108,7 +109,8 @@ fn are_of_comers(front: &Front, meeting: &Meeting, workers: u32) -> bool {
         || meeting.has_come(visit.worker, visit.strip))
 }
 
-// Each worker holds one of the two strips while the other claims, and so gets the three fronts that begin there.
+// Each worker holds one of the two strips while the other claims, and so gets the three fronts that
+// begin there.
 #[test]
 fn two_workers_overlap(rt: HostRuntime) -> Result<(), Fail> {
     let meeting = Meeting::of(2);
@@ -149,7 +151,8 @@ pub(super) fn finish_all(
     (parcels, fronts)
 }
 
-/// The parcels and fronts of a board of three strips after one scan, once the caller has handed on what was left.
+/// The parcels and fronts of a board of three strips after one scan, once the caller has handed on
+/// what was left.
 fn finished(alloc: Global, scene: &Scene) -> Result<(Vec<Parcel>, Vec<Front>), Fail> {
     let mut spare = row_of(alloc, scene)?;
     let (board, passes) = board_of(alloc, scene, 3, 1)?;
@@ -167,12 +170,14 @@ fn went_through(front: &Front, by_caller: usize) -> bool {
     goes_through(front.visits(), 3, goes_down(front)) && caller.count() == by_caller
 }
 
-/// Whether a front went through all three strips: one that goes up twice by the caller, another never.
+/// Whether a front went through all three strips: one that goes up twice by the caller, another
+/// never.
 fn went_on(front: &Front) -> bool {
     went_through(front, if goes_down(front) { 0 } else { 2 })
 }
 
-// One scan takes the fronts that go down through all three strips, and those that go up through the last one alone.
+// One scan takes the fronts that go down through all three strips, and those that go up through the
+// last one alone.
 #[test]
 fn finish_goes_on_where_a_scan_ended(rt: HostRuntime) -> Result<(), Fail> {
     let scene = scene_of(rt.alloc())?;

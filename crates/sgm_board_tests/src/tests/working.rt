@@ -4,7 +4,8 @@ ghost use Rattle.sgm_energy.specs.Dirs.{is_level};
 ghost use Rattle.sgm_strip.specs.Parcels.{ParcelParts};
 ghost use Rattle.sgm_strip.specs.Scenes.{row_length};
 ghost use Rattle.sgm_board.specs.Settled.{AreSettled};
-ghost use Rattle.sgm_board.specs.Boards.{parts_of, scene_of, cut_of, passes_of, strips_of, IsPassOf, IsIdle, IsHeld};
+ghost use Rattle.sgm_board.specs.Boards.{parts_of, scene_of, cut_of, passes_of, strips_of};
+ghost use Rattle.sgm_board.specs.Boards.{IsPassOf, IsIdle, IsHeld};
 
 use super::making::dir_of;
 use sgm_board::{Board, Pass};
@@ -139,7 +140,8 @@ fn go_round(board: &Board, pass: &mut Pass, spare: &mut Row)
     }
 }
 
-/// Goes round until all fronts have passed all strips; of three strips it tries to claim one at most a million times.
+/// Goes round until all fronts have passed all strips; of three strips it tries to claim one at
+/// most a million times.
 fn work(board: &Board, mut pass: Pass, mut spare: Row) -> Pass
     requires own { IsPassOf board.now pass }
     requires idle { IsIdle (parts_of pass) }
@@ -165,8 +167,10 @@ pub(super) fn work_both<R: Threads + Sync>(
     first: (Pass, Row),
     second: (Pass, Row),
 ) -> (Vec<Parcel>, Vec<Front>)
-    requires first { IsPassOf board first.0 × IsIdle (parts_of first.0) × (first.1 ≡ row_length (scene_of board)) }
-    requires second { IsPassOf board second.0 × IsIdle (parts_of second.0) × (second.1 ≡ row_length (scene_of board)) }
+    requires first { IsPassOf board first.0 × IsIdle (parts_of first.0)
+        × (first.1 ≡ row_length (scene_of board)) }
+    requires second { IsPassOf board second.0 × IsIdle (parts_of second.0)
+        × (second.1 ≡ row_length (scene_of board)) }
     requires all { (k : ℕ) → k < passes_of board
         → ((parts_of first.0).gathered k || (parts_of second.0).gathered k) ≡ true }
     ensures { AreSettled (scene_of board) (cut_of board) result.0.items result.1.items }
@@ -177,7 +181,8 @@ pub(super) fn work_both<R: Threads + Sync>(
     let (mut one, other) = join(
         rt,
         move || -> Pass
-            requires { IsPassOf shared.now one × IsIdle (parts_of one) × (spare ≡ row_length (scene_of shared.now)) }
+            requires { IsPassOf shared.now one × IsIdle (parts_of one)
+                × (spare ≡ row_length (scene_of shared.now)) }
             ensures own { IsPassOf shared.entry.now result × IsIdle (parts_of result) }
             ensures same { (parts_of result).gathered ≡ (parts_of one).gathered }
         { work(shared, one, spare) },

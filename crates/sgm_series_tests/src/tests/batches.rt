@@ -1,5 +1,5 @@
-//! A series takes its entries eight at a time, which shows where an input can't be read: all of the earlier batches were
-//! written, and nothing of that input's own.
+//! A series takes its entries eight at a time, which shows where an input can't be read: all of the
+//! earlier batches were written, and nothing of that input's own.
 
 use super::ended::{assert_held, end_of};
 use super::fixtures::PLAIN;

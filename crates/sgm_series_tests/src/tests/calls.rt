@@ -1,4 +1,5 @@
-//! A series makes exactly the calls on its shelf that it needs, one after the other, which no clause can say.
+//! A series makes exactly the calls on its shelf that it needs, one after the other, which no
+//! clause can say.
 
 use super::fixtures::{files_with, words_of};
 use sgm_io::{MemoryShelf, MemorySink, Trip};
@@ -14,7 +15,8 @@ use std::thread::Threads;
 /// An entry with a calibration, and a plain one.
 const LIST: &[u8] = b"l.pgm r.pgm c.json o\nr.pgm l.pgm - p\n";
 
-/// A shelf with the worked example and this list, on which the fetch of this name, if it is one, fails.
+/// A shelf with the worked example and this list, on which the fetch of this name, if it is one,
+/// fails.
 fn shelf_of(alloc: Global, name: &str) -> Result<MemoryShelf, AllocError> {
     let mut trips = Vec::new(alloc);
     if !name.is_empty() {

@@ -8,14 +8,14 @@ use Rattle.sgm_app.proofs.certificate.certificate_of.Goals as goal
 
 pub returns-then-not-is_inside : goal.returns-then-not-is_inside
 returns-then-not-is_inside c =
-    let asked : Asked = record { dir = c.args.dir; x = c.args.x; y = c.args.y; d = c.args.d } in
+    let asked : Asked = record { dir = c.args.at.dir; x = c.args.at.x; y = c.args.at.y; d = c.args.at.d } in
     refused_outside asked (problem_of c.args.scene.now) (sym c.is_inside.ensures ∙ c.if-not-is_inside.true)
 
 pub returns : goal.returns
 returns c =
-    let asked : Asked = record { dir = c.args.dir; x = c.args.x; y = c.args.y; d = c.args.d } in
+    let asked : Asked = record { dir = c.args.at.dir; x = c.args.at.x; y = c.args.at.y; d = c.args.at.d } in
     let g = problem_of c.args.scene.now in
-    let text : c.write_trace.new.into.items ≡ trace_text g c.args.dir (pixel_at c.args.x c.args.y) c.args.d =
+    let text : c.write_trace.new.into.items ≡ trace_text g c.args.at.dir (pixel_at c.args.at.x c.args.at.y) c.args.at.d =
     c.in_ok-write_trace.ensures.ok ∙ rw (c.new-text.ensures.items, c.in_ok-traced.ensures.energy, c.in_ok-traced.ensures.steps) refl in
     given_inside asked g (sym c.is_inside.ensures ∙ c.if-not-is_inside.false)
     ∙ ap (λ (t : List ℕ). let r : Result (List ℕ) Refusal = Ok t in r) (sym text)

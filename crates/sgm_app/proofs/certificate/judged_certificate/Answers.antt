@@ -6,12 +6,12 @@ use Rattle.sgm_app.proofs.certificate.judged_certificate.Goals as goal
 
 pub returns-in-Ok : goal.returns-in-Ok
 returns-in-Ok c =
-    let asked : Asked = record { dir = c.args.dir; x = c.args.x; y = c.args.y; d = c.args.d } in
+    let asked : Asked = record { dir = c.args.at.dir; x = c.args.at.x; y = c.args.at.y; d = c.args.at.d } in
     let same = of_scene c.args.judged.now asked c.in-Ok.scene c.in-Ok.ensures in
     let P : Result (List ℕ) Refusal → Type 0 = λ w. MatchResult c.certificate_of.result (λ text. w ≡ Ok text.items) (StopsFor w) in
     subst P (sym same) c.certificate_of.ensures
 
 pub returns-in-Err : goal.returns-in-Err
 returns-in-Err c =
-    let asked : Asked = record { dir = c.args.dir; x = c.args.x; y = c.args.y; d = c.args.d } in
+    let asked : Asked = record { dir = c.args.at.dir; x = c.args.at.x; y = c.args.at.y; d = c.args.at.d } in
     rw c.from.ensures (stop_scene c.args.judged.now asked c.in-Err.error c.in-Err.ensures)

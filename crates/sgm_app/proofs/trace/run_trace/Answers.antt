@@ -18,7 +18,7 @@ returns-in-Err-clause-ends g c =
     (unchanged g.S.Shelf g.O.Sink _ _ c.args.out.now c.in-Err.ensures.keeps)
     (λ told v calls. let r = calls.readings in
     shown_along v _ _ (sym calls.is) (c.in-Err.ensures.verdict told _
-    (none_traced 4 (omega arith) a.dir a.x a.y a.d r.left r.right (calib_of asked r))))
+    (none_traced 4 (omega arith) a.at.dir a.at.x a.at.y a.at.d r.left r.right (calib_of asked r))))
     (c.in-Err.ensures.counts (of_trace asked) (λ input name is. is) (g.O.Sink.faults c.args.out.now)))
 
 pub returns-in-Ok-certificate-clause-ends : goal.returns-in-Ok-certificate-clause-ends
@@ -30,16 +30,16 @@ returns-in-Ok-certificate-clause-ends g c =
     let shelf = c.gather.new.shelf in
     let counts = ends.counts (g.S.Shelf.read_faults shelf) (g.S.Shelf.write_faults shelf) in
     ends_alone (of_trace asked) _ c.deliver_summary.result _ _ kept.held kept.writing kept.unfinished
-    (λ v calls. trace_outputs asked a.dir a.x a.y a.d held v calls)
+    (λ v calls. trace_outputs asked a.at.dir a.at.x a.at.y a.at.d held v calls)
     (summary_alone c.deliver_summary.result _ _ counts)
     (λ told v calls.
     let r = calls.readings in let are = calls.are_readings in let at = c.in-Ok.ensures.at_hand told in
     shown_along v (files [] c.deref.result.now) c.deliver_summary.result
     (sym (ap (λ (s : List ℕ). files [] s) c.deref.ensures.value
-    ∙ settled _ v (certificate_for r.left r.right (calib_of asked r) a.dir a.x a.y a.d) (λ t. files [] t)
+    ∙ settled _ v (certificate_for r.left r.right (calib_of asked r) a.at.dir a.at.x a.at.y a.at.d) (λ t. files [] t)
     c.in-Ok-certificate.text.items calls.is
     (c.in-Ok.ensures.verdict told _
-    (none_traced 4 (omega arith) a.dir a.x a.y a.d r.left r.right (calib_of asked r)))
+    (none_traced 4 (omega arith) a.at.dir a.at.x a.at.y a.at.d r.left r.right (calib_of asked r)))
     (c.in-Ok-certificate.ensures r.left r.right (calib_of asked r)
     (image_reads _ _ _ r.left at.left c.left.ensures are.left)
     (image_reads _ _ _ r.right at.right c.right.ensures are.right)
@@ -49,10 +49,10 @@ returns-in-Ok-certificate-clause-ends g c =
     let r = calls.readings in let are = calls.are_readings in let at = c.in-Ok.ensures.at_hand told in
     out_along c.deliver_summary.result v (files [] c.deref.result.now) _ _
     (ap (λ (s : List ℕ). files [] s) c.deref.ensures.value
-    ∙ settled _ v (certificate_for r.left r.right (calib_of asked r) a.dir a.x a.y a.d) (λ t. files [] t)
+    ∙ settled _ v (certificate_for r.left r.right (calib_of asked r) a.at.dir a.at.x a.at.y a.at.d) (λ t. files [] t)
     c.in-Ok-certificate.text.items calls.is
     (c.in-Ok.ensures.verdict told _
-    (none_traced 4 (omega arith) a.dir a.x a.y a.d r.left r.right (calib_of asked r)))
+    (none_traced 4 (omega arith) a.at.dir a.at.x a.at.y a.at.d r.left r.right (calib_of asked r)))
     (c.in-Ok-certificate.ensures r.left r.right (calib_of asked r)
     (image_reads _ _ _ r.left at.left c.left.ensures are.left)
     (image_reads _ _ _ r.right at.right c.right.ensures are.right)
@@ -72,8 +72,8 @@ returns-clause-ends g c =
     (λ told v calls.
     let r = calls.readings in let are = calls.are_readings in let at = c.in-Ok.ensures.at_hand told in
     shown_along v _ _ (sym calls.is ∙ c.in-Ok.ensures.verdict told _
-    (none_traced 4 (omega arith) a.dir a.x a.y a.d r.left r.right (calib_of asked r)))
-    (stop_shown (certificate_for r.left r.right (calib_of asked r) a.dir a.x a.y a.d) (λ t. files [] t)
+    (none_traced 4 (omega arith) a.at.dir a.at.x a.at.y a.at.d r.left r.right (calib_of asked r)))
+    (stop_shown (certificate_for r.left r.right (calib_of asked r) a.at.dir a.at.x a.at.y a.at.d) (λ t. files [] t)
     c.in-Err-certificate.error
     (c.in-Err-certificate.ensures r.left r.right (calib_of asked r)
     (image_reads _ _ _ r.left at.left c.left.ensures are.left)

@@ -7,6 +7,6 @@ use Rattle.sgm_job.proofs.heights.add_points.Given as goal
 
 abbrev pub invariant-loop-y : goal.invariant-loop-y
 invariant-loop-y l = record {
-  value : l.bins ≡ fold with_point l.fn.bins (flat_map (points_of_row l.station l.fn.span.first l.map) (range_with_len 0 l.y));
-  room : (more : ℕ) → HasRoom l.fn.bins (more + l.y * l.map.width) → HasRoom l.bins more;
+  value : l.bins ≡ fold with_point l.fn.bins (flat_map (points_of_row l.shown.station.now l.shown.span.first l.shown.map.now) (range_with_len 0 l.y));
+  room : (more : ℕ) → HasRoom l.fn.bins (more + l.y * l.shown.map.now.width) → HasRoom l.bins more;
 }

@@ -1,6 +1,4 @@
-use Rattle.std.proofs.Common.{◌≡◌, ◌+◌, None, sym, ap, subst, ◌∙◌, get_or, w32, arith}
-use Rattle.std.proofs.lemmas.Int.{ints, to_z-of_z}
-use Rattle.sgm_base.specs.Disparities.{Disparities}
+use Rattle.std.proofs.Common.{◌≡◌, ◌+◌, None, sym, subst, ◌∙◌, get_or, arith}
 use Rattle.sgm_grid.specs.Binning.{Binned, HasRoom, with_point}
 use Rattle.std.specs.Prelude.{fold}
 use Rattle.std.specs.List.{filter_map, range_with_len}
@@ -19,14 +17,12 @@ pixel_point-requires-clause-value c =
 
 pub loop-x-preserved : goal.loop-x-preserved
 loop-x-preserved c =
-    let f : ℕ → Option Point = λ x. option_and_then (point_at c.args.station.now c.args.span.first x c.args.y) (get_or c.args.row.now x None) in
-    let first = ap (λ (s : Disparities). s.first) c.span.view_is in
-    let shifted = ap (λ z. option_and_then (point_at c.args.station.now z c.loop-x.x c.args.y) (get_or c.args.row.now c.loop-x.x None)) (to_z-of_z w32 c.span.inside.first (grind (arith, ints, c.span.invariant)) ∙ first) in
+    let f : ℕ → Option Point = λ x. option_and_then (point_at c.args.shown.now.station.now c.args.shown.now.span.first x c.args.y) (get_or c.args.row.now x None) in
     record {
       value = elim c.match-pixel_point.branch [
-        | in-Some w ↦ row_point f c.loop-x.x c.args.bins.now c.loop-x.bins c.match-pixel_point.bins w.in-Some.found c.loop-x.invariant.value (w.in-Some.ensures.exact ∙ shifted) (w.bins-is ∙ w.add.ensures.value)
+        | in-Some w ↦ row_point f c.loop-x.x c.args.bins.now c.loop-x.bins c.match-pixel_point.bins w.in-Some.found c.loop-x.invariant.value w.in-Some.ensures.exact (w.bins-is ∙ w.add.ensures.value)
         | in_default w ↦ subst (λ g. g ≡ fold with_point c.args.bins.now (filter_map f (range_with_len 0 (c.loop-x.x + 1)))) (sym w.bins-is)
-            (row_none f c.loop-x.x c.args.bins.now c.loop-x.bins c.loop-x.invariant.value (w.in_default.ensures.exact ∙ shifted))
+            (row_none f c.loop-x.x c.args.bins.now c.loop-x.bins c.loop-x.invariant.value w.in_default.ensures.exact)
       ];
       room = λ more room.
           let next : more + (c.loop-x.x + 1) ≡ (more + 1) + c.loop-x.x = omega arith in

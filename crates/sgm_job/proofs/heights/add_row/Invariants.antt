@@ -7,6 +7,6 @@ use Rattle.sgm_job.proofs.heights.add_row.Given as goal
 
 abbrev pub invariant-loop-x : goal.invariant-loop-x
 invariant-loop-x l = record {
-  value : l.bins ≡ fold with_point l.fn.bins (filter_map (λ x. option_and_then (point_at l.station l.fn.span.first x l.y) (get_or l.row x None)) (range_with_len 0 l.x));
+  value : l.bins ≡ fold with_point l.fn.bins (filter_map (λ x. option_and_then (point_at l.shown.station.now l.shown.span.first x l.y) (get_or l.row x None)) (range_with_len 0 l.x));
   room : (more : ℕ) → HasRoom l.fn.bins (more + l.x) → HasRoom l.bins more;
 }

@@ -1,8 +1,6 @@
-use Rattle.std.proofs.Common.{◌≡◌, ℕ, ◌+◌, ◌≤◌, List, length, None, Option, Vec, Global, sym, ap, subst, ◌∙◌, get_or, w32, arith}
+use Rattle.std.proofs.Common.{◌≡◌, ℕ, ◌+◌, ◌≤◌, List, length, None, Option, Vec, Global, sym, ap, subst, ◌∙◌, get_or, arith}
 use Rattle.std.specs.Prelude.{All, IfSome, option_and_then}
-use Rattle.std.proofs.lemmas.Int.{ints, to_z-of_z}
 use Rattle.std.proofs.lemmas.List.Elements.{All-get_or, All-push}
-use Rattle.sgm_base.specs.Disparities.{Disparities}
 use Rattle.sgm_base.specs.declared.point.Point.{Point}
 use Rattle.sgm_grid.specs.declared.placed.Placed.{Placed}
 use Rattle.sgm_grid.specs.Placing.{IsPlaced, placed}
@@ -17,24 +15,21 @@ place_pixel-requires-clause-value c =
 
 pub loop-x-preserved : goal.loop-x-preserved
 loop-x-preserved c =
-    let spec = c.args.spec in
+    let spec = c.args.shown.now.spec in
     let x = c.loop-x.x in
-    let f : ℕ → Option Point = λ x. option_and_then (point_at c.args.station.now c.args.span.first x c.args.y) (get_or c.args.row.now x None) in
-    let first = ap (λ (s : Disparities). s.first) c.span.view_is in
-    let shifted = ap (λ z. option_and_then (placed spec) (option_and_then (point_at c.args.station.now z x c.args.y) (get_or c.args.row.now x None)))
-    (to_z-of_z w32 c.span.inside.first (grind (arith, ints, c.span.invariant)) ∙ first) in
+    let f : ℕ → Option Point = λ x. option_and_then (point_at c.args.shown.now.station.now c.args.shown.now.span.first x c.args.y) (get_or c.args.row.now x None) in
     elim c.match-place_pixel.branch [
       | in-Some+in_ok-push w ↦
           (let is = ap (λ (v : Vec Placed Global). v.items) w.places-is ∙ w.in_ok-push.ensures.items in
           record {
-            exact = place_some spec f x c.loop-x.places.items c.match-place_pixel.places.items w.in-Some.placed c.loop-x.invariant.exact (w.in-Some.ensures.exact ∙ shifted) is;
+            exact = place_some spec f x c.loop-x.places.items c.match-place_pixel.places.items w.in-Some.placed c.loop-x.invariant.exact w.in-Some.ensures.exact is;
             within = subst (All (IsPlaced spec)) (sym is) (All-push (IsPlaced spec) c.loop-x.places.items w.in-Some.placed c.loop-x.invariant.within w.in-Some.ensures.within);
             few = subst (λ (places : List Placed). length places ≤ x + 1) (sym is) (few_more c.loop-x.places.items w.in-Some.placed x c.loop-x.invariant.few);
           })
       | in_default w ↦
           (let is = ap (λ (v : Vec Placed Global). v.items) w.places-is in
           record {
-            exact = subst (λ (places : List Placed). places ≡ places_below spec f (x + 1)) (sym is) (place_none spec f x c.loop-x.places.items c.loop-x.invariant.exact (w.in_default.ensures.exact ∙ shifted));
+            exact = subst (λ (places : List Placed). places ≡ places_below spec f (x + 1)) (sym is) (place_none spec f x c.loop-x.places.items c.loop-x.invariant.exact w.in_default.ensures.exact);
             within = subst (All (IsPlaced spec)) (sym is) c.loop-x.invariant.within;
             few = subst (λ (places : List Placed). length places ≤ x + 1) (sym is) (omega (arith, c.loop-x.invariant.few));
           })

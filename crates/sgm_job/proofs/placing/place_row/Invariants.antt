@@ -7,7 +7,7 @@ use Rattle.sgm_job.proofs.placing.place_row.Given as goal
 
 abbrev pub invariant-loop-x : goal.invariant-loop-x
 invariant-loop-x l = record {
-  exact : l.places.items ≡ places_below l.spec (λ x. option_and_then (point_at l.station l.fn.span.first x l.y) (get_or l.row x None)) l.x;
-  within : All (IsPlaced l.spec) l.places.items;
+  exact : l.places.items ≡ places_below l.shown.spec (λ x. option_and_then (point_at l.shown.station.now l.shown.span.first x l.y) (get_or l.row x None)) l.x;
+  within : All (IsPlaced l.shown.spec) l.places.items;
   few : length l.places.items ≤ l.x;
 }

@@ -12,7 +12,7 @@ returns c =
     let shown = c.args.shown.now in
     let row = c.row-row.result.now in
     let wide = c.row-row.ensures.whole in
-    let points = row_points shown.station.now shown.span.first shown.map.now c.args.y (length row) row c.requires.row c.row-row.ensures.value wide in
+    let points = row_points shown.station.now shown.span.first shown.map.now c.args.y (length row) row c.requires c.row-row.ensures.value wide in
     subst (λ o. IfSome o (λ places. IsPlacedRow shown.station.now shown.spec shown.span.first shown.map.now c.args.y places.items)) (sym c.ok.ensures.value)
     (if_ok_three c.place_row.result
     (λ places exact within few. record { exact = exact ∙ ap (filter_map (placed shown.spec)) points; within = within; few = omega (arith, few, wide) })

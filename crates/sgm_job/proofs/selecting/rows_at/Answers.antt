@@ -7,7 +7,7 @@ use Rattle.sgm_base.specs.Values.{Values}
 use Rattle.sgm_strip.specs.Cuts.{CutParts}
 use Rattle.sgm_strip.specs.Parcels.{ParcelParts, IsComplete}
 use Rattle.sgm_strip.specs.Scenes.{SceneParts, problem_of}
-use Rattle.sgm_strip.specs.Strips.{AreStrips, IsStripOf}
+use Rattle.sgm_strip.specs.Strips.{AreComplete, AreStrips, IsStripOf}
 use Rattle.sgm_select.specs.Selection.{disparities_of}
 use Rattle.sgm_select.specs.Strips.{rows_of_strip}
 use Rattle.sgm_job.proofs.selecting.rows_at.Goals as goal
@@ -16,6 +16,11 @@ strip_at : (scene : SceneParts) (cut : CutParts) (parcels : List ParcelParts) (s
     → parcel ≡ get_or parcels strip parcel → IsStripOf scene cut strip parcel
 strip_at scene cut parcels strip parcel are inside is =
     are.each strip parcel (slice_get-get_or parcels strip parcel inside ∙ ap (λ (p : ParcelParts). Some p) (sym is))
+
+-- of complete parcels each has the scene of them all
+one_scene : (scene : SceneParts) (parcels : List ParcelParts) (strip : ℕ) (parcel : ParcelParts) → AreComplete scene parcels → strip < length parcels
+    → parcel ≡ get_or parcels strip parcel → parcel.scene ≡ scene
+one_scene scene parcels strip parcel all inside is = (strip_at scene all.cut parcels strip parcel all.strips inside is).same_scene
 
 same_rows : (scene : SceneParts) (cut : CutParts) (left right : Values) (strip : ℕ) (parcel : ParcelParts) → IsStripOf scene cut strip parcel
     → rows_of_strip (disparities_of (problem_of parcel.scene) left right parcel.scene.span.first) parcel.cut parcel.strip ≡ rows_of_strip (disparities_of (problem_of scene) left right scene.span.first) cut strip
@@ -30,36 +35,35 @@ if_ok_some (Err e) f h = tt
 
 pub select_strip-requires-clause-left_width : goal.select_strip-requires-clause-left_width
 select_strip-requires-clause-left_width c =
-    let can = c.requires.can_select in
-    can.left_width ∙ sym (ap (λ (s : SceneParts). s.left.width) (strip_at can.scene can.complete.cut c.args.parcels.now c.args.strip c.index-parcels-strip.result can.complete.strips c.requires.strip c.index-parcels-strip.is).same_scene)
+    c.args.planes.now.left_width
+    ∙ sym (ap (λ (s : SceneParts). s.left.width) (one_scene c.args.planes.now.scene c.args.parcels.now c.args.strip c.index-parcels-strip.result c.requires.complete c.requires.strip c.index-parcels-strip.is))
 
 pub select_strip-requires-clause-left_height : goal.select_strip-requires-clause-left_height
 select_strip-requires-clause-left_height c =
-    let can = c.requires.can_select in
-    can.left_height ∙ sym (ap (λ (s : SceneParts). s.left.height) (strip_at can.scene can.complete.cut c.args.parcels.now c.args.strip c.index-parcels-strip.result can.complete.strips c.requires.strip c.index-parcels-strip.is).same_scene)
+    c.args.planes.now.left_height
+    ∙ sym (ap (λ (s : SceneParts). s.left.height) (one_scene c.args.planes.now.scene c.args.parcels.now c.args.strip c.index-parcels-strip.result c.requires.complete c.requires.strip c.index-parcels-strip.is))
 
 pub select_strip-requires-clause-right_width : goal.select_strip-requires-clause-right_width
 select_strip-requires-clause-right_width c =
-    let can = c.requires.can_select in
-    can.right_width ∙ sym (ap (λ (s : SceneParts). s.left.width) (strip_at can.scene can.complete.cut c.args.parcels.now c.args.strip c.index-parcels-strip.result can.complete.strips c.requires.strip c.index-parcels-strip.is).same_scene)
+    c.args.planes.now.right_width
+    ∙ sym (ap (λ (s : SceneParts). s.left.width) (one_scene c.args.planes.now.scene c.args.parcels.now c.args.strip c.index-parcels-strip.result c.requires.complete c.requires.strip c.index-parcels-strip.is))
 
 pub select_strip-requires-clause-right_height : goal.select_strip-requires-clause-right_height
 select_strip-requires-clause-right_height c =
-    let can = c.requires.can_select in
-    can.right_height ∙ sym (ap (λ (s : SceneParts). s.left.height) (strip_at can.scene can.complete.cut c.args.parcels.now c.args.strip c.index-parcels-strip.result can.complete.strips c.requires.strip c.index-parcels-strip.is).same_scene)
+    c.args.planes.now.right_height
+    ∙ sym (ap (λ (s : SceneParts). s.left.height) (one_scene c.args.planes.now.scene c.args.parcels.now c.args.strip c.index-parcels-strip.result c.requires.complete c.requires.strip c.index-parcels-strip.is))
 
 pub select_strip-requires-clause-complete : goal.select_strip-requires-clause-complete
 select_strip-requires-clause-complete c =
-    let parcels = c.args.parcels.now in
     let parcel = c.index-parcels-strip.result in
-    let can = c.requires.can_select in
     subst (λ (p : ParcelParts). IsComplete p.done) (sym c.index-parcels-strip.is)
-    (All-get_or (λ (p : ParcelParts). IsComplete p.done) parcels c.args.strip parcel c.requires.strip can.complete.complete)
+    (All-get_or (λ (p : ParcelParts). IsComplete p.done) c.args.parcels.now c.args.strip parcel c.requires.strip c.requires.complete.complete)
 
 pub returns : goal.returns
-returns c scene cut are =
+returns c cut are =
+    let planes = c.args.planes.now in
     let parcel = c.index-parcels-strip.result in
-    let is = strip_at scene cut c.args.parcels.now c.args.strip parcel are c.requires.strip c.index-parcels-strip.is in
-    let rows : List (Option ℕ) = rows_of_strip (disparities_of (problem_of scene) c.args.left.now c.args.right.now scene.span.first) cut c.args.strip in
+    let is = strip_at planes.scene cut c.args.parcels.now c.args.strip parcel are c.requires.strip c.index-parcels-strip.is in
+    let rows : List (Option ℕ) = rows_of_strip (disparities_of (problem_of planes.scene) planes.left planes.right planes.scene.span.first) cut c.args.strip in
     subst (λ o. IfSome o (λ v. v.items ≡ rows)) (sym c.ok.ensures.value)
-    (if_ok_some c.select_strip.result (λ v e. e ∙ same_rows scene cut c.args.left.now c.args.right.now c.args.strip parcel is) c.select_strip.ensures.exact)
+    (if_ok_some c.select_strip.result (λ v e. e ∙ same_rows planes.scene cut planes.left planes.right c.args.strip parcel is) c.select_strip.ensures.exact)

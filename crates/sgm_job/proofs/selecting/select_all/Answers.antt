@@ -6,34 +6,33 @@ use Rattle.sgm_job.proofs.selecting.select_all.Goals as goal
 
 pub join_strips-requires : goal.join_strips-requires
 join_strips-requires g c =
-    let left = c.args.left.now in
-    let right = c.args.right.now in
-    let can = c.requires.can_select in
+    let planes = c.args.planes.now in
+    let all = c.requires.complete in
     let new = c.select_places.new.places in
     let same = with_items_is c.in_ok-places.places new (omega (arith, c.in_ok-places.ensures, c.select_places.ensures.count)) in
-    let whole = map_of can.scene left right in
+    let whole = map_of planes.scene planes.left planes.right in
     let are =
-    are_rows (λ v. v.items) can.scene can.complete.cut left right c.args.parcels.now new c.in_ok-strips.strips.items can.complete.strips (c.in_ok-strips.ensures ∙ same)
-    c.select_places.ensures.count (c.select_places.ensures.found can.scene can.complete.cut can.complete.strips) in
+    are_rows (λ v. v.items) planes.scene all.cut planes.left planes.right c.args.parcels.now new c.in_ok-strips.strips.items all.strips (c.in_ok-strips.ensures ∙ same)
+    c.select_places.ensures.count (c.select_places.ensures.found all.cut all.strips) in
     record {
       rows = (
         whole,
-        can.complete.cut,
-        subst (λ vs. AreRowsOf whole can.complete.cut (map (λ v. v.items) vs)) (sym c.deref.ensures.value) are,
-        c.size.ensures.width ∙ can.left_width,
-        c.size.ensures.height ∙ can.left_height,
+        all.cut,
+        subst (λ vs. AreRowsOf whole all.cut (map (λ v. v.items) vs)) (sym c.deref.ensures.value) are,
+        c.size.ensures.width ∙ planes.left_width,
+        c.size.ensures.height ∙ planes.left_height,
       );
     }
 
 pub returns : goal.returns
-returns g c scene cut strips ew eh =
-    let left = c.args.left.now in
-    let right = c.args.right.now in
+returns g c =
+    let planes = c.args.planes.now in
+    let all = c.requires.complete in
     let new = c.select_places.new.places in
     let same = with_items_is c.in_ok-places.places new (omega (arith, c.in_ok-places.ensures, c.select_places.ensures.count)) in
-    let whole = map_of scene left right in
+    let whole = map_of planes.scene planes.left planes.right in
     let are =
-    are_rows (λ v. v.items) scene cut left right c.args.parcels.now new c.in_ok-strips.strips.items strips (c.in_ok-strips.ensures ∙ same)
-    c.select_places.ensures.count (c.select_places.ensures.found scene cut strips) in
-    c.join_strips.ensures.exact whole cut (subst (λ vs. AreRowsOf whole cut (map (λ v. v.items) vs)) (sym c.deref.ensures.value) are)
-    (c.size.ensures.width ∙ ew) (c.size.ensures.height ∙ eh)
+    are_rows (λ v. v.items) planes.scene all.cut planes.left planes.right c.args.parcels.now new c.in_ok-strips.strips.items all.strips (c.in_ok-strips.ensures ∙ same)
+    c.select_places.ensures.count (c.select_places.ensures.found all.cut all.strips) in
+    c.join_strips.ensures.exact whole all.cut (subst (λ vs. AreRowsOf whole all.cut (map (λ v. v.items) vs)) (sym c.deref.ensures.value) are)
+    (c.size.ensures.width ∙ planes.left_width) (c.size.ensures.height ∙ planes.left_height)

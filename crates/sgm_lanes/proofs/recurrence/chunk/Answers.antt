@@ -1,5 +1,5 @@
 use Rattle.std.proofs.Common.{◌+◌, arith, rules}
-use Rattle.sgm_terms.specs.Step.{carried}
+use Rattle.sgm_energy.specs.Step.{carried}
 use Rattle.sgm_lanes.specs.declared.recurrence.TheConstants.{ABSENT}
 use Rattle.sgm_lanes.proofs.Pads.{left_low, right_low}
 use Rattle.sgm_lanes.proofs.recurrence.chunk.Goals as goal

@@ -1,6 +1,6 @@
 use Rattle.std.proofs.Common.{arith}
 use Rattle.sgm_path.specs.Paths.{RowTerms, terms_of}
-use Rattle.sgm_path.proofs.Sweeps.{across_paths, follows_of}
+use Rattle.sgm_path.proofs.Sweeps.{across_paths}
 use Rattle.sgm_path.proofs.step.pass_row.Goals as goal
 
 pub returns-then-is_adaptive-clause-paths : goal.returns-then-is_adaptive-clause-paths
@@ -15,14 +15,14 @@ returns-in-64-clause-paths c g y s b =
     let row = c.args.row.now in
     let t : RowTerms = terms_of row in
     across_paths g y t c.args.values.now c.sweep-in-64.new.values s b row.pen.ordered row.positive
-    (omega (arith, c.sweep-in-64.auto.values, c.requires.same_length)) c.requires.across (follows_of (terms_of c.counted.result) t c.args.values.now c.sweep-in-64.new.values c.counted.ensures c.sweep-in-64.ensures.each)
+    (omega (arith, c.sweep-in-64.auto.values, c.requires.same_length)) c.requires.across c.sweep-in-64.ensures.each
 
 pub returns-in-128-clause-paths : goal.returns-in-128-clause-paths
 returns-in-128-clause-paths c g y s b =
     let row = c.args.row.now in
     let t : RowTerms = terms_of row in
     across_paths g y t c.args.values.now c.sweep-in-128.new.values s b row.pen.ordered row.positive
-    (omega (arith, c.sweep-in-128.auto.values, c.requires.same_length)) c.requires.across (follows_of (terms_of c.counted-in-128.result) t c.args.values.now c.sweep-in-128.new.values c.counted-in-128.ensures c.sweep-in-128.ensures.each)
+    (omega (arith, c.sweep-in-128.auto.values, c.requires.same_length)) c.requires.across c.sweep-in-128.ensures.each
 
 pub returns-in_default-clause-paths : goal.returns-in_default-clause-paths
 returns-in_default-clause-paths c g y s b =

@@ -8,40 +8,14 @@ use Rattle.sgm_refine.proofs.Filled.{map_is}
 use Rattle.sgm_refine.proofs.MetRows.{none_all}
 use Rattle.sgm_refine.proofs.filling.fill.Goals as goal
 
-pub returns-in_err-level : goal.returns-in_err-level
-returns-in_err-level c = IfOk-from_err c.from_residual-in_err-level.result _ c.from_residual-in_err-level.ensures.0
-
-pub returns-in_err-down : goal.returns-in_err-down
-returns-in_err-down c = IfOk-from_err c.from_residual-in_err-down.result _ c.from_residual-in_err-down.ensures.0
-
-pub returns-in_err-next : goal.returns-in_err-next
-returns-in_err-next c = IfOk-from_err c.from_residual-in_err-next.result _ c.from_residual-in_err-next.ensures.0
-
 pub returns-in_err-up : goal.returns-in_err-up
 returns-in_err-up c = IfOk-from_err c.from_residual-in_err-up.result _ c.from_residual-in_err-up.ensures.0
 
 pub returns-in_err-entries : goal.returns-in_err-entries
 returns-in_err-entries c = IfOk-from_err c.from_residual-in_err-entries.result _ c.from_residual-in_err-entries.ensures.0
 
-pub fill_rows-requires-clause-marks_length : goal.fill_rows-requires-clause-marks_length
-fill_rows-requires-clause-marks_length c =
-    let wide : c.size.inside.width ≡ c.args.map.now.width = ap (λ (s : Sides). s.width) c.size.view_is ∙ c.size-size.ensures.width in
-    c.as_mut_slice-2.ensures.len ∙ c.in_ok-marks.ensures.len ∙ wide
-
-pub fill_rows-requires-clause-level_length : goal.fill_rows-requires-clause-level_length
-fill_rows-requires-clause-level_length c =
-    let wide : c.size.inside.width ≡ c.args.map.now.width = ap (λ (s : Sides). s.width) c.size.view_is ∙ c.size-size.ensures.width in
-    c.as_mut_slice-3.ensures.len ∙ c.in_ok-level.ensures.len ∙ ap (λ n. 2 * n) wide
-
-pub fill_rows-requires-clause-down_length : goal.fill_rows-requires-clause-down_length
-fill_rows-requires-clause-down_length c =
-    let wide : c.size.inside.width ≡ c.args.map.now.width = ap (λ (s : Sides). s.width) c.size.view_is ∙ c.size-size.ensures.width in
-    c.as_mut_slice-4.ensures.len ∙ c.in_ok-down.ensures.len ∙ ap (λ n. 3 * n) wide
-
-pub fill_rows-requires-clause-next_length : goal.fill_rows-requires-clause-next_length
-fill_rows-requires-clause-next_length c =
-    let wide : c.size.inside.width ≡ c.args.map.now.width = ap (λ (s : Sides). s.width) c.size.view_is ∙ c.size-size.ensures.width in
-    c.as_mut_slice-5.ensures.len ∙ c.in_ok-next.ensures.len ∙ ap (λ n. 3 * n) wide
+pub fill_rows-requires-clause-room_width : goal.fill_rows-requires-clause-room_width
+fill_rows-requires-clause-room_width c = c.in_ok-room.ensures.width ∙ ap (λ (s : Sides). s.width) c.size.view_is ∙ c.size-size.ensures.width
 
 pub meet_upwards-requires-clause-whole : goal.meet_upwards-requires-clause-whole
 meet_upwards-requires-clause-whole c =
@@ -51,12 +25,8 @@ meet_upwards-requires-clause-whole c =
 
 pub fill_rows-requires-clause-into_length : goal.fill_rows-requires-clause-into_length
 fill_rows-requires-clause-into_length c =
-    c.as_mut_slice-6.ensures.len ∙ c.in_ok-entries.ensures.len ∙ c.pixels.ensures.pixels
+    c.as_mut_slice-2.ensures.len ∙ c.in_ok-entries.ensures.len ∙ c.pixels.ensures.pixels
     ∙ ap (λ n. n * c.size-size.result.height) c.size-size.ensures.width ∙ ap (λ n. c.args.map.now.width * n) c.size-size.ensures.height
-
-pub fill_rows-requires-clause-down : goal.fill_rows-requires-clause-down
-fill_rows-requires-clause-down c =
-    none_all c.as_mut_slice-4.result.now _ (c.as_mut_slice-4.ensures.value ∙ c.in_ok-down.ensures.items_if_clones_equal (λ y e. search rules))
 
 pub meet_upwards-requires-clause-none : goal.meet_upwards-requires-clause-none
 meet_upwards-requires-clause-none c =
@@ -65,8 +35,8 @@ meet_upwards-requires-clause-none c =
 pub unreachable-requires : goal.unreachable-requires
 unreachable-requires c =
     let new = c.fill_rows.new.into in
-    let len : length new ≡ c.pixels.result = c.fill_rows.auto.into ∙ c.as_mut_slice-6.ensures.len ∙ c.in_ok-entries.ensures.len in
-    let same = with_items_is c.in_ok-entries.entries new (c.fill_rows.auto.into ∙ c.as_mut_slice-6.ensures.len) in
+    let len : length new ≡ c.pixels.result = c.fill_rows.auto.into ∙ c.as_mut_slice-2.ensures.len ∙ c.in_ok-entries.ensures.len in
+    let same = with_items_is c.in_ok-entries.entries new (c.fill_rows.auto.into ∙ c.as_mut_slice-2.ensures.len) in
     false≢true (c.in_default.ensures.exact.1 (ap length same ∙ len ∙ c.pixels.ensures.pixels))
 
 pub returns : goal.returns
@@ -74,9 +44,9 @@ returns c =
     let m = c.args.map.now in
     let new = c.fill_rows.new.into in
     let some : 0 < m.width = omega (arith, c.size-size.ensures.kept.width_in_range) in
-    let len : length new ≡ c.pixels.result = c.fill_rows.auto.into ∙ c.as_mut_slice-6.ensures.len ∙ c.in_ok-entries.ensures.len in
+    let len : length new ≡ c.pixels.result = c.fill_rows.auto.into ∙ c.as_mut_slice-2.ensures.len ∙ c.in_ok-entries.ensures.len in
     c.in-Some.ensures.made
     ∙ map_is (filled_at m c.args.matched.now c.args.left.now c.args.span.first c.args.span.count) m.width m.height _ _ _ new
-    c.size-size.ensures.width c.size-size.ensures.height some (with_items_is c.in_ok-entries.entries new (c.fill_rows.auto.into ∙ c.as_mut_slice-6.ensures.len))
+    c.size-size.ensures.width c.size-size.ensures.height some (with_items_is c.in_ok-entries.entries new (c.fill_rows.auto.into ∙ c.as_mut_slice-2.ensures.len))
     (len ∙ c.pixels.ensures.pixels ∙ ap (λ n. n * c.size-size.result.height) c.size-size.ensures.width ∙ ap (λ n. m.width * n) c.size-size.ensures.height)
     c.fill_rows.ensures

@@ -6,14 +6,14 @@ use Rattle.sgm_refine.proofs.segments.kept_entries.Goals as goal
 
 pub loop-at-init : goal.loop-at-init
 loop-at-init c =
-    through_start c.args.width c.args.entries.now c.args.least c.in_ok-seen.seen.items c.in_ok-kept.kept.items
+    through_start c.args.pixels.now.width c.args.pixels.now.entries.now c.args.least c.in_ok-seen.seen.items c.in_ok-kept.kept.items
     (c.in_ok-seen.ensures.items_if_clones_equal (λ y e. e))
     (c.in_ok-kept.ensures.items_if_clones_equal (λ x y e. search rules))
 
 pub loop-at-preserved : goal.loop-at-preserved
 loop-at-preserved c =
-    let w = c.args.width in
-    let es = c.args.entries.now in
+    let w = c.args.pixels.now.width in
+    let es = c.args.pixels.now.entries.now in
     rw (
       with_items_is c.loop-at.seen c.keep.new.seen (omega (arith, c.keep.auto.seen, c.deref_mut.ensures.len)),
       with_items_is c.loop-at.kept c.keep.new.kept (omega (arith, c.keep.auto.kept, c.deref_mut-in-loop-at.ensures.len)),
@@ -26,5 +26,5 @@ returns-in_err-keep c = IfOk-from_err c.from_residual-in_err-keep.result _ c.fro
 
 pub returns : goal.returns
 returns c =
-    keeping_end c.args.width c.args.entries.now c.args.least c.loop-at.seen.items c.loop-at.kept.items c.loop-at.invariant.keeping
+    keeping_end c.args.pixels.now.width c.args.pixels.now.entries.now c.args.least c.loop-at.seen.items c.loop-at.kept.items c.loop-at.invariant.keeping
     (λ k l. c.loop-at.invariant.before k (omega arith))

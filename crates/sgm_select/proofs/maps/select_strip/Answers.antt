@@ -33,28 +33,14 @@ returns c =
           ∙ ap (λ k. rows_between (disparities_of g c.args.left.now c.args.right.now parcel.scene.span.first) top k) to;
     }
 
-pub select_rows-requires-clause-complete : goal.select_rows-requires-clause-complete
-select_rows-requires-clause-complete c = c.requires.complete
-
-pub select_rows-requires-clause-left_width : goal.select_rows-requires-clause-left_width
-select_rows-requires-clause-left_width c = c.requires.left_width
-
-pub select_rows-requires-clause-right_height : goal.select_rows-requires-clause-right_height
-select_rows-requires-clause-right_height c = c.requires.right_height
-
-pub select_rows-requires-clause-bases_length : goal.select_rows-requires-clause-bases_length
-select_rows-requires-clause-bases_length c =
+pub select_rows-requires-clause-indices_length : goal.select_rows-requires-clause-indices_length
+select_rows-requires-clause-indices_length c =
     let width : c.width.inside.width ≡ c.args.left.now.width = ap (λ (s : Sides). s.width) c.width.view_is ∙ c.size.ensures.width in
-    omega (arith, ap length c.as_mut_slice.ensures.value, c.in_ok-bases.ensures.len, width)
-
-pub select_rows-requires-clause-matches_length : goal.select_rows-requires-clause-matches_length
-select_rows-requires-clause-matches_length c =
-    let width : c.width.inside.width ≡ c.args.left.now.width = ap (λ (s : Sides). s.width) c.width.view_is ∙ c.size.ensures.width in
-    omega (arith, ap length c.as_mut_slice-2.ensures.value, c.in_ok-matches.ensures.len, width)
+    omega (arith, c.in_ok-bases.ensures.len, width)
 
 pub select_rows-requires-clause-whole : goal.select_rows-requires-clause-whole
 select_rows-requires-clause-whole c =
     let width : c.width.inside.width ≡ c.args.left.now.width = ap (λ (s : Sides). s.width) c.width.view_is ∙ c.size.ensures.width in
     let parcel = c.args.parcel.now in
     let rows : c.rows-rows.result ≡ rows_of parcel.cut parcel.strip = c.rows-rows.ensures.rows ∙ ap (λ k. rows_of k c.strip.result) c.cut.ensures ∙ ap (rows_of parcel.cut) c.strip.ensures.value in
-    omega (arith, ap length c.as_mut_slice-3.ensures.value, c.in_ok-entries.ensures.len, ap (λ k. c.rows-rows.result * k) width, ap (λ k. k * c.args.left.now.width) rows)
+    omega (arith, ap length c.as_mut_slice.ensures.value, c.in_ok-entries.ensures.len, ap (λ k. c.rows-rows.result * k) width, ap (λ k. k * c.args.left.now.width) rows)

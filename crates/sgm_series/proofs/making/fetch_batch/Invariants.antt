@@ -1,8 +1,9 @@
 use Rattle.std.proofs.Common.{◌≡◌, List, All, take, IsTrue}
+use Rattle.sgm_app.specs.Moments.{Keeps}
 use Rattle.sgm_app.specs.Verdict.{Verdict}
 use Rattle.sgm_series.specs.Plans.{AreVerdicts, IsJudged}
-use Rattle.sgm_series.specs.Batches.{AreInputsAt}
-use Rattle.sgm_series.proofs.Batching.{IsBatch, AnswerThese}
+use Rattle.sgm_series.specs.Batches.{AreInputsAt, IsBatch}
+use Rattle.sgm_series.proofs.Batching.{AnswerThese}
 use Rattle.sgm_series.proofs.making.fetch_batch.Given as goal
 
 abbrev pub invariant-loop-place : goal.invariant-loop-place
@@ -11,9 +12,7 @@ invariant-loop-place g l = record {
   answers : IsTrue g.S.Shelf.tells → AnswerThese l.entries (g.S.Shelf.held l.fn.shelf) l.batch.answers.items;
   inputs : IsTrue g.S.Shelf.tells → AreInputsAt l.entries (g.S.Shelf.held l.fn.shelf) l.batch.places.items l.batch.inputs.items;
   judged : IsTrue g.S.Shelf.tells → (verdicts : List Verdict) → AreVerdicts l.entries (g.S.Shelf.held l.fn.shelf) verdicts → All IsJudged (take l.place verdicts);
-  held : IsTrue g.S.Shelf.tells → g.S.Shelf.held l.shelf ≡ g.S.Shelf.held l.fn.shelf;
-  writing : g.S.Shelf.writing l.shelf ≡ g.S.Shelf.writing l.fn.shelf;
-  unfinished : g.S.Shelf.unfinished l.shelf ≡ g.S.Shelf.unfinished l.fn.shelf;
+  keeps : Keeps g.S.Shelf l.fn.shelf l.shelf;
   reads : g.S.Shelf.read_faults l.shelf ≡ g.S.Shelf.read_faults l.fn.shelf;
   writes : g.S.Shelf.write_faults l.shelf ≡ g.S.Shelf.write_faults l.fn.shelf;
 }

@@ -45,32 +45,3 @@ pub returns-in-Err-refused-clause-counts : goal.returns-in-Err-refused-clause-co
 returns-in-Err-refused-clause-counts g c = λ out.
     place_counts c.args.place c.args.entry.now c.in-Err.stop c.in-Err-refused.stop _ _ (sym c.refused.ensures ∙ c.in-Err-refused.is)
     (stop_counts c.args.entry.now c.operands_of.result c.in-Err.stop c.in-Err.stop _ _ c.operands_of.ensures refl (λ names have. c.in-Err.ensures.counts names have out))
-
--- ---- what the fetch left as it was
-
-pub returns-in-Ok-clause-held : goal.returns-in-Ok-clause-held
-returns-in-Ok-clause-held g c = c.in-Ok.ensures.keeps.held
-
-pub returns-in-Ok-clause-writing : goal.returns-in-Ok-clause-writing
-returns-in-Ok-clause-writing g c = c.in-Ok.ensures.keeps.writing
-
-pub returns-in-Ok-clause-unfinished : goal.returns-in-Ok-clause-unfinished
-returns-in-Ok-clause-unfinished g c = c.in-Ok.ensures.keeps.unfinished
-
-pub returns-in-Ok-refused-clause-held : goal.returns-in-Ok-refused-clause-held
-returns-in-Ok-refused-clause-held g c = c.in-Err.ensures.keeps.held
-
-pub returns-in-Ok-refused-clause-writing : goal.returns-in-Ok-refused-clause-writing
-returns-in-Ok-refused-clause-writing g c = c.in-Err.ensures.keeps.writing
-
-pub returns-in-Ok-refused-clause-unfinished : goal.returns-in-Ok-refused-clause-unfinished
-returns-in-Ok-refused-clause-unfinished g c = c.in-Err.ensures.keeps.unfinished
-
-pub returns-in-Err-refused-clause-held : goal.returns-in-Err-refused-clause-held
-returns-in-Err-refused-clause-held g c = c.in-Err.ensures.keeps.held
-
-pub returns-in-Err-refused-clause-writing : goal.returns-in-Err-refused-clause-writing
-returns-in-Err-refused-clause-writing g c = c.in-Err.ensures.keeps.writing
-
-pub returns-in-Err-refused-clause-unfinished : goal.returns-in-Err-refused-clause-unfinished
-returns-in-Err-refused-clause-unfinished g c = c.in-Err.ensures.keeps.unfinished

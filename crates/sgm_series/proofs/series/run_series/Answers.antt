@@ -1,54 +1,54 @@
-use Rattle.std.proofs.Common.{◌≡◌, ℕ, List, length, take}
+use Rattle.std.proofs.Common.{◌≡◌, ◌≤◌, arith, take}
 use Rattle.sgm_words.specs.Operands.{bytes_of}
 use Rattle.sgm_series.specs.Words.{list_of}
-use Rattle.sgm_series.specs.Lines.{series_line}
 use Rattle.sgm_series.specs.Plans.{verdicts_of}
 use Rattle.sgm_series.specs.Turns.{lines_for}
 use Rattle.sgm_series.proofs.Completing.{complete}
-use Rattle.sgm_series.proofs.Standing.{plan_stands, line_added, line_begun, line_left, whole_same, whole_rose, all_received, part_received}
+use Rattle.sgm_series.proofs.Standing.{plan_stands, whole_later}
 use Rattle.sgm_series.proofs.series.run_series.Goals as goal
 
-pub returns-in-Ok-clause-stands : goal.returns-in-Ok-clause-stands
-returns-in-Ok-clause-stands g c = λ told p calls.
-    let s = c.carry_out-outcome.ensures.stands told p calls in let whole = c.if-tally.true in (
-      s.0,
-      s.1,
-      plan_stands (bytes_of c.args.words.now) _ p calls c.carry_out-outcome.result s.0 _ s.2,
-      s.3,
-      (λ err_told. line_added (lines_for (take s.0 (verdicts_of p))) (series_line c.carry_out-outcome.result) _ _ _ _ _ _
-          (whole_same _ _ _ whole c.carry_out-outcome.ensures.whole) (all_received _ _ _ _ whole (s.4 err_told)) (c.in-Ok.ensures.written err_told)),
+pub returns-clause-cause : goal.returns-clause-cause
+returns-clause-cause g c = λ told p calls. (c.carry_out-outcome.ensures.called told p calls).cause
+
+pub returns-clause-stands : goal.returns-clause-stands
+returns-clause-stands g c = λ told p calls.
+    let ends = c.carry_out-outcome.ensures in let had = (ends.called told p calls).had in (
+      had.turns,
+      had.had,
+      plan_stands (bytes_of c.args.words.now) _ p calls c.carry_out-outcome.result had.turns _ had.files,
+      had.out,
+      (λ err_told. c.tell.ensures.line err_told (lines_for (take had.turns (verdicts_of p))) _ _ ends.streams.whole (had.lines err_told)),
     )
 
-pub returns-in-Err-clause-stands : goal.returns-in-Err-clause-stands
-returns-in-Err-clause-stands g c = λ told p calls.
-    let s = c.carry_out-outcome.ensures.stands told p calls in let whole = c.if-tally.true in (
-      s.0,
-      s.1,
-      plan_stands (bytes_of c.args.words.now) _ p calls c.carry_out-outcome.result s.0 _ s.2,
-      s.3,
-      (λ err_told. line_begun (lines_for (take s.0 (verdicts_of p))) (series_line c.carry_out-outcome.result) _ _ _ _ _ _
-          (whole_same _ _ _ whole c.carry_out-outcome.ensures.whole) (all_received _ _ _ _ whole (s.4 err_told)) c.in-Err.ensures.faults.1 (c.in-Err.ensures.written err_told)),
-    )
+pub returns-clause-untouched : goal.returns-clause-untouched
+returns-clause-untouched g c = c.carry_out-outcome.ensures.streams.untouched
 
-pub returns-else-tally-clause-stands : goal.returns-else-tally-clause-stands
-returns-else-tally-clause-stands g c = λ told p calls.
-    let s = c.carry_out-outcome.ensures.stands told p calls in let whole = c.if-tally.false in (
-      s.0,
-      s.1,
-      plan_stands (bytes_of c.args.words.now) _ p calls c.carry_out-outcome.result s.0 _ s.2,
-      s.3,
-      (λ err_told. line_left (lines_for (take s.0 (verdicts_of p))) (series_line c.carry_out-outcome.result) _ _ _ _
-          (whole_rose _ _ _ whole c.carry_out-outcome.ensures.whole) (part_received _ _ _ _ whole (s.4 err_told))),
-    )
+pub returns-clause-unfinished : goal.returns-clause-unfinished
+returns-clause-unfinished g c = λ told p calls. (c.carry_out-outcome.ensures.called told p calls).unfinished
 
-pub returns-in-Ok-clause-complete : goal.returns-in-Ok-clause-complete
-returns-in-Ok-clause-complete g c = λ told p calls. let e = c.carry_out-outcome.ensures in
-    complete (list_of (bytes_of c.args.words.now)) (bytes_of c.args.words.now) _ p c.carry_out-outcome.result _ _ calls (e.cause told p calls) e.counts (e.entry_counts told p calls)
+pub returns-clause-finished : goal.returns-clause-finished
+returns-clause-finished g c = λ told p calls. (c.carry_out-outcome.ensures.called told p calls).finished
 
-pub returns-in-Err-clause-complete : goal.returns-in-Err-clause-complete
-returns-in-Err-clause-complete g c = λ told p calls. let e = c.carry_out-outcome.ensures in
-    complete (list_of (bytes_of c.args.words.now)) (bytes_of c.args.words.now) _ p c.carry_out-outcome.result _ _ calls (e.cause told p calls) e.counts (e.entry_counts told p calls)
+pub returns-clause-counts : goal.returns-clause-counts
+returns-clause-counts g c = c.carry_out-outcome.ensures.counts
 
-pub returns-else-tally-clause-complete : goal.returns-else-tally-clause-complete
-returns-else-tally-clause-complete g c = λ told p calls. let e = c.carry_out-outcome.ensures in
-    complete (list_of (bytes_of c.args.words.now)) (bytes_of c.args.words.now) _ p c.carry_out-outcome.result _ _ calls (e.cause told p calls) e.counts (e.entry_counts told p calls)
+pub returns-clause-entry_counts : goal.returns-clause-entry_counts
+returns-clause-entry_counts g c = λ told p calls. (c.carry_out-outcome.ensures.called told p calls).counts
+
+pub returns-clause-usage : goal.returns-clause-usage
+returns-clause-usage g c = c.carry_out-outcome.ensures.usage
+
+pub returns-clause-complete : goal.returns-clause-complete
+returns-clause-complete g c = λ told p calls.
+    let ends = c.carry_out-outcome.ensures in let mine = ends.called told p calls in
+    complete (list_of (bytes_of c.args.words.now)) (bytes_of c.args.words.now) _ p c.carry_out-outcome.result _ _ calls mine.cause ends.counts mine.counts
+
+pub returns-clause-line : goal.returns-clause-line
+returns-clause-line g c = λ told.
+    let ends = c.carry_out-outcome.ensures in let some = ends.streams.lines told in
+    (some.0, c.tell.ensures.line told some.0 _ _ ends.streams.whole some.1)
+
+pub returns-clause-err_faults : goal.returns-clause-err_faults
+returns-clause-err_faults g c =
+    let before = whole_later _ _ _ c.carry_out-outcome.ensures.streams.whole in let after = c.tell.ensures.err_faults in
+    omega (arith, before, after)

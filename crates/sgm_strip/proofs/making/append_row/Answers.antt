@@ -1,7 +1,6 @@
 use Rattle.std.proofs.Common.{◌≡◌, ℕ, ◌+◌, ◌*◌, ◌<◌, ◌≤◌, ◌++◌, ◌∙◌, List, length, slice_index, refl, sym, ap, subst, arith}
 use Rattle.std.specs.Prelude.{All}
 use Rattle.std.proofs.lemmas.List.{with_items_is}
-use Rattle.std.proofs.lemmas.List.Elements.{All-append}
 use Rattle.sgm_base.specs.declared.limits.TheConstants.{MAX_COST}
 use Rattle.sgm_energy.specs.Pens.{Penalties, penalties_of}
 use Rattle.sgm_energy.specs.Rays.{pixel_at}
@@ -16,37 +15,20 @@ use Rattle.sgm_strip.proofs.making.append_row.Goals as goal
 pub level_sums-requires-clause-costs : goal.level_sums-requires-clause-costs
 level_sums-requires-clause-costs c =
     let new = c.cost_row.new.into in
-    let same : c.deref.result.now ≡ new = c.deref.ensures.value ∙ with_items_is c.args.room.now new (omega (arith, c.cost_row.auto.into, c.deref_mut.ensures.len)) in
+    let same : c.deref.result.now ≡ new = c.deref.ensures.value ∙ with_items_is c.args.room.now.costs new (omega (arith, c.cost_row.auto.into, c.deref_mut.ensures.len)) in
     subst (All (λ v. v ≤ MAX_COST)) (sym same) c.cost_row.ensures.most
 
 pub returns-clause-room : goal.returns-clause-room
 returns-clause-room c =
     let new = c.cost_row.new.into in
-    ap length (with_items_is c.args.room.now new (omega (arith, c.cost_row.auto.into, c.deref_mut.ensures.len)))
+    ap length (with_items_is c.args.room.now.costs new (omega (arith, c.cost_row.auto.into, c.deref_mut.ensures.len)))
     ∙ c.cost_row.auto.into ∙ ap length c.deref_mut.ensures.value
 
-pub returns-clause-spare : goal.returns-clause-spare
-returns-clause-spare c =
-    let new = c.level_sums.new.spare in
-    ap length (with_items_is c.args.spare.now new (omega (arith, c.level_sums.auto.spare, c.deref_mut-2.ensures.len)))
-    ∙ c.level_sums.auto.spare ∙ ap length c.deref_mut-2.ensures.value
-
-pub returns-clause-level : goal.returns-clause-level
-returns-clause-level c =
-    let new = c.level_sums.new.into in
-    ap length (with_items_is c.args.level.now new (omega (arith, c.level_sums.auto.into, c.deref_mut-3.ensures.len)))
-    ∙ c.level_sums.auto.into ∙ ap length c.deref_mut-3.ensures.value
-
-costs_are : (c : goal.In_ok-extend_from_slice-2) → c.extend_from_slice.new.self.items ≡ c.args.costs.now.items ++ c.cost_row.new.into
+costs_are : (c : goal.In_ok-extend_from_slice-2) → c.extend_from_slice.new.self.items ≡ c.args.made.now.costs.items ++ c.cost_row.new.into
 costs_are c =
     let new = c.cost_row.new.into in
-    let same : c.deref-2.result.now ≡ new = c.deref-2.ensures.value ∙ with_items_is c.args.room.now new (omega (arith, c.cost_row.auto.into, c.deref_mut.ensures.len)) in
-    c.in_ok-extend_from_slice.ensures.items ∙ ap (λ (v : List ℕ). c.args.costs.now.items ++ v) same
-
-pub returns-clause-low : goal.returns-clause-low
-returns-clause-low c =
-    let low : ℕ → Type 0 = λ v. v ≤ MAX_COST in
-    subst (All low) (sym (costs_are c)) (All-append low c.args.costs.now.items c.cost_row.new.into c.requires.low c.cost_row.ensures.most)
+    let same : c.deref-2.result.now ≡ new = c.deref-2.ensures.value ∙ with_items_is c.args.room.now.costs new (omega (arith, c.cost_row.auto.into, c.deref_mut.ensures.len)) in
+    c.in_ok-extend_from_slice.ensures.items ∙ ap (λ (v : List ℕ). c.args.made.now.costs.items ++ v) same
 
 -- costs that were made for a scene by another name
 made : (scene scene' : SceneParts) (y : ℕ) (new : List ℕ) → scene' ≡ scene → length new ≡ row_length scene → ((x d : ℕ) → x < scene'.left.width → d < scene'.span.count → slice_index new (x * scene'.span.count + d) ≡ (problem_of scene').cost (pixel_at x y) d) → HoldsRow (problem_of scene) y (problem_of scene).cost new
@@ -66,19 +48,19 @@ returns-clause-costs c =
 pub level_sums-requires-clause-whole : goal.level_sums-requires-clause-whole
 level_sums-requires-clause-whole c =
     let width = c.args.scene.now.left.width in
-    whole_pixels (length c.deref_mut-3.result.now) width c.count.result (omega (arith, ap (λ k. width * k) c.count.ensures.value, c.deref_mut-3.ensures.len, c.requires.level))
+    whole_pixels (length c.deref_mut-3.result.now) width c.count.result (omega (arith, ap (λ k. width * k) c.count.ensures.value, c.deref_mut-3.ensures.len, c.args.room.now.level_length, c.requires.room))
 
 pub level_sums-requires-clause-guide_length : goal.level_sums-requires-clause-guide_length
 level_sums-requires-clause-guide_length c =
     let width = c.args.scene.now.left.width in
     c.row.ensures.whole ∙ c.scene.invariant.guide_width ∙ ap (λ (s : SceneParts). s.left.width) c.scene.view_is
-    ∙ pixels (length c.deref_mut-3.result.now) width c.count.result (omega (arith, ap (λ k. width * k) c.count.ensures.value, c.deref_mut-3.ensures.len, c.requires.level)) (omega (arith, c.count.ensures.range))
+    ∙ pixels (length c.deref_mut-3.result.now) width c.count.result (omega (arith, ap (λ k. width * k) c.count.ensures.value, c.deref_mut-3.ensures.len, c.args.room.now.level_length, c.requires.room)) (omega (arith, c.count.ensures.range))
 
 pub returns-clause-sums : goal.returns-clause-sums
 returns-clause-sums c =
     let g = problem_of c.args.scene.now in
     let new = c.cost_row.new.into in
-    let same : c.deref.result.now ≡ new = c.deref.ensures.value ∙ with_items_is c.args.room.now new (omega (arith, c.cost_row.auto.into, c.deref_mut.ensures.len)) in
+    let same : c.deref.result.now ≡ new = c.deref.ensures.value ∙ with_items_is c.args.room.now.costs new (omega (arith, c.cost_row.auto.into, c.deref_mut.ensures.len)) in
     let whole : length new ≡ row_length c.args.scene.now = omega (arith, c.cost_row.auto.into, c.deref_mut.ensures.len, c.requires.room) in
     let costs : HoldsRow g c.args.y g.cost c.deref.result.now =
     subst (λ v. HoldsRow g c.args.y g.cost v) (sym same) (made c.args.scene.now _ c.args.y new c.scene.view_is whole c.cost_row.ensures.each) in
@@ -97,9 +79,9 @@ returns-clause-sums c =
     (sym c.scene.invariant.guide_width) inside inside)) in
     let level = c.level_sums.new.into in
     let there : c.deref-3.result.now ≡ level =
-    c.deref-3.ensures.value ∙ with_items_is c.args.level.now level (omega (arith, c.level_sums.auto.into, c.deref_mut-3.ensures.len)) in
+    c.deref-3.ensures.value ∙ with_items_is c.args.room.now.level level (omega (arith, c.level_sums.auto.into, c.deref_mut-3.ensures.len)) in
     record {
       row = level;
-      added = c.in_ok-extend_from_slice-2.ensures.items ∙ ap (λ (v : List ℕ). c.args.sums.now.items ++ v) there;
+      added = c.in_ok-extend_from_slice-2.ensures.items ∙ ap (λ (v : List ℕ). c.args.made.now.sums.items ++ v) there;
       holds = c.level_sums.ensures g c.args.y suits far;
     }

@@ -1,6 +1,6 @@
 use Rattle.std.proofs.Common.{arith}
 use Rattle.std.proofs.lemmas.Bool.Decides.{nat_tests}
-use Rattle.sgm_terms.specs.Step.{carried}
+use Rattle.sgm_energy.specs.Step.{carried}
 use Rattle.sgm_trace.proofs.energies.carried.Goals.{then-d-before, else-d-before}
 use Rattle.sgm_trace.proofs.energies.carried.Goals as goal
 
