@@ -876,7 +876,7 @@ def texts(draw):
             "sgm_base.Values": "values_of",
             "sgm_base.specs.declared.side.Side.TheVariants": "Left Right",
             "sgm_pgm.Write": "",
-            "sgm_pair.Pair": "",
+            "sgm_app.Pair": "",
             "sgm_app.Texts": "",
         },
     )

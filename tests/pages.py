@@ -6,17 +6,19 @@
 
 Every link between pages leads to a file and a heading; a named section stands in its page; every
 crate, file, test, edit and name of the code that stands in backquotes exists, and so does every
-commit that is named. The clauses that docs/PROVED.md names stand in the contracts, and all those of
-the two top calls stand in the page. The tables of crates have each crate once, with what it stands
-on as in crates.txt, and the numbers of its edits and of the stored cases as they are. The commands
-of README.md are among those of docs/GUIDE.md and docs/MANY.md, which tests run, and it has at most
-120 lines. Sentences that went don't come back.
+commit that is named. No line of code, clauses or definitions is wider than 100 columns, but for
+strings, attributes and patterns of macros. The clauses that docs/PROVED.md names stand in the
+contracts, and all those of the two top calls stand in the page. The tables of crates have each
+crate once, with what it stands on as in crates.txt, and the numbers of its edits and of the stored
+cases as they are. The commands of README.md are among those of docs/GUIDE.md and docs/MANY.md,
+which tests run, and it has at most 120 lines. Sentences that went don't come back.
 
 Prints a line for each fault, `PAGE:LINE: what is wrong`, or how much holds. Status: 0 where nothing
 is wrong, 1 else, 2 for wrong words. For example: tests/pages.py
 """
 
 import argparse
+import glob
 import os
 import re
 import shutil
@@ -29,6 +31,7 @@ TOP = os.path.realpath(os.path.join(os.path.dirname(os.path.abspath(__file__)), 
 # What is said there of versions of the past may have gone since.
 OF_THE_PAST = ("CHANGELOG.md",)
 README_LINES = 120
+COLUMNS = 100
 
 # Sentences that were wrong once, or told of what isn't there any more, whatever their letters and
 # backquotes.
@@ -349,6 +352,16 @@ def readme_faults(repository, page):
         yield lines, f"{lines} lines, more than {README_LINES}"
 
 
+def wide_lines(top):
+    """Lines of code and definitions too wide: strings, attributes, patterns of macros may be."""
+    for pattern in ("src/**/*.rt", "specs/**/*.antt"):
+        for path in glob.glob(os.path.join(top, "crates", "*", pattern), recursive=True):
+            for number, line in enumerate(read(path).splitlines(), 1):
+                spared = '"' in line or line.lstrip().startswith(("#[", "($"))
+                if len(line) > COLUMNS and not spared:
+                    yield f"{os.path.relpath(path, top)}:{number}: wider than {COLUMNS} columns"
+
+
 def faults_of(repository, page):
     """The faults of a page, each with its line."""
     checks = [link_faults, gone_faults]
@@ -374,6 +387,9 @@ def main():
         for number, fault in faults_of(repository, page):
             print(f"{page.path}:{number}: {fault}")
             count += 1
+    for fault in wide_lines(repository.top):
+        print(fault)
+        count += 1
     # A copy without pages would pass for nothing.
     if count or not repository.pages:
         sys.exit(f"pages: {count} faults in {len(repository.pages)} pages")

@@ -234,6 +234,16 @@ class Pages(unittest.TestCase):
         script = os.path.join(pages.TOP, "tests", "pages.py")
         return subprocess.run([script, "--top", self.folder], capture_output=True, text=True)
 
+    def test_wide_lines(self):
+        path = "crates/sgm_low/src/lib.rt"
+        self.write(path, FILES[path] + f"// {'x' * 97}\n#[{'x' * 99}]\n// \"{'x' * 99}\"\n")
+        self.assertEqual(self.ended().returncode, 0)
+        self.write(path, FILES[path] + f"// {'x' * 98}\n")
+        done = self.ended()
+        line = FILES[path].count("\n") + 1
+        self.assertEqual(done.returncode, 1)
+        self.assertEqual(done.stdout, f"{path}:{line}: wider than 100 columns\n")
+
     def test_status(self):
         self.assertEqual(self.ended().returncode, 0)
         self.write("README.md", README.replace("sgm_low.", "sgm_lower."))
