@@ -2,14 +2,16 @@
 """Measures what a grid of heights and its regions take: runs without and with them, in turns.
 
     bench/ground_time.py [--turns 9] [--size 1280x720] [--count 64] [--grid 1200x800]
-                         [--corners 1000] [--strips 16] [--workers 1 4]
+                         [--cell 10000] [--corners 1000] [--strips 16] [--workers 1 4]
+                         [--only disparities grid]
 
 In each turn the program runs once for each number of workers with the disparities alone, with a
 grid of so many columns and rows besides, and with one region of the whole grid: with a level base,
 with one that slopes, and with an outline of so many corners, which go in and out. The calibration is
-of version 3, with cells by their mean and no bridges. The table has the median seconds of each, and
-how much more each takes than the one before it; for the three regions, than the grid alone. The
-program is the one that the variable SGM names (./sgm without it).
+of version 3, with cells by their mean and no bridges. A grid of few, wide cells, as --grid 24x16
+--cell 10000000, shows what the points alone take: its text is short. The table has the median
+seconds of each, and how much more each takes than the one before it; for the three regions, than
+the grid alone. The program is the one that the variable SGM names (./sgm without it).
 """
 
 import argparse
@@ -22,14 +24,14 @@ import tempfile
 
 import bench
 
-BASELINE, CELL = 100000, 10000
+BASELINE = 100000
 SLOPE = {"rise_east": 40000, "rise_north": -30000}
 LEVEL = {"rise_east": 0, "rise_north": 0}
 
 
-def outline(cols, rows, corners):
+def outline(cols, rows, cell, corners):
     """Corners that go in and out around the middle of the grid."""
-    east, north = cols * CELL / 2, rows * CELL / 2
+    east, north = cols * cell / 2, rows * cell / 2
     found = []
     for at in range(corners):
         turn, far = 2 * math.pi * at / corners, 0.98 if at % 2 else 0.3
@@ -42,13 +44,13 @@ def settings_of(folder, words):
     """The names of the calibrations, by what they ask for."""
     with open(bench.write_calibration(folder, words.count, 3)) as file:
         plain = json.load(file)
-    cols, rows = words.grid
+    (cols, rows), cell = words.grid, words.cell
     camera = {"focal": 256 * 1000, "baseline": BASELINE, "cx": 128 * words.width}
     camera |= {"cy": 128 * words.height, "doffs": 256, "mount": 0, "near": 1, "far": 2000000000}
-    grid = {"west": -cols * CELL // 2, "south": -rows * CELL // 2, "cell": CELL}
+    grid = {"west": -cols * cell // 2, "south": -rows * cell // 2, "cell": cell}
     grid |= {"cols": cols, "rows": rows, "keep": "mean", "bridge": 0}
     whole = {"name": "all", "col": 0, "row": 0, "cols": cols, "rows": rows, "base": 0}
-    around = outline(cols, rows, words.corners)
+    around = outline(cols, rows, cell, words.corners)
     around = [it + (grid["south"] if at % 2 else grid["west"]) for at, it in enumerate(around)]
     over = {**plain, "camera": camera, "grid": grid}
     made = {
@@ -59,10 +61,10 @@ def settings_of(folder, words):
         "outline": {**over, "regions": [{**whole, **LEVEL, "outline": around}]},
     }
     names = {}
-    for what, settings in made.items():
+    for what in words.only or made:
         names[what] = os.path.join(folder, what.replace(" ", "-") + ".json")
         with open(names[what], "w") as file:
-            json.dump(settings, file)
+            json.dump(made[what], file)
     return names
 
 
@@ -97,9 +99,11 @@ def words_of():
     parser.add_argument("--size", type=sides, default=(1280, 720))
     parser.add_argument("--count", type=int, default=64)
     parser.add_argument("--grid", type=sides, default=(1200, 800))
+    parser.add_argument("--cell", type=int, default=10000, help="its side, in micrometres")
     parser.add_argument("--corners", type=int, default=1000)
     parser.add_argument("--strips", type=int, default=16)
     parser.add_argument("--workers", type=int, nargs="+", default=[1, 4])
+    parser.add_argument("--only", nargs="+", help="what is measured, by the table's names")
     words = parser.parse_args()
     words.width, words.height = words.size
     return words
