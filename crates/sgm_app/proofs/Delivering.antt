@@ -3,13 +3,14 @@ use Rattle.std.proofs.Common.{◌≡◌, ◌∙◌, inl, inr, sym, ap, subst, Li
 use Rattle.sgm_io.specs.Held.{Held}
 use Rattle.sgm_io.specs.Unfinished.{NameSet}
 use Rattle.sgm_outcome.specs.declared.outcome.Outcome.{Outcome}
-use Rattle.sgm_outcome.specs.declared.outcome.Outcome.TheVariants.{Done}
+use Rattle.sgm_outcome.specs.declared.outcome.Outcome.TheVariants.{Done, Usage, Refused, ReadFault}
+use Rattle.sgm_outcome.specs.declared.outcome.Outcome.TheVariants.{WriteFault, NoMemory}
 use Rattle.sgm_outcome.specs.declared.outcome.Refusal.{Refusal}
 use Rattle.sgm_app.specs.Outputs.{OutputFile}
-use Rattle.sgm_app.specs.Verdict.{Verdict, files, unless_refused, outputs_of, IsFiles}
-use Rattle.sgm_app.specs.Ends.{OutStands, WritingStands}
+use Rattle.sgm_app.specs.Verdict.{Verdict, files, unless_refused, outputs_of}
+use Rattle.sgm_app.specs.Ends.{OutStands, OutUntouched, ShownBy, WritingStands}
 use Rattle.sgm_app.specs.Unfinished.{AreFinished}
-use Rattle.sgm_app.specs.Deliver.{EndsIn, FilesPut, Stops}
+use Rattle.sgm_app.specs.Deliver.{EndsIn, FilesPut, IsDeliveryEnd, Stops}
 use Rattle.sgm_app.specs.Stops.{write_outcome}
 use Rattle.sgm_app.specs.declared.stops.WriteStop.{WriteStop}
 use Rattle.sgm_app.specs.declared.stops.WriteStop.TheVariants as write
@@ -33,12 +34,29 @@ put_along outcome v w old kept new same stays put =
 pub finished_along : (v w : Verdict) (names : NameSet) → w ≡ v → AreFinished (outputs_of w) names → AreFinished (outputs_of v) names
 finished_along v w names same done = let P : Verdict → Type 0 = λ x. AreFinished (outputs_of x) names in subst P same done
 
--- what a verdict of files shows
-pub files_shown : (outputs : List OutputFile) (summary : List ℕ) (v : Verdict) → files outputs summary ≡ v → IsFiles v
-files_shown outputs summary v same = let P : Verdict → Type 0 = λ x. IsFiles x in subst P same tt
-
 pub out_along : (outcome : Outcome) (v w : Verdict) (old new : List ℕ) → w ≡ v → OutStands outcome w old new → OutStands outcome v old new
 out_along outcome v w old new same out = let P : Verdict → Type 0 = λ x. OutStands outcome x old new in subst P same out
+
+-- the outcomes of a delivery are shown by what is delivered
+pub delivery_shown : (outputs : List OutputFile) (summary : List ℕ) (outcome : Outcome)
+    → IsDeliveryEnd outcome → ShownBy (files outputs summary) outcome
+delivery_shown outputs summary Done end = tt
+delivery_shown outputs summary (Usage fault) end = absurd end
+delivery_shown outputs summary (Refused refusal) end = absurd end
+delivery_shown outputs summary (ReadFault input) end = absurd end
+delivery_shown outputs summary (WriteFault output) end = tt
+delivery_shown outputs summary NoMemory end = tt
+
+-- where it is known what `out` has received, it has received nothing else
+pub untouched_by : (outcome : Outcome) (v : Verdict) (old new : List ℕ)
+    → OutStands outcome v old new → OutUntouched outcome old new
+untouched_by Done v old new out = tt
+untouched_by (Usage fault) v old new out = out
+untouched_by (Refused refusal) v old new out = out
+untouched_by (ReadFault input) v old new out = out
+untouched_by (WriteFault output) v old new (inl same) = λ other. same
+untouched_by (WriteFault output) v old new (inr is) = λ other. absurd (other is.0)
+untouched_by NoMemory v old new out = out
 
 -- ---- what stands where the writing stopped
 

@@ -8,13 +8,13 @@ use Rattle.sgm_io.specs.declared.sink.Sink as sink
 use Rattle.sgm_words.specs.Operands.{FileNames, of_none, of_match, of_trace, of_change, of_merge}
 use Rattle.sgm_outcome.specs.declared.outcome.Outcome.{Outcome}
 use Rattle.sgm_outcome.specs.declared.outcome.Outcome.TheVariants.{Done, NoMemory}
-use Rattle.sgm_app.specs.Deliver.{FilesPut}
+use Rattle.sgm_app.specs.Deliver.{FilesPut, IsDeliveryEnd}
 use Rattle.sgm_app.specs.Ends.{CountsShow, Faults, OutStands, OutUntouched, SameFaults, ShownBy}
 use Rattle.sgm_app.specs.Ends.{WritingEnds, faults, faults_at}
 use Rattle.sgm_app.specs.Entries.{IsEarly}
 use Rattle.sgm_app.specs.Moments.{Keeps, Moment, moment}
 use Rattle.sgm_app.specs.Outputs.{IsNamed, OutputFile}
-use Rattle.sgm_app.specs.RunEnds.{RunEnds, VerdictEnds}
+use Rattle.sgm_app.specs.RunEnds.{RunEnds}
 use Rattle.sgm_app.specs.Stops.{fetch_outcome, texts_outcome}
 use Rattle.sgm_app.specs.Unfinished.{AreFinished, UnfinishedStands}
 use Rattle.sgm_app.specs.Verdict.{Verdict, files, outputs_of}
@@ -22,7 +22,8 @@ use Rattle.sgm_app.specs.declared.stops.FetchStop.{FetchStop}
 use Rattle.sgm_app.specs.declared.stops.TextsError.{TextsError}
 use Rattle.sgm_app.proofs.Completing.{SummaryAlone, none_put}
 use Rattle.sgm_app.proofs.Counting.{texts_counts}
-use Rattle.sgm_app.proofs.Delivering.{finished_along, out_along, put_along}
+use Rattle.sgm_app.proofs.Delivering.{delivery_shown, finished_along, out_along, put_along}
+use Rattle.sgm_app.proofs.Delivering.{untouched_by}
 use Rattle.sgm_app.proofs.Early.{early_not_done, early_out, early_put, early_untouched, early_writing}
 use Rattle.sgm_app.proofs.Early.{fetch_early, texts_early}
 use Rattle.sgm_app.proofs.Finishing.{none_finished, same_stands}
@@ -154,10 +155,9 @@ pub ends_delivered : (names : FileNames) (CallsFor : Held → Verdict → Type 0
     → IsUnchanged before between → between.faults ≡ before.faults
     → (IsTrue before.tells → (v : Verdict) → CallsFor before.held v → files outputs summary ≡ v)
     → All (IsNamed names) outputs
-    → ShownBy (files outputs summary) outcome
+    → IsDeliveryEnd outcome
     → (IsTrue before.tells → FilesPut outcome (files outputs summary) between.held now.held)
     → (IsTrue before.out_tells → OutStands outcome (files outputs summary) between.written now.written)
-    → (IsTrue before.out_tells → OutUntouched outcome between.written now.written)
     → WritingEnds names outcome between.writing now.writing
     → ((n : FileNames) → All (IsNamed n) outputs
     → UnfinishedStands n outcome between.unfinished now.unfinished)
@@ -165,9 +165,9 @@ pub ends_delivered : (names : FileNames) (CallsFor : Held → Verdict → Type 0
     → ((n : FileNames) → All (IsNamed n) outputs → CountsShow n outcome between.faults now.faults)
     → RunEnds names CallsFor outcome before now
 ends_delivered names CallsFor outcome outputs summary before between now same counted is named
-    shown put out untouched writing unfinished finished counts = record {
+    end put out writing unfinished finished counts = record {
       called = λ told v calls. record {
-        cause = shown_along v wanted outcome (sym (is told v calls)) shown;
+        cause = shown_along v wanted outcome (sym (is told v calls)) (delivery_shown outputs summary outcome end);
         files = put_along outcome v wanted before.held between.held now.held
             (is told v calls) (same.held told) (put told);
         finished = λ done. finished_along v wanted now.unfinished (is told v calls) (finished done);
@@ -180,7 +180,7 @@ ends_delivered names CallsFor outcome outputs summary before between now same co
       unfinished = let P : NameSet → Type 0 = λ u. UnfinishedStands names outcome u now.unfinished in
           subst P same.unfinished (unfinished names named);
       untouched = λ told_out. let P : List ℕ → Type 0 = λ w. OutUntouched outcome w now.written in
-          subst P same.written (untouched told_out);
+          subst P same.written (untouched_by outcome wanted between.written now.written (out told_out));
       counts = let P : Faults → Type 0 = λ f. CountsShow names outcome f now.faults in
           subst P counted (counts names named);
     } where

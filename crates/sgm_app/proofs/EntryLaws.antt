@@ -1,10 +1,8 @@
 -- The entries of a list, one after the other.
-use Rattle.std.proofs.Common.{◌≡◌, ◌∙◌, refl, sym, ap, subst, ℕ, suc, ◌+◌, ◌<◌, ◌≤◌, arith, List, [], ◌∷◌, ◌++◌, append-nil, append_assoc, add-one, length, drop, fold, slice_get, Option, None, Some, Result, Ok, Err, Bool, true, false, if◌then◌else◌, String, Global}
-use Rattle.std.proofs.lemmas.List.{drop_all}
+use Rattle.std.proofs.Common.{◌≡◌, ◌∙◌, refl, sym, ap, subst, ℕ, suc, ◌+◌, ◌<◌, arith, List, [], ◌∷◌, ◌++◌, append_assoc, add-one, length, drop, fold, slice_get, None, Some, Result, Ok, Err, Bool, true, false, if◌then◌else◌, String, Global}
 use Rattle.std.proofs.lemmas.List.Sums.{fold-append}
 use Rattle.std.proofs.lemmas.Option.{get_or_from_slice_get}
 use Rattle.std.proofs.Math.Seq.{drop-cons}
-use Rattle.sgm_grid.specs.Asc.{asc_reading}
 use Rattle.sgm_grid.specs.Cells.{Cells, IsGridSpec}
 use Rattle.sgm_grid.specs.declared.asc_fault.AscFault.{AscFault}
 use Rattle.sgm_grid.specs.declared.grid_spec.GridSpec.{GridSpec}
@@ -23,12 +21,10 @@ use Rattle.sgm_app.specs.Entries.{NoneEver}
 use Rattle.sgm_app.specs.Judge.{StopsFor}
 use Rattle.sgm_app.specs.Merging.{MergePlan, MergedTexts, cells_refusal, entry_for, merged_texts_of}
 use Rattle.sgm_app.specs.Outputs.{merge_files_of}
-use Rattle.sgm_app.specs.Readings.{grid_reading}
 use Rattle.sgm_app.specs.Refusals.{or_refused, unless}
-use Rattle.sgm_app.specs.Stops.{texts_outcome}
-use Rattle.sgm_app.specs.Verdict.{Verdict, files, fetched, entry_fetched, entries_fetched, merged_by, unless_refused}
+use Rattle.sgm_app.specs.Verdict.{Verdict, files, entry_fetched, entries_fetched, merged_by}
 use Rattle.sgm_app.specs.declared.stops.TextsError.{TextsError}
-use Rattle.sgm_app.proofs.Steps.{goes_on, stops_on, stop_shown, shown_along}
+use Rattle.sgm_app.proofs.Steps.{goes_on, stops_on, shown_along}
 use Rattle.sgm_app.proofs.VerdictLaws.{never_merged, none_entries}
 
 -- names of files of which any may be that of an entry
@@ -58,25 +54,6 @@ refused_off_cells spec k reading entry is off =
     to_cells spec k reading entry is ∙ ap (λ (b : Bool). unless (if b then None else Some (refusal.NotOnCells k)) entry) off
 
 -- ---- one entry is fetched and judged
-
--- what is held reads as the bytes that were fetched
-reads_so : (held : Option (List ℕ)) (bytes items : List ℕ) → held ≡ Some items → bytes ≡ items → asc_reading bytes ≡ grid_reading held
-reads_so held bytes items there same = ap asc_reading same ∙ sym (ap (λ (h : Option (List ℕ)). grid_reading h) there)
-
-pub entry_goes : (spec : GridSpec) (k : ℕ) (held : Option (List ℕ)) (bytes items : List ℕ) (entry : Cells) → held ≡ Some items → bytes ≡ items
-    → ((next : Verdict) → fetched (input.Grid k) held next ≡ next) → entry_for spec k (asc_reading bytes) ≡ Ok entry → (next : Cells → Verdict) → entry_fetched spec k held next ≡ next entry
-entry_goes spec k held bytes items entry there same goes is next =
-    goes (unless_refused (entry_for spec k (grid_reading held)) next)
-    ∙ ap (λ (r : Result Cells AscFault). unless_refused (entry_for spec k r) next) (sym (reads_so held bytes items there same))
-    ∙ ap (λ (w : Result Cells Refusal). unless_refused w next) is
-
-pub entry_stops : (spec : GridSpec) (k : ℕ) (held : Option (List ℕ)) (bytes items : List ℕ) (stop : TextsError) → held ≡ Some items → bytes ≡ items
-    → ((next : Verdict) → fetched (input.Grid k) held next ≡ next) → StopsFor (entry_for spec k (asc_reading bytes)) stop → (next : Cells → Verdict) → ShownBy (entry_fetched spec k held next) (texts_outcome stop)
-entry_stops spec k held bytes items stop there same goes is next =
-    shown_along _ _ _
-    (goes (unless_refused (entry_for spec k (grid_reading held)) next)
-    ∙ ap (λ (r : Result Cells AscFault). unless_refused (entry_for spec k r) next) (sym (reads_so held bytes items there same)))
-    (stop_shown (entry_for spec k (asc_reading bytes)) next stop is)
 
 -- ---- one entry after the other
 
@@ -112,13 +89,6 @@ one_added start now new names held n name entry lt is same before adds goes = re
       ∙ ap (λ (f : List Cells → Verdict). entries_fetched start.spec (n + 1) (drop (n + 1) names) held f)
       (λ i later. next (sym (append_assoc before.entries (entry ∷ []) later) i));
 }
-
--- all of them
-pub all_added : (start now : Merging) (names : List (List ℕ)) (held : Held) (n : ℕ) → length names ≤ n → (added : AreAdded start now names held n) → (next : List Cells → Verdict) → entries_fetched start.spec 0 names held next ≡ next added.entries
-all_added start now names held n done added next =
-    added.goes_on next
-    ∙ ap (λ (ns : List (List ℕ)). entries_fetched start.spec n ns held (λ later. next (added.entries ++ later))) (drop_all n names done)
-    ∙ ap (λ (es : List Cells). next es) (append-nil added.entries)
 
 -- the outcome of an entry is shown by the verdict
 pub one_shown : (start now : Merging) (names : List (List ℕ)) (held : Held) (n : ℕ) (name : List ℕ) (outcome : Outcome) → n < length names → slice_get names n ≡ Some name → now.spec ≡ start.spec

@@ -16,11 +16,7 @@ use Rattle.sgm_app.specs.Outputs.{OutputFile, IsNamed, is_named}
 use Rattle.sgm_app.specs.Verdict.{Verdict, outputs_of}
 use Rattle.sgm_app.specs.Unfinished.{AreFinished, LeavesUnfinished, UnfinishedStands}
 use Rattle.sgm_app.specs.Deliver.{after_finishing, LeavesFile, LeavesOne, IsStopAt}
-use Rattle.sgm_app.specs.Stops.{fetch_outcome, texts_outcome, write_outcome}
-use Rattle.sgm_app.specs.declared.stops.FetchStop.{FetchStop}
-use Rattle.sgm_app.specs.declared.stops.FetchStop.TheVariants as fetch
-use Rattle.sgm_app.specs.declared.stops.TextsError.{TextsError}
-use Rattle.sgm_app.specs.declared.stops.TextsError.TheVariants as texts
+use Rattle.sgm_app.specs.Stops.{write_outcome}
 use Rattle.sgm_app.specs.declared.stops.WriteStop.{WriteStop}
 use Rattle.sgm_app.specs.declared.stops.WriteStop.TheVariants as write
 use Rattle.sgm_app.proofs.Holding.{in_cases, in_none, or_left, or_right, named-append}
@@ -180,15 +176,6 @@ none_left names IsLeft old new same = record {
   no_more = λ name e. inl (sym (ap (λ (u : NameSet). u name) same) ∙ e);
   others = λ name none. ap (λ (u : NameSet). u name) same;
 }
-
-pub fetch_stands : (names : FileNames) (stop : FetchStop) (old new : NameSet) → new ≡ old → UnfinishedStands names (fetch_outcome stop) old new
-fetch_stands names (fetch.Unread input) old new same = same
-fetch_stands names (fetch.TooLong input) old new same = same
-fetch_stands names fetch.NoMemory old new same = none_left names _ old new same
-
-pub texts_stands : (names : FileNames) (stop : TextsError) (old new : NameSet) → new ≡ old → UnfinishedStands names (texts_outcome stop) old new
-texts_stands names (texts.Refused refusal) old new same = same
-texts_stands names texts.NoMemory old new same = none_left names _ old new same
 
 -- whatever the outcome
 pub same_stands : (names : FileNames) (outcome : Outcome) (old new : NameSet) → new ≡ old → UnfinishedStands names outcome old new

@@ -20,7 +20,6 @@ pub mod Planning
 pub mod TextSteps
 pub mod Reading
 pub mod Steps
-pub mod Stopping
 pub mod Tallied
 pub mod VerdictLaws
 pub mod WordsEnding

@@ -1,5 +1,5 @@
 -- The files of a match, of a change and of a merge have the names of their outputs, which differ.
-use Rattle.std.proofs.Common.{◌≡◌, ◌++◌, ℕ, true, false, ◌||◌, List, [], ◌∷◌, Option, Some, None, IsSomeAnd, refl, ap, ◌∙◌, All, codes, rules, unwrap_or}
+use Rattle.std.proofs.Common.{◌≡◌, ◌++◌, ℕ, true, false, ◌||◌, List, [], ◌∷◌, Option, Some, None, refl, ap, ◌∙◌, All, codes, rules}
 use Rattle.std.specs.Str.{bytes_eq}
 use Rattle.std.proofs.lemmas.Slice.Eq.{bytes_eq-Decides}
 use Rattle.std.proofs.lemmas.List.{append_cancel_left}
@@ -50,11 +50,6 @@ tallied_named asked listed (Some text) = search rules
 pub all_merge_named : (asked : MergeOperands) (listed : Option (List (List ℕ))) (texts : MergedTexts) → All (IsNamed (of_merge asked listed)) (merge_files_of asked.out texts)
 all_merge_named asked listed texts =
     All-append (IsNamed (of_merge asked listed)) (file_of asked.out Heights texts.heights ∷ []) (files_with asked.out Report texts.report) (merged_named asked listed texts.heights) (tallied_named asked listed texts.report)
-
--- the name of an output's file
-pub name_is : (ending : Option (List ℕ)) (out name : List ℕ) → IsSomeAnd ending (λ e. name ≡ out ++ e) → name ≡ out ++ unwrap_or ending []
-name_is None out name is = absurd is
-name_is (Some e) out name is = is
 
 -- ---- the names differ
 

@@ -2,7 +2,7 @@
 use Rattle.std.proofs.Common.{◌≡◌, ◌∙◌, refl, sym, ap, subst, ℕ, List, Option, IsTrue, Result, Ok, Err}
 use Rattle.sgm_io.specs.Held.{Held}
 use Rattle.sgm_io.specs.Unfinished.{NameSet}
-use Rattle.sgm_words.specs.Operands.{FileNames, MergeOperands, of_merge, IsOutputName}
+use Rattle.sgm_words.specs.Operands.{MergeOperands, of_merge}
 use Rattle.sgm_words.specs.declared.options.Options.{Options}
 use Rattle.sgm_words.specs.declared.options.Options.TheVariants as options
 use Rattle.sgm_words.specs.declared.usage.UsageFault.{UsageFault}

@@ -1,5 +1,5 @@
 -- How a run ends, from the moment before to the moment after.
-use Rattle.std.specs.Prelude.{◌≡◌, ℕ, List, Option, IsTrue, Result, Ok, Err}
+use Rattle.std.specs.Prelude.{◌≡◌, ℕ, List, IsTrue, Result, Ok, Err}
 use Rattle.sgm_io.specs.Held.{Held}
 use Rattle.sgm_words.specs.Operands.{FileNames}
 use Rattle.sgm_words.specs.declared.options.Options.{Options}

@@ -5,7 +5,7 @@ ghost use Rattle.sgm_words.specs.Operands.{FileNames};
 ghost use Rattle.sgm_outcome.specs.declared.outcome.Outcome.TheVariants.{Done};
 ghost use Rattle.sgm_app.specs.Outputs.{IsNamed};
 ghost use Rattle.sgm_app.specs.Verdict.{files};
-ghost use Rattle.sgm_app.specs.Ends.{ShownBy, OutStands, OutUntouched, WritingStands};
+ghost use Rattle.sgm_app.specs.Ends.{ShownBy, OutStands, WritingStands};
 ghost use Rattle.sgm_app.specs.Ends.{StageCounts, CountsShow, OutCountsShow, faults, faults_at};
 ghost use Rattle.sgm_app.specs.Unfinished.{AreFinished, UnfinishedStands};
 ghost use Rattle.sgm_app.specs.Deliver.{WritesFile, StopsAtFile, EndsWriting, FinishesFile};
@@ -65,13 +65,10 @@ fn write_files<S: Shelf>(shelf: &mut S, files: &[OutputText]) -> Result<(), Writ
 /// the fault of writing that it stopped at, or the shelf's want of memory.
 pub fn deliver<S: Shelf, O: Sink>(shelf: &mut S, out: &mut O, delivery: &Delivery) -> Outcome
     ensures ends { IsDeliveryEnd result }
-    ensures shown { ShownBy (delivered_by delivery.now) result }
     ensures files { IsTrue S.tells
         → FilesPut result (delivered_by delivery.now) (S.held shelf.old) (S.held shelf.new) }
     ensures out { IsTrue O.tells
         → OutStands result (delivered_by delivery.now) (O.written out.old) (O.written out.new) }
-    ensures untouched { IsTrue O.tells
-        → OutUntouched result (O.written out.old) (O.written out.new) }
     ensures writing { WritingStands result (S.writing shelf.old) (S.writing shelf.new) }
     ensures unfinished { (names : FileNames) → All (IsNamed names) delivery.now.files.items
         → UnfinishedStands names result (S.unfinished shelf.old) (S.unfinished shelf.new) }
@@ -95,8 +92,6 @@ pub fn deliver_summary<O: Sink>(out: &mut O, summary: &[u8]) -> Outcome
     ensures shown { ShownBy (files [] summary.now) result }
     ensures out { IsTrue O.tells
         → OutStands result (files [] summary.now) (O.written out.old) (O.written out.new) }
-    ensures untouched { IsTrue O.tells
-        → OutUntouched result (O.written out.old) (O.written out.new) }
     ensures counts { (reads writes : Counts) → OutCountsShow result
         (faults reads writes (O.faults out.old)) (faults reads writes (O.faults out.new)) }
 {

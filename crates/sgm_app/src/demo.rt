@@ -2,7 +2,7 @@
 ghost use Rattle.std.specs.Prelude.{◌≡◌, Ok, IsTrue, MatchResult, string_bytes};
 ghost use Rattle.sgm_io.specs.Counts.{Counts};
 ghost use Rattle.sgm_app.specs.Judge.{StopsFor, demo_of_judged};
-ghost use Rattle.sgm_app.specs.Ends.{ShownBy, OutStands, OutUntouched, OutCountsShow, faults};
+ghost use Rattle.sgm_app.specs.Ends.{ShownBy, OutStands, OutCountsShow, faults};
 ghost use Rattle.sgm_app.specs.Verdict.{demo_for, demoed};
 
 use crate::crew::Crew;
@@ -14,7 +14,6 @@ use crate::{Outcome, pair};
 use sgm_base::{Refine, Size};
 use sgm_calib::Calib;
 use sgm_io::Sink;
-use sgm_job::survey_refined;
 use sgm_work::Gate;
 use std::thread::Threads;
 
@@ -34,17 +33,7 @@ fn judged_summary<R: Threads + Sync, G: Gate + Sync>(
         (λ summary. demo_of_judged judged.now refine ≡ Ok (string_bytes summary))
         (StopsFor (demo_of_judged judged.now refine)) }
 {
-    let surveyed = match survey_refined(
-        crew.rt,
-        crew.alloc,
-        &judged.left,
-        &judged.right,
-        &judged.calib,
-        crew.strips,
-        crew.workers,
-        refine,
-        crew.gate,
-    ) {
+    let surveyed = match crew.survey(judged, refine) {
         Ok(surveyed) => surveyed,
         Err(error) => return Err(TextsError::from(error)),
     };
@@ -88,8 +77,6 @@ pub fn run_demo<R: Threads + Sync, O: Sink, G: Gate + Sync>(
     ensures cause { ShownBy (demoed number refine) result }
     ensures out { IsTrue O.tells
         → OutStands result (demoed number refine) (O.written out.old) (O.written out.new) }
-    ensures untouched { IsTrue O.tells
-        → OutUntouched result (O.written out.old) (O.written out.new) }
     ensures counts { (reads writes : Counts) → OutCountsShow result
         (faults reads writes (O.faults out.old)) (faults reads writes (O.faults out.new)) }
 {

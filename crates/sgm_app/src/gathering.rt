@@ -77,10 +77,7 @@ impl MergeInputs {
     pub fn calib(&self) -> Option<&[u8]>
         ensures { option_map (λ bytes. bytes.now) result ≡ self.now.calib }
     {
-        match &self.calib {
-            Some(bytes) => Some(bytes.as_slice()),
-            None => None,
-        }
+        calib_bytes(&self.calib)
     }
 }
 
@@ -103,10 +100,17 @@ impl Inputs {
     pub fn calib(&self) -> Option<&[u8]>
         ensures { option_map (λ bytes. bytes.now) result ≡ self.now.calib }
     {
-        match &self.calib {
-            Some(bytes) => Some(bytes.as_slice()),
-            None => None,
-        }
+        calib_bytes(&self.calib)
+    }
+}
+
+// The bytes of a calibration, where there are any.
+fn calib_bytes(calib: &Option<Vec<u8>>) -> Option<&[u8]>
+    ensures { option_map (λ bytes. bytes.now) result ≡ option_map (λ bytes. bytes.items) calib.now }
+{
+    match calib {
+        Some(bytes) => Some(bytes.as_slice()),
+        None => None,
     }
 }
 

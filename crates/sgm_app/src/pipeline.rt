@@ -15,7 +15,6 @@ use crate::judge::{Judged, judge_pair};
 use crate::made::MadeTexts;
 use crate::stops::TextsError;
 use sgm_base::Refine;
-use sgm_job::survey_refined;
 use sgm_work::Gate;
 use std::alloc::Global;
 use std::thread::Threads;
@@ -48,13 +47,7 @@ pub fn texts<R: Threads + Sync, G: Gate + Sync>(
 {
     match judge_pair(alloc, left, right, calib) {
         Ok(judged) => {
-            let crew = Crew {
-                rt,
-                alloc,
-                strips,
-                workers,
-                gate,
-            };
+            let crew = Crew::of(rt, alloc, strips, workers, gate);
             judged_texts(&crew, &judged, refine)
         }
         Err(stop) => Err(stop),
@@ -71,17 +64,7 @@ fn judged_texts<R: Threads + Sync, G: Gate + Sync>(
         (λ made. texts_of_judged judged.now refine ≡ Ok (texts_in made))
         (StopsFor (texts_of_judged judged.now refine)) }
 {
-    let surveyed = match survey_refined(
-        crew.rt,
-        crew.alloc,
-        &judged.left,
-        &judged.right,
-        &judged.calib,
-        crew.strips,
-        crew.workers,
-        refine,
-        crew.gate,
-    ) {
+    let surveyed = match crew.survey(judged, refine) {
         Ok(surveyed) => surveyed,
         Err(error) => return Err(TextsError::from(error)),
     };

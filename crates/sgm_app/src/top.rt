@@ -86,13 +86,7 @@ fn carry_out<R: Threads + Sync, S: Shelf, O: Sink, G: Gate + Sync>(
                 workers,
                 refine,
             } => {
-                let crew = Crew {
-                    rt,
-                    alloc,
-                    strips,
-                    workers,
-                    gate,
-                };
+                let crew = Crew::of(rt, alloc, strips, workers, gate);
                 run_match(&crew, &OperandWords::of(words), refine, shelf, out)
             }
             Options::Demo {
@@ -101,13 +95,7 @@ fn carry_out<R: Threads + Sync, S: Shelf, O: Sink, G: Gate + Sync>(
                 workers,
                 refine,
             } => {
-                let crew = Crew {
-                    rt,
-                    alloc,
-                    strips,
-                    workers,
-                    gate,
-                };
+                let crew = Crew::of(rt, alloc, strips, workers, gate);
                 run_demo(&crew, number, refine, out)
             }
             Options::Trace { dir, x, y, d } => {

@@ -1,6 +1,6 @@
 //! The batch.
 ghost use Rattle.std.specs.Prelude.{◌≡◌, ◌≤◌, ◌<◌, ℕ, [], map, None, Some, IfOk};
-ghost use Rattle.std.specs.Prelude.{All, length, slice_get, slice_index_or, replicate};
+ghost use Rattle.std.specs.Prelude.{All, length, slice_get, slice_index_or};
 ghost use Rattle.std.specs.Prelude.{vec_capacity, vec_len};
 ghost use Rattle.sgm_draws.specs.Tickets.{AreNew, IsTicketOf, new_ticket, parts_of, tickets_of};
 ghost use Rattle.sgm_draws.specs.declared.limits.TheConstants.{MAX_NUMBERS, MAX_TICKETS};
@@ -16,21 +16,10 @@ use crate::worker::{Job, Worker, work};
 use sgm_app::Inputs;
 use sgm_draws::{Draws, Ticket};
 use sgm_queue::{Queue, QueuePass};
-use sgm_work::Gate;
+use sgm_work::{Gate, empty_places};
 use std::alloc::{AllocError, Global};
 use std::sync::Wait;
 use std::thread::{Threads, for_each_mut};
-
-/// So many empty places.
-fn places(alloc: Global, count: usize) -> Result<Vec<Option<Piece>>, AllocError>
-    ensures { IfOk result (λ places. places.items ≡ replicate count None) }
-{
-    let mut places = Vec::with_capacity(alloc, count)?;
-    for _ in 0..count {
-        places.push_reserved(None);
-    }
-    Ok(places)
-}
 
 /// A worker that has made no step.
 fn worker_of(
@@ -49,7 +38,7 @@ fn worker_of(
     ensures gathered { IfOk result (λ worker. (parts_of worker.ticket).gathered
         ≡ (parts_of ticket).gathered) }
 {
-    let kept = places(alloc, job.inputs.len())?;
+    let kept = empty_places(alloc, job.inputs.len())?;
     Ok(Worker { ticket, pass, kept })
 }
 

@@ -1,7 +1,8 @@
 -- A board and its passes, as contracts see them.
-use Rattle.std.specs.Prelude.{◌≡◌, ℕ, ◌<◌, ◌-◌, true, List, slice_get, length, Some, None}
+use Rattle.std.specs.Prelude.{◌≡◌, ℕ, ◌<◌, ◌-◌, true, false, List, slice_get, length, Some, None}
 use Rattle.atomic_table.specs.Seated.{TableId}
 use Rattle.sgm_energy.specs.declared.dir.Dir.{Dir}
+use Rattle.sgm_energy.specs.Dirs.{position_of}
 use Rattle.sgm_strip.specs.Cuts.{CutParts}
 use Rattle.sgm_strip.specs.Scenes.{SceneParts}
 use Rattle.sgm_strip.specs.Parcels.{ParcelParts, IsOf, is_done}
@@ -56,6 +57,17 @@ pub record IsHeld (board : Board) (p : PassParts) (parcel : ParcelParts) : Type 
   pub held : p.strip ≡ Some parcel.strip
   pub done : (dir : Dir) → is_done parcel.done dir ≡ p.done dir
 
+-- the pass is of this board, and holds nothing
+pub record IsIdlePassOf (board : Board) (pass : Pass) : Type 0 where
+  pub own : IsPassOf board pass
+  pub idle : IsIdle (parts_of pass)
+
+-- the pass is of this board, holds the strip of this parcel and has no front
+pub record HoldsOnly (board : Board) (pass : Pass) (parcel : ParcelParts) : Type 0 where
+  pub own : IsPassOf board pass
+  pub bare : (parts_of pass).front ≡ None
+  pub held : IsHeld board (parts_of pass) parcel
+
 -- the front is of the board's scene and cut
 abbrev pub IsFrontOn : Board → FrontParts → Type 0
 IsFrontOn board front = (front.scene ≡ scene_of board) × (front.cut ≡ cut_of board)
@@ -64,3 +76,21 @@ IsFrontOn board front = (front.scene ≡ scene_of board) × (front.cut ≡ cut_o
 abbrev pub IsLastBy : FrontParts → ℕ → ℕ → Type 0
 IsLastBy front strip worker = slice_get front.visits (length front.visits - 1)
     ≡ Some (visit_of strip worker)
+
+-- the front is that of this direction, and the parcel's strip comes next for it: it visited those
+-- at the positions before, and the direction is not done in the parcel
+pub record ComesNext (board : Board) (dir : Dir) (parcel : ParcelParts)
+    (front : FrontParts) : Type 0 where
+  pub on_board : IsFrontOn board front
+  pub same_dir : front.dir ≡ dir
+  pub visited : length front.visits ≡ position_of dir parcel.strip (strips_of board)
+  pub left : is_done parcel.done dir ≡ false
+
+-- the front went through this parcel last, with this worker, and its direction is done there. Both
+-- are of the board's scene and cut
+pub record WentThrough (board : Board) (worker : ℕ) (parcel : ParcelParts)
+    (front : FrontParts) : Type 0 where
+  pub of_board : IsOf (scene_of board) (cut_of board) parcel
+  pub on_board : IsFrontOn board front
+  pub last : IsLastBy front parcel.strip worker
+  pub done : is_done parcel.done front.dir ≡ true

@@ -1,13 +1,14 @@
 //! The calls on a board. None of them takes memory or waits.
 ghost use Rattle.std.specs.Prelude.{◌≡◌, ◌≢◌, ℕ, ◌+◌, ◌*◌, ◌/◌, ◌<◌};
-ghost use Rattle.std.specs.Prelude.{◌≤◌, true, false, length, Some, None, IfSome, IfNone};
+ghost use Rattle.std.specs.Prelude.{◌≤◌, false, Some, IfSome, IfNone};
 ghost use Rattle.sgm_energy.specs.Dirs.{is_level, position_of};
 ghost use Rattle.sgm_strip.specs.Parcels.{IsOf, is_done};
 ghost use Rattle.sgm_board.specs.Words.{dir_word, strip_word};
 ghost use Rattle.sgm_board.specs.Passes.{after_look, after_claim, after_return, after_try};
 ghost use Rattle.sgm_board.specs.Passes.{after_take, after_put, HasReadAll, HasJoined};
 ghost use Rattle.sgm_board.specs.Boards.{parts_of, scene_of, cut_of, strips_of};
-ghost use Rattle.sgm_board.specs.Boards.{IsPassOf, IsIdle, IsHeld, IsFrontOn, IsLastBy};
+ghost use Rattle.sgm_board.specs.Boards.{IsPassOf, IsIdle, IsHeld, HoldsOnly};
+ghost use Rattle.sgm_board.specs.Boards.{ComesNext, WentThrough};
 
 use crate::board::Board;
 use crate::pass::Pass;
@@ -47,16 +48,11 @@ impl Board {
     /// next for it and no pass has it. None only where the direction's word, which was looked at
     /// once in this call, was not twice the strip's position.
     pub fn try_take(&self, pass: &mut Pass, parcel: &Parcel, dir: Dir) -> Option<Front>
-        requires own { IsPassOf self.now pass.old }
-        requires bare { (parts_of pass.old).front ≡ None }
-        requires parcel { IsHeld self.now (parts_of pass.old) parcel.now }
+        requires holds { HoldsOnly self.now pass.old parcel.now }
         requires across { is_level dir ≡ false }
         ensures own { IsPassOf self.now pass.new }
         ensures held { IsHeld self.now (parts_of pass.new) parcel.now }
-        ensures front { IfSome result (λ front. IsFrontOn self.now front × (front.dir ≡ dir)) }
-        ensures next { let position = position_of dir parcel.now.strip (strips_of self.now) in
-            IfSome result (λ front. length front.visits ≡ position) }
-        ensures left { IfSome result (λ _. is_done parcel.now.done dir ≡ false) }
+        ensures front { IfSome result (ComesNext self.now dir parcel.now) }
         ensures some { let due = 2 * position_of dir parcel.now.strip (strips_of self.now) in
             let tried =
             after_try (after_look (parts_of pass.old) (dir_word dir) due) parcel.now.strip dir in
@@ -78,10 +74,7 @@ impl Board {
         requires own { IsPassOf self.now pass.old }
         requires has_it { (parts_of pass.old).front ≡ Some front.dir }
         requires held { (parts_of pass.old).strip ≡ Some parcel.now.strip }
-        requires parcel { IsOf (scene_of self.now) (cut_of self.now) parcel.now }
-        requires front { IsFrontOn self.now front }
-        requires visit { IsLastBy front parcel.now.strip (parts_of pass.old).number }
-        requires done { is_done parcel.now.done front.dir ≡ true }
+        requires through { WentThrough self.now (parts_of pass.old).number parcel.now front }
         ensures own { IsPassOf self.now pass.new }
         ensures put { let was = 2 * position_of front.dir parcel.now.strip (strips_of self.now)
             + 1 in
@@ -104,9 +97,7 @@ impl Board {
     /// Gives back the parcel of the strip held, with the directions done that the pass shows. The
     /// pass then holds nothing. It can't fail.
     pub fn give_back(&self, pass: &mut Pass, parcel: Parcel)
-        requires own { IsPassOf self.now pass.old }
-        requires bare { (parts_of pass.old).front ≡ None }
-        requires parcel { IsHeld self.now (parts_of pass.old) parcel }
+        requires holds { HoldsOnly self.now pass.old parcel }
         ensures own { IsPassOf self.now pass.new }
         ensures idle { IsIdle (parts_of pass.new) }
         ensures back { parts_of pass.new

@@ -109,9 +109,9 @@ pub(crate) fn take(
         × (seat.old.me.0.about ≡ Some (about_of shown.now.key)) }
     requires dir { is_level dir ≡ false }
     ensures table { seat.new.table_id ≡ seat.old.table_id }
-    ensures front { IfSome result
-        (IsFrontAt (about_of shown.now.key) dir (position_of dir strip strips)) }
-    ensures left { IfSome result (λ front. is_known_done seat.old.me.0 dir ≡ false) }
+    ensures front { IfSome result (λ front.
+        IsFrontAt (about_of shown.now.key) dir (position_of dir strip strips) front
+        × (is_known_done seat.old.me.0 dir ≡ false)) }
     ensures some { IfSome result (λ front. seat.new.me ≡ (
       after_take
           (after_try

@@ -1,12 +1,12 @@
 -- The keys of the regions: a list of objects, each a rectangle of the grid's cells with its name,
 -- its base and, from version 3 of the calibration on, the rises of the base and an outline.
-use Rattle.std.specs.Prelude.{ℕ, suc, pos, if◌then◌else◌, nat_le, List, [], ◌∷◌, length, map}
-use Rattle.std.specs.Prelude.{Option, Some, None, option_map}
+use Rattle.std.specs.Prelude.{ℕ, suc, pos, ◌≤◌, if◌then◌else◌, nat_le, List, [], ◌∷◌, length, map}
+use Rattle.std.specs.Prelude.{Option, Some, None, option_map, All}
 use Rattle.serde_json.specs.Data.{Data}
 use Rattle.serde_json.specs.Find.{get, as_array}
 use Rattle.sgm_base.specs.declared.limits.TheConstants.{MAX_REGIONS}
 use Rattle.sgm_grid.specs.declared.grid_spec.GridSpec.{GridSpec}
-use Rattle.sgm_report.specs.Areas.{Area, has_base}
+use Rattle.sgm_report.specs.Areas.{Area, IsArea, has_base}
 use Rattle.sgm_report.specs.Outlines.{Corner}
 use Rattle.sgm_report.specs.declared.base.BasePlane.{BasePlane}
 use Rattle.sgm_calib.specs.declared.keys.CalibFault.{CalibFault}
@@ -74,6 +74,11 @@ area_in sort d = area_of (text_of table.region_name d) (numbers_of sort d) (outl
 unfoldable pub regions_in : Data → Option (List Area)
 regions_in top =
     option_map (λ d. map (area_in (sort_of top)) (elements d)) (get table.region_list.name top)
+
+-- areas of a grid, not too many
+pub record AreRegionsOf (grid : GridSpec) (areas : List Area) : Type 0 where
+  pub few : length areas ≤ MAX_REGIONS
+  pub inside : All (IsArea grid) areas
 
 -- ---- what is wrong with the regions
 

@@ -13,9 +13,10 @@ ghost use Rattle.sgm_calib.specs.Rows.{number_of, IsCount};
 ghost use Rattle.sgm_calib.specs.Checks.{first_of, key_fault, keys_fault, text_of, elements};
 ghost use Rattle.sgm_calib.specs.Checks.{sort_of, IsFaultOf};
 ghost use Rattle.sgm_calib.specs.RegionKeys.{region_place, region_number_keys, rises_fault};
-ghost use Rattle.sgm_calib.specs.RegionKeys.{parts_fault, outline_fault, region_fault};
-ghost use Rattle.sgm_calib.specs.RegionKeys.{region_faults, regions_fault_of, regions_fault};
-ghost use Rattle.sgm_calib.specs.RegionKeys.{base_of, numbers_of, area_in, outline_in, regions_in};
+ghost use Rattle.sgm_calib.specs.RegionKeys.{AreRegionsOf, parts_fault, outline_fault};
+ghost use Rattle.sgm_calib.specs.RegionKeys.{region_fault, region_faults, regions_fault_of};
+ghost use Rattle.sgm_calib.specs.RegionKeys.{regions_fault, base_of, numbers_of, area_in};
+ghost use Rattle.sgm_calib.specs.RegionKeys.{outline_in, regions_in};
 ghost use Rattle.sgm_calib.specs.Judge.{grid_in};
 
 use crate::checks::{
@@ -264,8 +265,7 @@ fn region_list(
     requires { IsGridSpec grid }
     ensures ok { OnOk result (regions_fault_of sort grid (Some (view list.now)) ≡ None) }
     ensures value { IfOk result (λ v. v.items ≡ map (area_in sort) (elements (view list.now))) }
-    ensures inside { IfOk result (λ v. All (IsArea grid) v.items) }
-    ensures few { IfOk result (λ v. length v.items ≤ MAX_REGIONS) }
+    ensures kept { IfOk result (λ v. AreRegionsOf grid v.items) }
     ensures fault { IfErr result (λ e.
         IsFaultOf (regions_fault_of sort grid (Some (view list.now))) e) }
 {
@@ -292,9 +292,8 @@ pub fn regions(
         (λ _. IsTrue (is_some grid)) }
     ensures ok { OnOk result (regions_fault (view top.now) ≡ None) }
     ensures value { IfOk result (λ r. option_map (λ v. v.items) r ≡ regions_in (view top.now)) }
-    ensures inside { IfOk result
-        (λ r. IfSome grid (λ spec. IfSome r (λ v. All (IsArea spec) v.items))) }
-    ensures few { IfOk result (λ r. IfSome r (λ v. length v.items ≤ MAX_REGIONS)) }
+    ensures kept { IfOk result
+        (λ r. IfSome grid (λ spec. IfSome r (λ v. AreRegionsOf spec v.items))) }
     ensures given { IfOk result (λ r. IfSome r (λ _. IsTrue (is_some grid))) }
     ensures fault { IfErr result (λ e. IsFaultOf (regions_fault (view top.now)) e) }
 {

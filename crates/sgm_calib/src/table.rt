@@ -97,7 +97,10 @@ macro_rules! key_row {
     ($number:literal in $object:literal $path:literal $name:literal: $form:expr) => {
         key_row!($number in $object $path $name: $form, Presence::Required)
     };
-    ($number:literal in $object:literal $path:literal $name:literal: $form:expr, $presence:expr) => {
+    (
+        $number:literal in $object:literal $path:literal $name:literal: $form:expr,
+        $presence:expr
+    ) => {
         Row {
             number: $number,
             object: $object,

@@ -3,13 +3,14 @@
 ghost use Rattle.std.specs.Prelude.{◌≡◌, [], ◌∷◌, ◌+◌, ◌*◌, ◌/◌, ◌<◌, ◌≤◌, pos, map, length, All};
 ghost use Rattle.std.specs.Prelude.{IfOk, IfErr, OnOk, unwrap_or, Some, None};
 ghost use Rattle.serde_json.specs.View.{view};
+ghost use Rattle.sgm_base.specs.Ranges.{IsFromTo};
 ghost use Rattle.sgm_rectify.specs.Warps.{IsWarp, IsEntry, IsNode, IsCoordinate};
 ghost use Rattle.sgm_rectify.specs.declared.limits.TheConstants.{MIN_STEP, MAX_STEP};
 ghost use Rattle.sgm_rectify.specs.declared.limits.TheConstants.{MIN_NODE_COUNT, MAX_NODE_COUNT};
 ghost use Rattle.sgm_calib.specs.declared.kind.Kind.TheVariants.{Mesh};
 ghost use Rattle.sgm_calib.specs.declared.lists.Amount.TheVariants.{Exactly};
 ghost use Rattle.sgm_calib.specs.Table as table;
-ghost use Rattle.sgm_calib.specs.Rows.{whole, number_of, count_of, IsCount, meant, form_meant};
+ghost use Rattle.sgm_calib.specs.Rows.{whole, number_of, count_of, meant, form_meant};
 ghost use Rattle.sgm_calib.specs.Rows.{presence_meant};
 ghost use Rattle.sgm_calib.specs.Checks.{first_of, object_fault, key_fault, keys_fault};
 ghost use Rattle.sgm_calib.specs.Checks.{numbers_fault, value_of, IsFaultOf};
@@ -34,6 +35,9 @@ struct Shape {
     step: u32,
     cols: u32,
     rows: u32,
+    ghost step_range: { (MIN_STEP ≤ step) × (step ≤ MAX_STEP) },
+    ghost cols_range: { (MIN_NODE_COUNT ≤ cols) × (cols ≤ MAX_NODE_COUNT) },
+    ghost rows_range: { (MIN_NODE_COUNT ≤ rows) × (rows ≤ MAX_NODE_COUNT) },
 }
 
 /// The kind of a side.
@@ -68,9 +72,12 @@ fn matrix(side: &Value, place: Place) -> Result<[i64; 9], CalibFault>
 
 /// The step, the columns and the rows of a side that is a mesh, where they have no fault.
 fn shape_at(side: &Value) -> Shape
-    requires step { IsCount (number_of table.mesh_step (view side.now)) }
-    requires cols { IsCount (number_of table.mesh_cols (view side.now)) }
-    requires rows { IsCount (number_of table.mesh_rows (view side.now)) }
+    requires step { IsFromTo (pos MIN_STEP) (pos MAX_STEP)
+        (number_of table.mesh_step (view side.now)) }
+    requires cols { IsFromTo (pos MIN_NODE_COUNT) (pos MAX_NODE_COUNT)
+        (number_of table.mesh_cols (view side.now)) }
+    requires rows { IsFromTo (pos MIN_NODE_COUNT) (pos MAX_NODE_COUNT)
+        (number_of table.mesh_rows (view side.now)) }
     ensures step { result.step ≡ count_of table.mesh_step (view side.now) }
     ensures cols { result.cols ≡ count_of table.mesh_cols (view side.now) }
     ensures rows { result.rows ≡ count_of table.mesh_rows (view side.now) }
@@ -90,9 +97,6 @@ fn mesh_shape(side: &Value, place: Place) -> Result<Shape, CalibFault>
     ensures step { IfOk result (λ s. s.step ≡ count_of table.mesh_step (view side.now)) }
     ensures cols { IfOk result (λ s. s.cols ≡ count_of table.mesh_cols (view side.now)) }
     ensures rows { IfOk result (λ s. s.rows ≡ count_of table.mesh_rows (view side.now)) }
-    ensures step_range { IfOk result (λ s. (MIN_STEP ≤ s.step) × (s.step ≤ MAX_STEP)) }
-    ensures cols_range { IfOk result (λ s. (MIN_NODE_COUNT ≤ s.cols) × (s.cols ≤ MAX_NODE_COUNT)) }
-    ensures rows_range { IfOk result (λ s. (MIN_NODE_COUNT ≤ s.rows) × (s.rows ≤ MAX_NODE_COUNT)) }
     ensures fault { IfErr result (λ f. keys_fault place (view side.now) shape_keys ≡ Some f) }
 {
     check_numbers(side, &SHAPE_KEYS, place)?;

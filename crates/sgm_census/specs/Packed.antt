@@ -109,6 +109,12 @@ pub record HoldsPlain (plane : Values) (values : List ℕ) (there : List Bool)
   pub width_is : width ≡ plane.width
   pub height_is : height ≡ plane.height
 
+-- the words and marks of the codes that a function gives for the columns of a row
+pub record HoldsEach (n width : ℕ) (code : ℕ → Option (List Bool)) (words : List ℕ)
+    (present : List Bool) : Type 0 where
+  pub each : (x : ℕ) → x < width → unpacked n words present (width - 1 - x) ≡ code x
+  pub within : (k : ℕ) → slice_index words k < 2 ^ n
+
 -- the words and marks of the codes that a function gives for the pixels of a plane
 pub record HoldsAll (n width height : ℕ) (code : ℕ → ℕ
     → Option (List Bool)) (words : List ℕ) (present : List Bool) : Type 0 where

@@ -10,7 +10,7 @@ ghost use Rattle.sgm_census.specs.Windows.{greatest_of};
 ghost use Rattle.sgm_census.specs.Codes.{code_at};
 ghost use Rattle.sgm_base.specs.Values.{IsValues};
 ghost use Rattle.sgm_census.specs.Packed.{pushed, lesser, in_rows, all_in, word_to, without};
-ghost use Rattle.sgm_census.specs.Packed.{unpacked, word_place, HoldsPlain};
+ghost use Rattle.sgm_census.specs.Packed.{HoldsAll, HoldsPlain};
 
 use crate::Window;
 use sgm_base::{MAX_WINDOW_WIDTH, Plane};
@@ -322,10 +322,8 @@ pub(crate) fn code_rows(
     requires present_length { length present.old ≡ plane.now.width * plane.now.height }
     requires within { (k : ℕ) → slice_index words.old k < 2 ^ greatest_of window }
     requires none { (k : ℕ) → slice_index_or present.old k false ≡ false }
-    ensures each { (x y : ℕ) → x < plane.now.width → y < plane.now.height
-        → unpacked (greatest_of window) words.new present.new (word_place plane.now.width x y)
-        ≡ code_at plane.now window x y }
-    ensures within { (k : ℕ) → slice_index words.new k < 2 ^ greatest_of window }
+    ensures { HoldsAll (greatest_of window) plane.now.width plane.now.height
+        (code_at plane.now window) words.new present.new }
 {
     let (width, height) = (plain.width, plain.height);
     let (across, down) = (window.width as usize / 2, window.height as usize / 2);

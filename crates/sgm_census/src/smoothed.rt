@@ -8,8 +8,8 @@ ghost use Rattle.std.specs.Prelude.{true, false, IfSome};
 ghost use Rattle.std.specs.List.{flat_map, range_with_len};
 ghost use Rattle.sgm_base.specs.Values.{IsValues, value_at};
 ghost use Rattle.sgm_census.specs.Codes.{middle_at, smoothed_code_at, three_by_three, value_near};
-ghost use Rattle.sgm_census.specs.Packed.{HoldsPlain, bits_of, pushed, unpacked, word_place};
-ghost use Rattle.sgm_census.specs.Packed.{word_to};
+ghost use Rattle.sgm_census.specs.Packed.{HoldsEach, HoldsPlain, bits_of, pushed, unpacked};
+ghost use Rattle.sgm_census.specs.Packed.{word_place, word_to};
 ghost use Rattle.sgm_census.specs.Smoothing.{HasMiddles, IsInside, IsWhole, word_by};
 ghost use Rattle.sgm_census.specs.Windows.{greatest_of};
 ghost use Rattle.sgm_lanes.specs.Middles.{middle_of};
@@ -248,10 +248,8 @@ fn complete(
         → slice_index_or present.old (plane.now.width - 1 - x) false ≡ true
         → unpacked (greatest_of window) words.old present.old (plane.now.width - 1 - x)
         ≡ smoothed_code_at plane.now window x y }
-    ensures each { (x : ℕ) → x < plane.now.width
-        → unpacked (greatest_of window) words.new present.new (plane.now.width - 1 - x)
-        ≡ smoothed_code_at plane.now window x y }
-    ensures within { (k : ℕ) → slice_index words.new k < 2 ^ greatest_of window }
+    ensures { HoldsEach (greatest_of window) plane.now.width
+        (λ x. smoothed_code_at plane.now window x y) words.new present.new }
 {
     let _ = plane.size();
     let width = middles.len();

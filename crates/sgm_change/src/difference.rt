@@ -7,11 +7,8 @@ ghost use Rattle.sgm_change.specs.Texts.{after_spaces, difference_text, grids_te
 ghost use Rattle.sgm_change.specs.Texts.{rows_text};
 
 use itoa::Buffer;
-use sgm_grid::{Grid, append_head};
+use sgm_grid::{Grid, HEAD_ROOM, append_head};
 use std::alloc::AllocError;
-
-/// More bytes than the six lines of the head have.
-const HEAD_ROOM: usize = 256;
 
 /// The most bytes of a difference and what follows it.
 const DIFFERENCE_ROOM: usize = 12;

@@ -24,4 +24,4 @@ pub use grid_spec::GridSpec;
 pub use keep::{Gridding, Keep};
 pub use limits::{MAX_BRIDGE, MAX_CELL, MAX_HEIGHT, MAX_PLACE, NO_HEIGHT};
 pub use placed::Placed;
-pub use text::append_head;
+pub use text::{HEAD_ROOM, append_head};

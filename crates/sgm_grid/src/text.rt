@@ -8,8 +8,8 @@ use crate::{Grid, GridSpec};
 use itoa::Buffer;
 use std::alloc::AllocError;
 
-/// More bytes than the six lines of the head have.
-const HEAD_ROOM: usize = 256;
+/// More bytes than the six lines that [`append_head`] adds have.
+pub const HEAD_ROOM: usize = 256;
 
 /// The most bytes of a height and what follows it.
 const HEIGHT_ROOM: usize = 12;

@@ -6,14 +6,13 @@ use Rattle.std.proofs.lemmas.Bool.{eqb-true}
 use Rattle.sgm_base.specs.Picture.{Picture}
 use Rattle.sgm_base.specs.Sides.{Sides}
 use Rattle.sgm_rectify.specs.declared.warp.WarpFault.{WarpFault}
-use Rattle.sgm_rectify.specs.Faults.{warp_fault}
 use Rattle.sgm_rectify.specs.declared.warp.Warp.{Warp}
 use Rattle.sgm_rectify.specs.Rectified.{rectified_values, sides_of}
 use Rattle.sgm_census.specs.Codes.{Codes}
 use Rattle.sgm_census.specs.Windows.{WindowSides}
 use Rattle.sgm_census.specs.declared.rule.CostRule.{CostRule}
 use Rattle.sgm_calib.specs.Calibration.{Calibration}
-use Rattle.sgm_job.specs.Matching.{IsMade}
+use Rattle.sgm_job.specs.Matching.{IsMade, Passes}
 use Rattle.sgm_job.specs.declared.pair.Coded.{Coded}
 use Rattle.sgm_job.specs.declared.job.SurveyFault.{SurveyFault}
 use Rattle.sgm_job.specs.declared.job.SurveyFault.TheVariants as fault
@@ -23,12 +22,6 @@ use Rattle.sgm_grid.specs.Cells.{Cells}
 use Rattle.sgm_report.specs.declared.volumes.RegionTally.{RegionTally}
 use Rattle.sgm_base.specs.Refining.{Refining}
 use Rattle.sgm_job.specs.Survey.{final, ground, tallies, cells_of, is_too_large, pair_fault, Prepared, prepared, prepared_of, same_sides, side_fault, Survey, survey_of, surveyed, unless}
-
--- the sides are the same, and neither warp has a fault
-pub record Passes (left right : Sides) (calib : Calibration) : Type 0 where
-  pub same : left ≡ right
-  pub left_faultless : warp_fault calib.left left ≡ None
-  pub right_faultless : warp_fault calib.right right ≡ None
 
 all_none : (same large : Bool) (a b : SurveyFault) (l r : Option SurveyFault) → (if not same then Some a else if large then Some b else option_or l r) ≡ None
     → (same ≡ true) × (l ≡ None) × (r ≡ None)
@@ -52,7 +45,7 @@ same_from left right e =
     ap (λ w. let s : Sides = record { width = w; height = left.height } in s) (eqb-true _ _ parts.0)
     ∙ ap (λ h. let s : Sides = record { width = right.width; height = h } in s) (eqb-true _ _ parts.1)
 
-pub passes : (left right : Sides) (calib : Calibration) → pair_fault left right calib ≡ None → Passes left right calib
+passes : (left right : Sides) (calib : Calibration) → pair_fault left right calib ≡ None → Passes left right calib
 unfolding pair_fault
 passes left right calib e =
     let none =
@@ -68,6 +61,15 @@ passes left right calib e =
 pub sides_are : (sides : Sides) (image : Picture) → sides.width ≡ image.width → sides.height ≡ image.height → sides ≡ sides_of image
 sides_are sides image ew eh =
     ap (λ w. let s : Sides = record { width = w; height = sides.height } in s) ew ∙ ap (λ h. let s : Sides = record { width = image.width; height = h } in s) eh
+
+-- images whose sizes have no fault pass
+pub images_pass : (left right : Picture) (calib : Calibration) (a b : Sides) → a ≡ sides_of left
+    → b ≡ sides_of right → None ≡ pair_fault a b calib
+    → Passes (sides_of left) (sides_of right) calib
+images_pass left right calib a b ea eb e =
+    passes (sides_of left) (sides_of right) calib
+    (ap (λ s. pair_fault s (sides_of right) calib) (sym ea)
+    ∙ ap (λ s. pair_fault a s calib) (sym eb) ∙ sym e)
 
 pub fault_answered : (left right : Picture) (calib : Calibration) (refine : Refining) (a b : Sides) (found : SurveyFault) → a ≡ sides_of left → b ≡ sides_of right
     → Some found ≡ pair_fault a b calib → surveyed left right calib refine ≡ Err found
@@ -97,12 +99,6 @@ survey_answered left right calib refine a b survey ea eb e is =
 
 -- ---- the parts of a survey
 
-pub left_faultless : (left : Picture) (calib : Calibration) (a b : Sides) → a ≡ sides_of left → Passes a b calib → warp_fault calib.left (sides_of left) ≡ None
-left_faultless left calib a b ea pass = ap (warp_fault calib.left) (sym ea) ∙ pass.left_faultless
-
-pub right_faultless : (right : Picture) (calib : Calibration) (a b : Sides) → b ≡ sides_of right → Passes a b calib → warp_fault calib.right (sides_of right) ≡ None
-right_faultless right calib a b eb pass = ap (warp_fault calib.right) (sym eb) ∙ pass.right_faultless
-
 -- a rectified image has the sides of the image
 pub plane_width : (image : Picture) (warp : Warp) (plane : Values) → plane ≡ rectified_values image warp → plane.width ≡ image.width
 unfolding rectified_values
@@ -118,10 +114,6 @@ coded_width image warp window rule made is = ap (λ (c : Codes). c.width) is.cod
 
 pub coded_height : (image : Picture) (warp : Warp) (window : WindowSides) (rule : CostRule) (made : Coded) → IsMade image warp window rule made → made.codes.height ≡ image.height
 coded_height image warp window rule made is = ap (λ (c : Codes). c.height) is.coded ∙ plane_height image warp made.plane is.rectified
-
--- images with the sides of a pair that passes have the same
-pub one_size : (left right : Picture) (a b : Sides) (calib : Calibration) → a ≡ sides_of left → b ≡ sides_of right → Passes a b calib → sides_of left ≡ sides_of right
-one_size left right a b calib ea eb pass = sym ea ∙ pass.same ∙ eb
 
 pub survey_is : (left right : Picture) (calib : Calibration) (refine : Refining) (disp : Values) (grid : Option Cells) (found : Option (List RegionTally)) → disp ≡ final left right calib refine
     → grid ≡ ground calib disp → found ≡ tallies calib disp

@@ -1,9 +1,8 @@
 -- The places of points, pixel by pixel and row by row.
-use Rattle.std.proofs.Common.{◌≡◌, ℕ, ◌+◌, ◌*◌, ◌<◌, ◌≤◌, List, [], ◌∷◌, ◌++◌, drop, length, get_or, Option, Some, None, Vec, Global, Result, Ok, Err, ℤ, refl, sym, ap, subst, ◌∙◌, arith, length-append}
+use Rattle.std.proofs.Common.{◌≡◌, ℕ, ◌+◌, ◌*◌, ◌<◌, ◌≤◌, List, [], ◌∷◌, ◌++◌, length, get_or, Option, Some, None, Vec, Global, Result, Ok, Err, ℤ, refl, sym, ap, subst, ◌∙◌, arith, length-append}
 use Rattle.std.specs.Prelude.{IfOk, IfSome, fold, option_and_then, slice_get}
 use Rattle.std.specs.Result.{result_ok}
 use Rattle.std.specs.List.{cons_option, filter_map, flat_map, range_with_len}
-use Rattle.std.proofs.lemmas.List.{drop_more}
 use Rattle.std.proofs.lemmas.List.Elements.{filter_map-append}
 use Rattle.std.proofs.lemmas.Option.{slice_get-get_or}
 use Rattle.sgm_base.specs.Values.{Values}
@@ -65,16 +64,6 @@ if_ok_three (Ok v) f p q s = f v p q s
 if_ok_three (Err e) f p q s = tt
 
 -- ---- one height more
-
-pub height_more : (places : List Placed) (at : ℕ) (start now new : Binned) (fallen : Placed)
-    → fold with_placed now (drop at places) ≡ fold with_placed start places → at < length places
-    → fallen ≡ get_or places at fallen → new ≡ with_placed now fallen
-    → fold with_placed new (drop (at + 1) places) ≡ fold with_placed start places
-height_more places at start now new fallen before inside is add =
-    ap (λ (b : Binned). fold with_placed b (drop (at + 1) places)) add
-    ∙ ap (λ (q : Placed). fold with_placed now (q ∷ drop (at + 1) places)) is
-    ∙ sym (ap (fold with_placed now) (drop_more places at fallen inside))
-    ∙ before
 
 -- ---- one row more
 

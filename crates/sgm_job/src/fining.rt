@@ -8,11 +8,12 @@ ghost use Rattle.sgm_job.specs.Fining.{HoldsMade, made, made_at};
 
 use crate::asked::Asked;
 use crate::pair::ScenePlanes;
-use crate::sharing::{all_of, empty_places};
+use crate::sharing::all_of;
 use sgm_base::{DispMap, Plane, Span};
 use sgm_fine::{finer_row, mean_row};
 use sgm_select::join_strips;
 use sgm_strip::Cut;
+use sgm_work::empty_places;
 use std::alloc::{AllocError, Global};
 use std::thread::{Threads, for_each_mut};
 

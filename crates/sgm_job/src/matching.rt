@@ -8,10 +8,10 @@ ghost use Rattle.sgm_strip.specs.Scenes.{scene_of};
 ghost use Rattle.sgm_strip.specs.Strips.{AreComplete, AreStrips};
 ghost use Rattle.sgm_job.specs.Matching.{AreNewFronts, IsNewParcel};
 
-use crate::sharing::{all_of, empty_places};
+use crate::sharing::all_of;
 use sgm_energy::Dir;
 use sgm_strip::{Cut, Front, Parcel, Scene};
-use sgm_work::{Gate, match_all};
+use sgm_work::{Gate, empty_places, match_all};
 use std::alloc::{AllocError, Global};
 use std::thread::{Threads, for_each_mut};
 
@@ -28,7 +28,7 @@ fn parcel_at(alloc: Global, scene: &Scene, cut: Cut, strip: usize) -> Option<Par
 }
 
 /// Makes the parcel of each strip. The thread that makes it is the first that touches its memory.
-#[tactic(auto, using(sgm_strip::proofs::Crossing::parcel_send, sgm_strip::proofs::Crossing::scene_sync))]
+#[tactic(auto, using(crate::proofs::Crossing::shared))]
 fn make_parcels<R: Threads + Sync>(
     rt: &R,
     alloc: Global,

@@ -10,9 +10,10 @@ ghost use Rattle.sgm_grid.specs.Binning.{HasRoom, with_point};
 ghost use Rattle.sgm_grid.specs.Placing.{IsPlaced, placed, spec_in, with_placed};
 ghost use Rattle.sgm_job.specs.Heights.{IsPlacedRow, point_at, points_of};
 
-use crate::sharing::{all_of, empty_places};
+use crate::sharing::all_of;
 use crate::shown::{Shown, pixel_point};
 use sgm_grid::{Bins, Placed};
+use sgm_work::empty_places;
 use std::alloc::{AllocError, Global};
 use std::thread::{Threads, for_each_mut};
 

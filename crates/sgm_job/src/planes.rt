@@ -1,11 +1,11 @@
 //! From the images to what is matched: rectified planes, their codes, and the scene of these.
 
-ghost use Rattle.std.specs.Prelude.{◌≡◌, IfOk, None};
+ghost use Rattle.std.specs.Prelude.{◌≡◌, IfOk};
 ghost use Rattle.sgm_energy.specs.Pens.{guide_of};
-ghost use Rattle.sgm_rectify.specs.Faults.{Suits, warp_fault};
+ghost use Rattle.sgm_rectify.specs.Faults.{Suits};
 ghost use Rattle.sgm_rectify.specs.Rectified.{sides_of};
 ghost use Rattle.sgm_strip.specs.Scenes.{scene_of};
-ghost use Rattle.sgm_job.specs.Matching.{IsMade, IsPair};
+ghost use Rattle.sgm_job.specs.Matching.{IsMade, IsPair, Passes};
 
 use crate::pair::{Coded, CodedPair, ScenePlanes};
 use sgm_base::Image;
@@ -61,9 +61,7 @@ pub(crate) fn prepare_each(
     right: &Image,
     calib: &Calib,
 ) -> Result<CodedPair, AllocError>
-    requires left { warp_fault calib.now.left (sides_of left.now) ≡ None }
-    requires right { warp_fault calib.now.right (sides_of right.now) ≡ None }
-    requires same { sides_of left.now ≡ sides_of right.now }
+    requires { Passes (sides_of left.now) (sides_of right.now) calib.now }
     ensures { IfOk result (IsPair left.now right.now calib.now) }
 {
     let window = calib.window();
@@ -81,9 +79,7 @@ pub(crate) fn prepare_both<R: Threads>(
     right: &Image,
     calib: &Calib,
 ) -> Result<CodedPair, AllocError>
-    requires left { warp_fault calib.now.left (sides_of left.now) ≡ None }
-    requires right { warp_fault calib.now.right (sides_of right.now) ≡ None }
-    requires same { sides_of left.now ≡ sides_of right.now }
+    requires { Passes (sides_of left.now) (sides_of right.now) calib.now }
     ensures { IfOk result (IsPair left.now right.now calib.now) }
 {
     let window = calib.window();

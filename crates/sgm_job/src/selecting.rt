@@ -9,10 +9,11 @@ ghost use Rattle.sgm_select.specs.Selection.{disparities_of};
 ghost use Rattle.sgm_select.specs.Strips.{rows_of_strip};
 
 use crate::pair::ScenePlanes;
-use crate::sharing::{all_of, empty_places};
+use crate::sharing::all_of;
 use sgm_base::DispMap;
 use sgm_select::{join_strips, select_strip};
 use sgm_strip::Parcel;
+use sgm_work::empty_places;
 use std::alloc::{AllocError, Global};
 use std::thread::{Threads, for_each_mut};
 
@@ -34,7 +35,7 @@ fn rows_at(
 }
 
 /// Finds the disparities of each strip's rows.
-#[tactic(auto, using(crate::proofs::Crossing::planes_sync, sgm_strip::proofs::Crossing::parcel_sync))]
+#[tactic(auto, using(crate::proofs::Crossing::shared))]
 fn select_places<R: Threads + Sync>(
     rt: &R,
     alloc: Global,

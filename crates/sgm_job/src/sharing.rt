@@ -1,24 +1,9 @@
 //! Values that are made side by side: a place for each, which is filled where its value can be
 //! made.
 
-ghost use Rattle.std.specs.Prelude.{◌≡◌, IfOk, map, Some, vec_len};
+ghost use Rattle.std.specs.Prelude.{◌≡◌, IfOk, map, Some};
 
 use std::alloc::{AllocError, Global};
-
-/// So many places, with nothing in them.
-pub(crate) fn empty_places<X: Drop>(
-    alloc: Global,
-    count: usize,
-) -> Result<Vec<Option<X>>, AllocError>
-    ensures { IfOk result (λ places. vec_len places ≡ count) }
-{
-    let mut places = Vec::with_capacity(alloc, count)?;
-    for place in 0..count {
-        let _place = place;
-        places.push(None)?;
-    }
-    Ok(places)
-}
 
 /// What is in the places. An empty one is one for which there was no memory.
 pub(crate) fn all_of<X: Drop>(alloc: Global, places: Vec<Option<X>>) -> Result<Vec<X>, AllocError>

@@ -217,10 +217,9 @@ fn advance<const ADD: bool>(terms: &Terms, into: &mut [u16], sums: &mut [u16])
 #[inline(always)]
 pub fn step(prev: &[u16], floor: u16, cost: &[u8], p1: u16, p2: u16, into: &mut [u16])
     requires some { 0 < length into.old }
-    requires prev_length { length prev.now ≡ length into.old }
-    requires cost_length { length cost.now ≡ length into.old }
-    requires floor_contained { Contains prev.now floor }
-    requires floor_least { All (λ x. floor ≤ x) prev.now }
+    requires same_length { (length prev.now ≡ length into.old)
+        × (length cost.now ≡ length into.old) }
+    requires floor { Contains prev.now floor × All (λ x. floor ≤ x) prev.now }
     requires penalties { (p1 ≤ p2) × (p2 ≤ MAX_PENALTY) }
     requires values { All (λ x. x ≤ MAX_PATH_VALUE) prev.now }
     requires costs { All (λ x. x ≤ MAX_COST) cost.now }
@@ -251,14 +250,12 @@ pub fn add_step(
     sums: &mut [u16],
 )
     requires some { 0 < length into.old }
-    requires prev_length { length prev.now ≡ length into.old }
-    requires cost_length { length cost.now ≡ length into.old }
-    requires sums_length { length sums.old ≡ length into.old }
-    requires floor_contained { Contains prev.now floor }
-    requires floor_least { All (λ x. floor ≤ x) prev.now }
+    requires same_length { (length prev.now ≡ length into.old)
+        × (length cost.now ≡ length into.old) × (length sums.old ≡ length into.old) }
+    requires floor { Contains prev.now floor × All (λ x. floor ≤ x) prev.now }
     requires penalties { (p1 ≤ p2) × (p2 ≤ MAX_PENALTY) }
-    requires values { All (λ x. x ≤ MAX_PATH_VALUE) prev.now }
-    requires costs { All (λ x. x ≤ MAX_COST) cost.now }
+    requires limits { All (λ x. x ≤ MAX_PATH_VALUE) prev.now
+        × All (λ x. x ≤ MAX_COST) cost.now }
     requires room { EachIndex sums.old (λ k. slice_index sums.old k + MAX_PATH_VALUE < 2 ^ 16) }
     ensures steps { EachIndex into.new
         (λ d. IsStepped (slice_index prev.now) (length prev.now) p1 p2 floor

@@ -1,7 +1,6 @@
 -- From what is given for each pixel of a row to the whole row and its path values.
-use Rattle.std.proofs.Common.{◌≡◌, ℕ, ◌+◌, ◌-◌, ◌*◌, ◌/◌, ◌<◌, ◌≤◌, zero, suc, ◌⊎◌, inl, inr, true, List, length, slice_index, slice_index_or, Option, Some, None, MatchOption, refl, sym, ap, ◌∙◌, subst, arith}
-use Rattle.std.proofs.lemmas.Bool.{cases_eq, cases_lt}
-use Rattle.std.proofs.lemmas.Nat.{mul-add-lt, div-mul-add, mul-le}
+use Rattle.std.proofs.Common.{◌≡◌, ℕ, ◌+◌, ◌*◌, ◌/◌, ◌<◌, ◌≤◌, zero, suc, true, List, length, slice_index, slice_index_or, Option, Some, None, MatchOption, refl, sym, ap, ◌∙◌, subst, arith}
+use Rattle.std.proofs.lemmas.Nat.{mul-add-lt, div-mul-add}
 use Rattle.sgm_energy.specs.declared.dir.Dir.{Dir}
 use Rattle.sgm_energy.specs.declared.dir.Dir.TheVariants.{Right, Left, Down, DownRight, DownLeft, Up, UpRight, UpLeft}
 use Rattle.sgm_energy.specs.Dirs.{offset, is_level}
@@ -9,7 +8,7 @@ use Rattle.sgm_energy.specs.Pens.{Penalties}
 use Rattle.sgm_energy.specs.Rays.{Pixel, pixel_at, Problem, column_before, row_before, predecessor}
 use Rattle.sgm_energy.specs.Energies.{path_value}
 use Rattle.sgm_energy.specs.Rows.{HoldsRow}
-use Rattle.sgm_energy.proofs.RayLemmas.{room, room_falls, predecessor_is, no_column, no_row, minus_pos, minus_negsuc, minus_zero, minus_one, minus_one_none, minus_up, minus_up_none, minus_small}
+use Rattle.sgm_energy.proofs.RayLemmas.{room, room_falls, predecessor_is, no_column, no_row, minus_zero, minus_small}
 use Rattle.sgm_energy.proofs.Penalties.{far-ordered}
 use Rattle.sgm_energy.proofs.PathLaws.{first, next}
 use Rattle.sgm_path.specs.Paths.{far_between, Follows, HasFar, HoldsRowBefore, RowFollows, StepsAt, Suits}

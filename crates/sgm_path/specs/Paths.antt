@@ -1,7 +1,9 @@
 -- What rows of costs and of path values say of a problem.
-use Rattle.std.specs.Prelude.{◌≡◌, ℕ, ◌+◌, ◌-◌, ◌*◌, ◌/◌, ◌<◌, ◌≤◌, ◌⊎◌, Bool, true, false, List}
-use Rattle.std.specs.Prelude.{length, map, slice_index, slice_index_or, Option, Some, None}
-use Rattle.std.specs.Prelude.{MatchOption, if◌then◌else◌}
+use Rattle.std.specs.Prelude.{◌≡◌, ℕ, ◌+◌, ◌-◌, ◌*◌, ◌/◌, ◌%◌, ◌^◌, ◌<◌, ◌≤◌, ◌⊎◌, Bool, true}
+use Rattle.std.specs.Prelude.{false, List, length, map, slice_index, slice_index_or, All, EachIndex}
+use Rattle.std.specs.Prelude.{Option, Some, None, MatchOption, if◌then◌else◌}
+use Rattle.sgm_base.specs.declared.limits.TheConstants.{MAX_COST, MAX_COUNT, MAX_PATH_VALUE}
+use Rattle.sgm_base.specs.declared.limits.TheConstants.{MAX_PENALTY}
 use Rattle.sgm_energy.specs.Step.{IsStepped}
 use Rattle.sgm_energy.specs.declared.dir.Dir.{Dir}
 use Rattle.sgm_energy.specs.declared.dir.Dir.TheVariants.{Left, DownRight, UpRight}
@@ -41,6 +43,17 @@ pub record Suits (g : Problem) (y p1 count : ℕ) (costs : List ℕ) : Type 0 wh
   pub same_p1 : g.p1 ≡ p1
   pub inside : y < g.height
   pub holds : HoldsRow g y g.cost costs
+
+-- costs is a row of costs: count for each of the pixels that have these grey values
+abbrev pub AreCosts : ℕ → List (Option ℕ) → List ℕ → Type 0
+AreCosts count guide costs = (1 ≤ count) × (count ≤ MAX_COUNT) × (length costs % count ≡ 0)
+    × (length guide ≡ length costs / count) × All (λ c. c ≤ MAX_COST) costs
+
+-- before can be the row of path values that a direction comes from to a row of this size: it has
+-- count of them for each of the pixels that have these grey values, and none is too great
+abbrev pub ComesBefore : ℕ → List (Option ℕ) → List ℕ → ℕ → Type 0
+ComesBefore count guide_before before size = (length before ≡ size)
+    × (length guide_before ≡ size / count) × All (λ v. v ≤ MAX_PATH_VALUE) before
 
 -- the penalty of a change by more than one from the column z to the column x of a row, where the
 -- row has this guide and the row that the direction comes from has guide_before
@@ -111,3 +124,43 @@ row_from dir old new = if is_level dir then new else old
 abbrev pub OthersStay : ℕ → ℕ → List ℕ → List ℕ → Type 0
 OthersStay at count old new =
     (k : ℕ) → (k < at) ⊎ (at + count ≤ k) → slice_index new k ≡ slice_index old k
+
+-- the pixel whose entries begin at this place has path values, none of which is too great
+abbrev pub IsLowAt : ℕ → ℕ → List ℕ → Type 0
+IsLowAt at count values = (d : ℕ) → d < count → slice_index values (at + d) ≤ MAX_PATH_VALUE
+
+-- far is a penalty of a change by more than one
+abbrev pub IsFarIn : RowTerms → ℕ → Type 0
+IsFarIn t far = (t.penalties.p1 ≤ far) × (far ≤ MAX_PENALTY)
+
+-- values is as long as the row, and spare has room for a pixel unless the direction is level
+abbrev pub AreRows : RowTerms → List ℕ → List ℕ → Type 0
+AreRows t values spare =
+    (length values ≡ length t.costs) × (is_level t.dir ≡ false → t.count ≤ length spare)
+
+-- the values of the pixel at this place can be added to its sums
+abbrev pub CanAdd : RowTerms → ℕ → List ℕ → Type 0
+CanAdd t at sums = (length sums ≡ length t.costs)
+    × ((d : ℕ) → d < t.count → slice_index sums (at + d) + MAX_PATH_VALUE < 2 ^ 16)
+
+-- so can those of the whole row
+abbrev pub CanAddRow : RowTerms → List ℕ → Type 0
+CanAddRow t sums = (length sums ≡ length t.costs)
+    × EachIndex sums (λ k. slice_index sums k + MAX_PATH_VALUE < 2 ^ 16)
+
+-- the values of the pixel at this place were added to its sums, and all other sums stay
+abbrev pub AddsAt : ℕ → ℕ → (ℕ → ℕ) → List ℕ → List ℕ → Type 0
+AddsAt at count values old new = OthersStay at count old new
+    × ((d : ℕ) → d < count → slice_index new (at + d) ≡ slice_index old (at + d) + values d)
+
+-- the values of the column x follow from the row before, and all others stay
+abbrev pub ColumnFollows : RowTerms → ℕ → List ℕ → List ℕ → Type 0
+ColumnFollows t x old new = OthersStay (x * t.count) t.count old new
+    × ((d : ℕ) → d < t.count → EntryFollows t old x d (slice_index new (x * t.count + d)))
+
+-- the values of the pixel at this place follow from those at another, and all others stay
+abbrev pub FollowsAt : RowTerms → ℕ → ℕ → ℕ → List ℕ → List ℕ → Type 0
+FollowsAt t far from at old new = OthersStay at t.count old new
+    × ((d : ℕ) → d < t.count
+    → Follows (λ a. slice_index old (from + a)) t.count t.penalties.p1 far
+    (slice_index t.costs (at + d)) d (slice_index new (at + d)))

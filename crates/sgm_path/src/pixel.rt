@@ -2,7 +2,8 @@
 // their rows. Where `ADD` says so, the values are added to the sums.
 ghost use Rattle.std.specs.Prelude.{◌≡◌, ℕ, ◌+◌, ◌^◌, ◌<◌, ◌≤◌, length, slice_index, All, IsTrue};
 ghost use Rattle.sgm_energy.specs.Pens.{penalties_of, far_of};
-ghost use Rattle.sgm_path.specs.Paths.{Follows, OthersStay};
+ghost use Rattle.sgm_path.specs.Paths.{AddsAt, CanAdd, Follows, FollowsAt, IsFarIn, IsLowAt};
+ghost use Rattle.sgm_path.specs.Paths.{OthersStay, terms_of};
 
 use crate::row_pass::RowPass;
 use sgm_base::{MAX_COST, MAX_PATH_VALUE, MAX_PENALTY};
@@ -66,16 +67,13 @@ pub(crate) fn begin_at<const ADD: bool>(
 )
     requires inside { at + row.now.count ≤ length row.now.costs.now }
     requires same_length { length values.old ≡ length row.now.costs.now }
-    requires sums_length { IsTrue ADD → length sums.old ≡ length row.now.costs.now }
-    requires room { IsTrue ADD → (d : ℕ) → d < row.now.count
-        → slice_index sums.old (at + d) + MAX_PATH_VALUE < 2 ^ 16 }
+    requires sums { IsTrue ADD → CanAdd (terms_of row.now) at sums.old }
     ensures others { OthersStay at row.now.count values.old values.new }
     ensures each { (d : ℕ) → d < row.now.count
         → slice_index values.new (at + d) ≡ slice_index row.now.costs.now (at + d) }
-    ensures bound { (d : ℕ) → d < row.now.count → slice_index values.new (at + d) ≤ MAX_PATH_VALUE }
-    ensures other_sums { OthersStay at row.now.count sums.old sums.new }
-    ensures added { IsTrue ADD → (d : ℕ) → d < row.now.count → slice_index sums.new (at + d)
-        ≡ slice_index sums.old (at + d) + slice_index values.new (at + d) }
+    ensures bound { IsLowAt at row.now.count values.new }
+    ensures added { IsTrue ADD → AddsAt at row.now.count
+        (λ d. slice_index values.new (at + d)) sums.old sums.new }
 {
     begin(row.costs, row.count, at, values);
     if ADD {
@@ -96,18 +94,14 @@ fn follow<const ADD: bool>(
     requires prev_length { length prev.now ≡ row.now.count }
     requires into_length { length into.old ≡ row.now.count }
     requires inside { at + row.now.count ≤ length row.now.costs.now }
-    requires sums_length { IsTrue ADD → length sums.old ≡ length row.now.costs.now }
-    requires penalties { ((penalties_of row.now.pen).p1 ≤ far) × (far ≤ MAX_PENALTY) }
-    requires values { All (λ v. v ≤ MAX_PATH_VALUE) prev.now }
-    requires room { IsTrue ADD → (d : ℕ) → d < row.now.count
-        → slice_index sums.old (at + d) + MAX_PATH_VALUE < 2 ^ 16 }
+    requires before { IsFarIn (terms_of row.now) far × All (λ v. v ≤ MAX_PATH_VALUE) prev.now }
+    requires sums { IsTrue ADD → CanAdd (terms_of row.now) at sums.old }
     ensures each { (d : ℕ) → d < row.now.count
         → Follows (slice_index prev.now) row.now.count (penalties_of row.now.pen).p1 far
         (slice_index row.now.costs.now (at + d)) d (slice_index into.new d) }
     ensures bound { (d : ℕ) → d < row.now.count → slice_index into.new d ≤ MAX_PATH_VALUE }
-    ensures other_sums { OthersStay at row.now.count sums.old sums.new }
-    ensures added { IsTrue ADD → (d : ℕ) → d < row.now.count
-        → slice_index sums.new (at + d) ≡ slice_index sums.old (at + d) + slice_index into.new d }
+    ensures added { IsTrue ADD
+        → AddsAt at row.now.count (slice_index into.new) sums.old sums.new }
 {
     let costs = &row.costs[at..at + row.count];
     let p1 = row.pen.p1();
@@ -133,21 +127,12 @@ pub(crate) fn from_left<const ADD: bool>(
     requires apart { from + row.now.count ≤ at }
     requires inside { at + row.now.count ≤ length row.now.costs.now }
     requires same_length { length values.old ≡ length row.now.costs.now }
-    requires sums_length { IsTrue ADD → length sums.old ≡ length row.now.costs.now }
-    requires penalties { ((penalties_of row.now.pen).p1 ≤ far) × (far ≤ MAX_PENALTY) }
-    requires low { (d : ℕ) → d < row.now.count
-        → slice_index values.old (from + d) ≤ MAX_PATH_VALUE }
-    requires room { IsTrue ADD → (d : ℕ) → d < row.now.count
-        → slice_index sums.old (at + d) + MAX_PATH_VALUE < 2 ^ 16 }
-    ensures others { OthersStay at row.now.count values.old values.new }
-    ensures each { (d : ℕ) → d < row.now.count
-        → Follows (λ a. slice_index values.old (from + a)) row.now.count
-        (penalties_of row.now.pen).p1 far
-        (slice_index row.now.costs.now (at + d)) d (slice_index values.new (at + d)) }
-    ensures bound { (d : ℕ) → d < row.now.count → slice_index values.new (at + d) ≤ MAX_PATH_VALUE }
-    ensures other_sums { OthersStay at row.now.count sums.old sums.new }
-    ensures added { IsTrue ADD → (d : ℕ) → d < row.now.count → slice_index sums.new (at + d)
-        ≡ slice_index sums.old (at + d) + slice_index values.new (at + d) }
+    requires before { IsFarIn (terms_of row.now) far × IsLowAt from row.now.count values.old }
+    requires sums { IsTrue ADD → CanAdd (terms_of row.now) at sums.old }
+    ensures follows { FollowsAt (terms_of row.now) far from at values.old values.new }
+    ensures bound { IsLowAt at row.now.count values.new }
+    ensures added { IsTrue ADD → AddsAt at row.now.count
+        (λ d. slice_index values.new (at + d)) sums.old sums.new }
 {
     let (front, back) = values.split_at_mut(at);
     let (here, _) = back.split_at_mut(row.count);
@@ -167,21 +152,12 @@ pub(crate) fn from_right<const ADD: bool>(
     requires apart { at + row.now.count ≤ from }
     requires inside { from + row.now.count ≤ length row.now.costs.now }
     requires same_length { length values.old ≡ length row.now.costs.now }
-    requires sums_length { IsTrue ADD → length sums.old ≡ length row.now.costs.now }
-    requires penalties { ((penalties_of row.now.pen).p1 ≤ far) × (far ≤ MAX_PENALTY) }
-    requires low { (d : ℕ) → d < row.now.count
-        → slice_index values.old (from + d) ≤ MAX_PATH_VALUE }
-    requires room { IsTrue ADD → (d : ℕ) → d < row.now.count
-        → slice_index sums.old (at + d) + MAX_PATH_VALUE < 2 ^ 16 }
-    ensures others { OthersStay at row.now.count values.old values.new }
-    ensures each { (d : ℕ) → d < row.now.count
-        → Follows (λ a. slice_index values.old (from + a)) row.now.count
-        (penalties_of row.now.pen).p1 far
-        (slice_index row.now.costs.now (at + d)) d (slice_index values.new (at + d)) }
-    ensures bound { (d : ℕ) → d < row.now.count → slice_index values.new (at + d) ≤ MAX_PATH_VALUE }
-    ensures other_sums { OthersStay at row.now.count sums.old sums.new }
-    ensures added { IsTrue ADD → (d : ℕ) → d < row.now.count → slice_index sums.new (at + d)
-        ≡ slice_index sums.old (at + d) + slice_index values.new (at + d) }
+    requires before { IsFarIn (terms_of row.now) far × IsLowAt from row.now.count values.old }
+    requires sums { IsTrue ADD → CanAdd (terms_of row.now) at sums.old }
+    ensures follows { FollowsAt (terms_of row.now) far from at values.old values.new }
+    ensures bound { IsLowAt at row.now.count values.new }
+    ensures added { IsTrue ADD → AddsAt at row.now.count
+        (λ d. slice_index values.new (at + d)) sums.old sums.new }
 {
     let end = at + row.count;
     let (front, back) = values.split_at_mut(end);
@@ -204,24 +180,18 @@ pub(crate) fn from_itself<const ADD: bool>(
     requires inside { at + row.now.count ≤ length row.now.costs.now }
     requires spare { row.now.count ≤ length spare.old }
     requires same_length { length values.old ≡ length row.now.costs.now }
-    requires sums_length { IsTrue ADD → length sums.old ≡ length row.now.costs.now }
-    requires penalties { ((penalties_of row.now.pen).p1 ≤ far) × (far ≤ MAX_PENALTY) }
-    requires low { (d : ℕ) → d < row.now.count → slice_index values.old (at + d) ≤ MAX_PATH_VALUE }
-    requires room { IsTrue ADD → (d : ℕ) → d < row.now.count
-        → slice_index sums.old (at + d) + MAX_PATH_VALUE < 2 ^ 16 }
-    ensures others { OthersStay at row.now.count values.old values.new }
-    ensures each { (d : ℕ) → d < row.now.count
-        → Follows (λ a. slice_index values.old (at + a)) row.now.count
-        (penalties_of row.now.pen).p1 far
-        (slice_index row.now.costs.now (at + d)) d (slice_index values.new (at + d)) }
-    ensures bound { (d : ℕ) → d < row.now.count → slice_index values.new (at + d) ≤ MAX_PATH_VALUE }
-    ensures other_sums { OthersStay at row.now.count sums.old sums.new }
-    ensures added { IsTrue ADD → (d : ℕ) → d < row.now.count → slice_index sums.new (at + d)
-        ≡ slice_index sums.old (at + d) + slice_index values.new (at + d) }
+    requires before { IsFarIn (terms_of row.now) far × IsLowAt at row.now.count values.old }
+    requires sums { IsTrue ADD → CanAdd (terms_of row.now) at sums.old }
+    ensures follows { FollowsAt (terms_of row.now) far at at values.old values.new }
+    ensures bound { IsLowAt at row.now.count values.new }
+    ensures added { IsTrue ADD → AddsAt at row.now.count
+        (λ d. slice_index values.new (at + d)) sums.old sums.new }
 {
     let (_, back) = values.split_at_mut(at);
     let (here, _) = back.split_at_mut(row.count);
-    let (before, _) = spare.split_at_mut(row.count);
-    before.copy_from_slice(here);
-    follow::<ADD>(row, far, before, at, here, sums);
+    let (made, _) = spare.split_at_mut(row.count);
+    // Not from a copy into its place: a step reads across the chunks that such a copy has just
+    // written, and the processor would have to wait until they have left its store buffer.
+    follow::<ADD>(row, far, here, at, made, sums);
+    here.copy_from_slice(made);
 }

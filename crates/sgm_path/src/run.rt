@@ -1,15 +1,15 @@
-ghost use Rattle.std.specs.Prelude.{◌≡◌, ℕ, ◌+◌, ◌*◌, ◌/◌, ◌%◌, ◌≤◌, ◌⊎◌, length, All, IsTrue};
+ghost use Rattle.std.specs.Prelude.{◌≡◌, ℕ, ◌+◌, ◌≤◌, ◌⊎◌, length, All, IsTrue};
 ghost use Rattle.sgm_energy.specs.declared.dir.Dir.TheVariants.{Right, Left};
 ghost use Rattle.sgm_energy.specs.Dirs.{is_level};
 ghost use Rattle.sgm_energy.specs.Pens.{penalties_of};
 ghost use Rattle.sgm_energy.specs.Rays.{Problem};
 ghost use Rattle.sgm_energy.specs.Energies.{path_value};
 ghost use Rattle.sgm_energy.specs.Rows.{HoldsRow};
-ghost use Rattle.sgm_path.specs.Paths.{far_between, HasFar, RowFollows, Suits};
+ghost use Rattle.sgm_path.specs.Paths.{AreCosts, far_between, HasFar, RowFollows, Suits};
 
 use crate::row_pass::RowPass;
 use crate::sweep::sweep;
-use sgm_base::{MAX_COST, MAX_COUNT, MAX_PATH_VALUE};
+use sgm_base::MAX_PATH_VALUE;
 use sgm_energy::{Dir, Pen};
 
 /// Writes the path values of one row, in a direction that stays in the row. `costs` and `into` are
@@ -26,11 +26,8 @@ pub fn run_row(
     into: &mut [u16],
 )
     requires level { IsTrue (is_level dir) }
-    requires count_range { (1 ≤ count) × (count ≤ MAX_COUNT) }
+    requires costs { AreCosts count guide.now costs.now }
     requires same_length { length costs.now ≡ length into.old }
-    requires guide_length { length guide.now ≡ length into.old / count }
-    requires whole { length into.old % count ≡ 0 }
-    requires costs { All (λ c. c ≤ MAX_COST) costs.now }
     ensures bound { All (λ v. v ≤ MAX_PATH_VALUE) into.new }
     ensures each { let far = far_between (penalties_of pen) guide.now guide.now in
         RowFollows dir count (penalties_of pen).p1 far into.new costs.now into.new }
@@ -60,12 +57,9 @@ fn both_levels<const ADAPTIVE: bool, const COUNT: usize>(
 )
     requires kind { (penalties_of pen).adaptive ≡ ADAPTIVE }
     requires counted { (COUNT ≡ 0) ⊎ (COUNT ≡ count) }
-    requires count_range { (1 ≤ count) × (count ≤ MAX_COUNT) }
+    requires costs { AreCosts count guide.now costs.now }
     requires same_length { length costs.now ≡ length into.old }
-    requires guide_length { length guide.now ≡ length into.old / count }
     requires spare_length { length spare.old ≡ length into.old }
-    requires whole { length into.old % count ≡ 0 }
-    requires costs { All (λ c. c ≤ MAX_COST) costs.now }
     ensures { (g : Problem) (y : ℕ) → Suits g y (penalties_of pen).p1 count costs.now
         → HasFar g y y (far_between (penalties_of pen) guide.now guide.now)
         → HoldsRow g y (λ p d. path_value g Right p d + path_value g Left p d) into.new }
@@ -87,12 +81,9 @@ pub fn level_sums(
     spare: &mut [u16],
     into: &mut [u16],
 )
-    requires count_range { (1 ≤ count) × (count ≤ MAX_COUNT) }
+    requires costs { AreCosts count guide.now costs.now }
     requires same_length { length costs.now ≡ length into.old }
-    requires guide_length { length guide.now ≡ length into.old / count }
     requires spare_length { length spare.old ≡ length into.old }
-    requires whole { length into.old % count ≡ 0 }
-    requires costs { All (λ c. c ≤ MAX_COST) costs.now }
     // Whatever row of whatever problem the costs belong to, these are the sums of its path values.
     ensures { (g : Problem) (y : ℕ) → Suits g y (penalties_of pen).p1 count costs.now
         → HasFar g y y (far_between (penalties_of pen) guide.now guide.now)

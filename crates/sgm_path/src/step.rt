@@ -1,17 +1,17 @@
-ghost use Rattle.std.specs.Prelude.{◌≡◌, ℕ, ◌+◌, ◌/◌, ◌%◌, ◌^◌, ◌<◌, ◌≤◌, length, slice_index, All};
+ghost use Rattle.std.specs.Prelude.{◌≡◌, ℕ, ◌+◌, ◌≤◌, length, slice_index, All};
 ghost use Rattle.std.specs.Prelude.{EachIndex, IfSome, IfNone, MatchOption, None, false};
 ghost use Rattle.sgm_energy.specs.Dirs.{is_level};
 ghost use Rattle.sgm_energy.specs.Pens.{penalties_of};
 ghost use Rattle.sgm_energy.specs.Rays.{Problem, row_before};
 ghost use Rattle.sgm_energy.specs.Energies.{path_value};
 ghost use Rattle.sgm_energy.specs.Rows.{HoldsRow};
-ghost use Rattle.sgm_path.specs.Paths.{far_between, far_in, HoldsRowBefore, RowFollows, Suits};
-ghost use Rattle.sgm_path.specs.Paths.{terms_of};
+ghost use Rattle.sgm_path.specs.Paths.{AreCosts, CanAddRow, ComesBefore, far_between, far_in};
+ghost use Rattle.sgm_path.specs.Paths.{HoldsRowBefore, RowFollows, Suits, terms_of};
 
 use crate::pixel::begin;
 use crate::row_pass::RowPass;
 use crate::sweep::sweep;
-use sgm_base::{MAX_COST, MAX_COUNT, MAX_PATH_VALUE};
+use sgm_base::{MAX_COUNT, MAX_PATH_VALUE};
 use sgm_energy::{Dir, Pen};
 use sgm_lanes::add;
 
@@ -19,8 +19,7 @@ use sgm_lanes::add;
 /// costs, and adds each to the sum at its place.
 pub fn begin_row(row: &RowPass, values: &mut [u16], sums: &mut [u16])
     requires same_length { length values.old ≡ length (terms_of row.now).costs }
-    requires sums_length { length sums.old ≡ length (terms_of row.now).costs }
-    requires room { EachIndex sums.old (λ k. slice_index sums.old k + MAX_PATH_VALUE < 2 ^ 16) }
+    requires sums { CanAddRow (terms_of row.now) sums.old }
     ensures bound { All (λ v. v ≤ MAX_PATH_VALUE) values.new }
     ensures added { EachIndex sums.new
         (λ k. slice_index sums.new k ≡ slice_index sums.old k + slice_index values.new k) }
@@ -43,9 +42,8 @@ pub fn pass_row(row: &RowPass, values: &mut [u16], spare: &mut [u16], sums: &mut
     requires across { is_level (terms_of row.now).dir ≡ false }
     requires spare_length { (terms_of row.now).count ≤ length spare.old }
     requires same_length { length values.old ≡ length (terms_of row.now).costs }
-    requires sums_length { length sums.old ≡ length (terms_of row.now).costs }
     requires low { All (λ v. v ≤ MAX_PATH_VALUE) values.old }
-    requires room { EachIndex sums.old (λ k. slice_index sums.old k + MAX_PATH_VALUE < 2 ^ 16) }
+    requires sums { CanAddRow (terms_of row.now) sums.old }
     ensures bound { All (λ v. v ≤ MAX_PATH_VALUE) values.new }
     ensures added { EachIndex sums.new
         (λ k. slice_index sums.new k ≡ slice_index sums.old k + slice_index values.new k) }
@@ -87,15 +85,10 @@ pub fn step_row(
     into: &mut [u16],
 )
     requires across { is_level dir ≡ false }
-    requires count_range { (1 ≤ count) × (count ≤ MAX_COUNT) }
+    requires costs { AreCosts count guide.now costs.now }
     requires same_length { length costs.now ≡ length into.old }
-    requires before_length { IfSome before (λ b. length b.now ≡ length into.old) }
-    requires guide_length { length guide.now ≡ length into.old / count }
-    requires guide_before_length { IfSome before (λ _. length guide_before.now
-        ≡ length into.old / count) }
-    requires whole { length into.old % count ≡ 0 }
-    requires costs { All (λ c. c ≤ MAX_COST) costs.now }
-    requires values { IfSome before (λ b. All (λ v. v ≤ MAX_PATH_VALUE) b.now) }
+    requires before { IfSome before
+        (λ b. ComesBefore count guide_before.now b.now (length into.old)) }
     ensures bound { All (λ v. v ≤ MAX_PATH_VALUE) into.new }
     ensures costs_alone { IfNone before.entry
         (EachIndex into.new (λ k. slice_index into.new k ≡ slice_index costs.now k)) }

@@ -1,11 +1,12 @@
 // A row of path values that takes the place of the row that it comes from.
-ghost use Rattle.std.specs.Prelude.{◌≡◌, ℕ, ◌+◌, ◌*◌, ◌^◌, ◌<◌, ◌≤◌, ◌⊎◌, length, slice_index, All};
+ghost use Rattle.std.specs.Prelude.{◌≡◌, ℕ, ◌+◌, ◌*◌, ◌<◌, ◌≤◌, ◌⊎◌, length, slice_index, All};
 ghost use Rattle.std.specs.Prelude.{EachIndex, IsTrue, Some, false};
 ghost use Rattle.sgm_energy.specs.Dirs.{is_level};
 ghost use Rattle.sgm_energy.specs.Pens.{penalties_of};
 ghost use Rattle.sgm_energy.specs.Rays.{column_before};
-ghost use Rattle.sgm_path.specs.Paths.{column_at, EntryFollows, far_in, OthersStay, row_from};
-ghost use Rattle.sgm_path.specs.Paths.{RowFollows, terms_of};
+ghost use Rattle.sgm_path.specs.Paths.{AddsAt, AreRows, CanAdd, CanAddRow, column_at};
+ghost use Rattle.sgm_path.specs.Paths.{ColumnFollows, far_in, IsLowAt, row_from, RowFollows};
+ghost use Rattle.sgm_path.specs.Paths.{terms_of};
 
 use crate::pixel::{begin_at, far_at, from_itself, from_left, from_right};
 use crate::row_pass::RowPass;
@@ -40,25 +41,14 @@ fn step_at<const ADAPTIVE: bool, const ADD: bool, const COUNT: usize>(
 )
     requires kind { (penalties_of row.now.pen).adaptive ≡ ADAPTIVE }
     requires inside { x < length row.now.guide.now }
-    requires spare { is_level row.now.dir ≡ false → row.now.count ≤ length spare.old }
-    requires same_length { length values.old ≡ length row.now.costs.now }
-    requires sums_length { IsTrue ADD → length sums.old ≡ length row.now.costs.now }
-    requires low { (z d : ℕ) → column_before row.now.dir (length row.now.guide.now) x ≡ Some z
-        → d < row.now.count
-        → slice_index values.old (z * row.now.count + d) ≤ MAX_PATH_VALUE }
-    requires room { IsTrue ADD → (d : ℕ) → d < row.now.count
-        → slice_index sums.old (x * row.now.count + d) + MAX_PATH_VALUE < 2 ^ 16 }
-    ensures others { OthersStay (x * row.now.count) row.now.count values.old values.new }
-    ensures each { (d : ℕ) → d < row.now.count
-        → EntryFollows (terms_of row.now) values.old x d
-        (slice_index values.new (x * row.now.count + d)) }
-    ensures bound { (d : ℕ) → d < row.now.count
-        → slice_index values.new (x * row.now.count + d) ≤ MAX_PATH_VALUE }
-    ensures other_sums { OthersStay (x * row.now.count) row.now.count sums.old sums.new }
-    ensures added { IsTrue ADD → (d : ℕ) → d < row.now.count
-        → slice_index sums.new (x * row.now.count + d)
-        ≡ slice_index sums.old (x * row.now.count + d)
-        + slice_index values.new (x * row.now.count + d) }
+    requires lengths { AreRows (terms_of row.now) values.old spare.old }
+    requires low { (z : ℕ) → column_before row.now.dir (length row.now.guide.now) x ≡ Some z
+        → IsLowAt (z * row.now.count) row.now.count values.old }
+    requires sums { IsTrue ADD → CanAdd (terms_of row.now) (x * row.now.count) sums.old }
+    ensures follows { ColumnFollows (terms_of row.now) x values.old values.new }
+    ensures bound { IsLowAt (x * row.now.count) row.now.count values.new }
+    ensures added { IsTrue ADD → AddsAt (x * row.now.count) row.now.count
+        (λ d. slice_index values.new (x * row.now.count + d)) sums.old sums.new }
 {
     let at = x * row.count;
     match row.dir.column_before(row.guide.len(), x) {
@@ -88,12 +78,9 @@ pub(crate) fn sweep<const ADAPTIVE: bool, const ADD: bool, const COUNT: usize>(
 )
     requires kind { (penalties_of row.now.pen).adaptive ≡ ADAPTIVE }
     requires counted { (COUNT ≡ 0) ⊎ (COUNT ≡ row.now.count) }
-    requires spare { is_level row.now.dir ≡ false → row.now.count ≤ length spare.old }
-    requires same_length { length values.old ≡ length row.now.costs.now }
-    requires sums_length { IsTrue ADD → length sums.old ≡ length row.now.costs.now }
+    requires lengths { AreRows (terms_of row.now) values.old spare.old }
     requires low { is_level row.now.dir ≡ false → All (λ v. v ≤ MAX_PATH_VALUE) values.old }
-    requires room { IsTrue ADD
-        → EachIndex sums.old (λ k. slice_index sums.old k + MAX_PATH_VALUE < 2 ^ 16) }
+    requires sums { IsTrue ADD → CanAddRow (terms_of row.now) sums.old }
     ensures bound { All (λ v. v ≤ MAX_PATH_VALUE) values.new }
     ensures each { RowFollows row.now.dir row.now.count (penalties_of row.now.pen).p1
         (far_in (terms_of row.now))

@@ -135,8 +135,7 @@ fn node(nodes: &[(i32, i32)], cols: u32, column: u32, row: u32) -> (i32, i32)
 
 /// The source place of the pixel (x, y) by a mesh that has the four nodes round it.
 pub(crate) fn meshed(step: u32, cols: u32, nodes: &[(i32, i32)], x: u32, y: u32) -> (i64, i64)
-    requires positive { 0 < step }
-    requires step { step ≤ 1024 }
+    requires step { (1 ≤ step) × (step ≤ 1024) }
     requires column { x / step + 1 < cols }
     requires cols { cols ≤ 2049 }
     requires row { (y / step + 1) * cols + cols ≤ length nodes.now }

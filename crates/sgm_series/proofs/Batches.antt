@@ -1,21 +1,18 @@
 -- From a batch to the series: n entries had their turns before, and the batch has m.
-use Rattle.std.proofs.Common.{◌≡◌, inl, inr, ◌⊎◌, ℕ, zero, suc, ◌+◌, ◌-◌, ◌*◌, ◌<◌, ◌≤◌, arith, List, [], ◌∷◌, ◌++◌, refl, sym, ap, subst, ◌∙◌, Some, take, drop, length, append_assoc, Result, Ok, Err}
+use Rattle.std.proofs.Common.{◌≡◌, inl, inr, ℕ, zero, suc, ◌+◌, ◌-◌, ◌*◌, ◌<◌, ◌≤◌, arith, List, [], ◌∷◌, ◌++◌, refl, sym, ap, subst, ◌∙◌, Some, take, drop, length, Result, Ok, Err}
 use Rattle.std.specs.Prelude.{slice_get, min, All, unwrap_or}
 use Rattle.std.proofs.lemmas.List.Elements.{All-append}
 use Rattle.std.proofs.lemmas.Option.{slice_get_within}
 use Rattle.sgm_io.specs.Held.{Held}
 use Rattle.sgm_list.specs.Entries.{EntryNames}
-use Rattle.sgm_outcome.specs.declared.outcome.Outcome.{Outcome}
-use Rattle.sgm_outcome.specs.declared.outcome.Outcome.TheVariants as run
 use Rattle.sgm_app.specs.Deliver.{after_files, FilesPut}
-use Rattle.sgm_app.specs.Ends.{Faults, faults, SameFaults, CountsShow, OutStands, NoneBefore, order_of}
+use Rattle.sgm_app.specs.Ends.{Faults, OutStands, NoneBefore, order_of}
 use Rattle.sgm_app.specs.Stops.{write_outcome}
 use Rattle.sgm_app.specs.Verdict.{Verdict, refused, absent}
 use Rattle.sgm_app.specs.declared.made.MadeTexts.{MadeTexts}
 use Rattle.sgm_app.specs.declared.stops.TextsError.{TextsError}
 use Rattle.sgm_app.specs.declared.stops.TextsError.TheVariants.{Refused, NoMemory}
 use Rattle.sgm_words.specs.declared.files.Input.TheVariants.{Left}
-use Rattle.sgm_io.specs.Counts.{Counts}
 use Rattle.sgm_app.specs.declared.stops.WriteStop.{WriteStop}
 use Rattle.sgm_app.specs.declared.stops.WriteStop.TheVariants as stop
 use Rattle.sgm_series.specs.Answers.{AreAnswers, AreAnswered, Answers, verdict_made}
@@ -24,7 +21,7 @@ use Rattle.sgm_series.specs.Ends.{EntriesShow, HadTurns, SeriesOut}
 use Rattle.sgm_series.specs.Plans.{AreVerdicts, IsJudged}
 use Rattle.sgm_series.specs.Stands.{AreApart, batch_outcome, stop_outcome, place_in, SeriesPut, PutStop}
 use Rattle.sgm_series.specs.Turned.{BatchShown, BatchCounts, TurnsShown, StopShown, TurnsCounts, FilesTurned, OutTurned}
-use Rattle.sgm_series.specs.Turns.{files_for, summaries_for, lines_for, AtEntry, IsReached, HasOutput}
+use Rattle.sgm_series.specs.Turns.{files_for, summaries_for, lines_for, AtEntry, IsReached}
 use Rattle.sgm_series.specs.declared.making.BatchStop.{BatchStop}
 use Rattle.sgm_series.specs.declared.making.BatchStop.TheVariants as batch
 use Rattle.sgm_series.specs.declared.turns.TurnsStop.{TurnsStop}

@@ -1,20 +1,18 @@
 -- From the list and its entries to the plan.
-use Rattle.std.proofs.Common.{◌≡◌, inl, inr, ◌⊎◌, ℕ, zero, suc, ◌+◌, ◌≤◌, arith, List, [], ◌∷◌, ◌++◌, refl, sym, ap, subst, ◌∙◌, Option, None, Some, take, length, Result, Ok, Err, append-nil, Bool, true}
-use Rattle.std.specs.Prelude.{All, count_by, map}
+use Rattle.std.proofs.Common.{◌≡◌, inl, ℕ, zero, suc, arith, List, [], refl, sym, subst, Option, take, length, Result, Ok, append-nil, Bool, true}
 use Rattle.sgm_io.specs.Held.{Held}
 use Rattle.sgm_list.specs.Entries.{EntryNames, entries_of}
-use Rattle.sgm_list.specs.Faults.{list_fault}
 use Rattle.sgm_list.specs.declared.fault.ListFault.{ListFault}
 use Rattle.sgm_io.specs.Counts.{Counts}
 use Rattle.sgm_app.specs.Ends.{Faults, faults, SameFaults}
-use Rattle.sgm_app.specs.Verdict.{Verdict, IsFiles}
+use Rattle.sgm_app.specs.Verdict.{Verdict}
 use Rattle.sgm_series.specs.Words.{ListWords, series_words}
-use Rattle.sgm_series.specs.Counted.{SeriesCounts, EntryCounts}
-use Rattle.sgm_series.specs.Ends.{EntriesShow, HadTurns, SeriesOut, SeriesShownBy}
-use Rattle.sgm_series.specs.Plans.{Plan, usage, no_list, faulty, series, AreVerdicts, EntriesCallFor, ListCallsFor, ReadCallsFor, SeriesCallsFor, verdicts_of, entries_in, is_refused, IsJudged}
+use Rattle.sgm_series.specs.Counted.{SeriesCounts}
+use Rattle.sgm_series.specs.Ends.{HadTurns, SeriesOut}
+use Rattle.sgm_series.specs.Plans.{Plan, series, AreVerdicts, EntriesCallFor, ListCallsFor, ReadCallsFor, SeriesCallsFor}
 use Rattle.sgm_series.specs.Received.{IsWhole, Received}
-use Rattle.sgm_series.specs.Stands.{SeriesPut, IsListed, IsListEnd, IsListOutcome, ListCounts, outcome_for}
-use Rattle.sgm_series.specs.Turns.{files_for, summaries_for, lines_for}
+use Rattle.sgm_series.specs.Stands.{SeriesPut, IsListed, IsListOutcome, outcome_for}
+use Rattle.sgm_series.specs.Turns.{lines_for}
 use Rattle.sgm_series.specs.declared.words.SeriesUsage.{SeriesUsage}
 use Rattle.sgm_series.specs.declared.outcome.SeriesOutcome.{SeriesOutcome}
 use Rattle.sgm_series.specs.declared.outcome.SeriesOutcome.TheVariants.{Done, Usage, RefusedList, SomeRefused, ListUnread, ReadFault, WriteFault, NoMemory}

@@ -1,12 +1,11 @@
 -- What is left unfinished, and when `out` has received nothing, from batch to batch: n entries had their turns before, and the
 -- batch has m.
-use Rattle.std.proofs.Common.{◌≡◌, ◌⊎◌, inl, inr, ℕ, zero, suc, ◌+◌, ◌*◌, ◌<◌, arith, List, ◌++◌, append-nil, take, drop, Result, Ok, Err, refl, sym, ap, subst, ◌∙◌, Contains}
+use Rattle.std.proofs.Common.{◌≡◌, inl, inr, ℕ, zero, suc, ◌+◌, ◌*◌, arith, List, ◌++◌, append-nil, take, drop, Err, refl, sym, ap, subst, ◌∙◌, Contains}
 use Rattle.std.proofs.lemmas.Grind.{flat_map-append}
 use Rattle.std.proofs.lemmas.List.Elements.{Contains-append_cases}
 use Rattle.std.proofs.Math.Seq.{take-add}
 use Rattle.sgm_io.specs.Unfinished.{NameSet}
 use Rattle.sgm_words.specs.declared.files.Output.{Output}
-use Rattle.sgm_words.specs.declared.files.Output.TheVariants.{Summary}
 use Rattle.sgm_list.specs.Entries.{EntryNames}
 use Rattle.sgm_app.specs.Ends.{OutStands}
 use Rattle.sgm_app.specs.Outputs.{OutputFile}

@@ -1,8 +1,8 @@
 -- What follows from a list's fault, or from its having none.
-use Rattle.std.proofs.Common.{◌≡◌, ℕ, ◌<◌, ◌≤◌, List, length, Bool, true, false, cond, Option, Some, None, Result, Err, refl, sym, ap, subst, ◌∙◌, arith}
+use Rattle.std.proofs.Common.{◌≡◌, ℕ, ◌<◌, ◌≤◌, List, length, Bool, true, false, cond, Option, Some, None, Err, refl, ap, arith}
 use Rattle.std.specs.Prelude.{nat_lt}
 use Rattle.std.specs.Option.{option_or}
-use Rattle.std.proofs.lemmas.Bool.{le-ltb, lt-ltb}
+use Rattle.std.proofs.lemmas.Bool.{lt-ltb}
 use Rattle.sgm_io.specs.Counts.{Counts}
 use Rattle.sgm_io.specs.Fetch.{FetchReads, FetchWrites, Fetches, IsAbove}
 use Rattle.sgm_io.specs.declared.shelf.FetchError.{FetchError}

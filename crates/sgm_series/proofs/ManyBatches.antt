@@ -1,8 +1,7 @@
 -- The batches of a series, one after the other.
-use Rattle.std.proofs.Common.{◌≡◌, inl, refl, sym, ap, subst, ◌∙◌, ℕ, ◌+◌, ◌-◌, ◌*◌, ◌<◌, ◌≤◌, arith, List, [], ◌++◌, append-nil, length, take, drop, Bool, true, Result, Ok, Err, IsTrue}
+use Rattle.std.proofs.Common.{◌≡◌, inl, refl, sym, subst, ◌∙◌, ℕ, ◌+◌, ◌-◌, ◌*◌, ◌<◌, ◌≤◌, arith, List, [], ◌++◌, append-nil, length, take, drop, true, Result, Ok, Err, IsTrue}
 use Rattle.std.specs.Prelude.{All, count_by}
 use Rattle.std.proofs.lemmas.List.{take_all}
-use Rattle.sgm_io.specs.Counts.{Counts}
 use Rattle.sgm_io.specs.declared.shelf.Shelf as shelf
 use Rattle.sgm_io.specs.declared.sink.Sink as sink
 use Rattle.sgm_list.specs.Entries.{EntryNames}

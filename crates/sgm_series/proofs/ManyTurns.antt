@@ -1,5 +1,5 @@
 -- The turns of some entries, one after the other.
-use Rattle.std.proofs.Common.{◌≡◌, inl, inr, ◌⊎◌, refl, sym, ap, subst, ◌∙◌, ℕ, ◌+◌, ◌<◌, ◌≤◌, arith, add-zero, List, [], ◌++◌, append-nil, length, take, Bool, Option, None, Some, Result, Ok, Err, IsTrue, All, count_by}
+use Rattle.std.proofs.Common.{◌≡◌, inl, ◌⊎◌, refl, sym, ap, subst, ◌∙◌, ℕ, ◌+◌, ◌<◌, ◌≤◌, arith, add-zero, List, [], ◌++◌, append-nil, length, take, None, Some, Result, Ok, Err, IsTrue, All, count_by}
 use Rattle.std.specs.List.{slice_get}
 use Rattle.std.proofs.lemmas.List.{take_all}
 use Rattle.sgm_io.specs.Held.{Held}
@@ -13,14 +13,13 @@ use Rattle.sgm_app.specs.Unfinished.{AreFinished}
 use Rattle.sgm_app.specs.Verdict.{Verdict}
 use Rattle.sgm_app.specs.declared.made.MadeTexts.{MadeTexts}
 use Rattle.sgm_app.specs.declared.stops.TextsError.{TextsError}
-use Rattle.sgm_app.specs.declared.stops.WriteStop.{WriteStop}
 use Rattle.sgm_app.proofs.Holding.{in_none}
 use Rattle.sgm_series.specs.Answers.{AreAnswered}
 use Rattle.sgm_series.specs.Moments.{SeriesMoment, series_at}
 use Rattle.sgm_series.specs.Plans.{names_for, is_refused, IsJudged}
 use Rattle.sgm_series.specs.Received.{ReceivesMore, StaysWhole}
 use Rattle.sgm_series.specs.Turned.{StopShown}
-use Rattle.sgm_series.specs.TurnEnds.{TurnEnds, TurnsEnd, VerdictsTurned}
+use Rattle.sgm_series.specs.TurnEnds.{TurnEnds, TurnsEnd}
 use Rattle.sgm_series.specs.Turns.{files_for, summaries_for, lines_for, AtEntry, IsReached}
 use Rattle.sgm_series.specs.Unfinished.{NoMoreUnfinished}
 use Rattle.sgm_series.specs.declared.turns.Tally.{Tally}

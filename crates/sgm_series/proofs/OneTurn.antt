@@ -1,5 +1,5 @@
 -- How one turn ends.
-use Rattle.std.proofs.Common.{◌≡◌, inl, inr, ◌⊎◌, refl, sym, subst, ℕ, ◌+◌, ◌≤◌, arith, add-zero, List, append-nil, Bool, Option, None, Result, Ok, Err, IsTrue, IfOk, IfErr}
+use Rattle.std.proofs.Common.{◌≡◌, inl, inr, refl, sym, subst, ℕ, ◌+◌, ◌≤◌, arith, add-zero, List, append-nil, Bool, Option, Result, Ok, Err, IsTrue, IfOk, IfErr}
 use Rattle.sgm_io.specs.declared.shelf.Shelf as shelf
 use Rattle.sgm_io.specs.declared.sink.Sink as sink
 use Rattle.sgm_list.specs.Entries.{EntryNames}

@@ -1,5 +1,5 @@
 -- From the words, the list and the ends of its entries to the end of a series.
-use Rattle.std.proofs.Common.{◌≡◌, inl, inr, ◌⊎◌, refl, sym, ap, subst, ◌∙◌, ℕ, zero, suc, ◌+◌, ◌<◌, ◌≤◌, arith, List, [], ◌∷◌, length, take, get_or, Bool, true, Option, None, Some, Result, Ok, Err, IsTrue}
+use Rattle.std.proofs.Common.{◌≡◌, inl, inr, refl, sym, subst, ◌∙◌, ℕ, zero, suc, ◌+◌, ◌<◌, arith, List, [], ◌∷◌, length, get_or, true, Option, None, Some, Result, Ok, Err, IsTrue}
 use Rattle.std.specs.Prelude.{All, cond, count_by}
 use Rattle.std.proofs.lemmas.List.Sums.{sum_by-append}
 use Rattle.sgm_io.specs.Held.{Held}
@@ -15,10 +15,9 @@ use Rattle.sgm_series.specs.Counted.{EntryCounts, SeriesCounts}
 use Rattle.sgm_series.specs.Ends.{EntriesShow, IsUnread, SeriesShownBy}
 use Rattle.sgm_series.specs.Moments.{SeriesMoment, series_at}
 use Rattle.sgm_series.specs.Plans.{AreVerdicts, EntriesCallFor, IsJudged, ListCallsFor, Plan, ReadCallsFor, SeriesCallsFor}
-use Rattle.sgm_series.specs.Plans.{entries_in, faulty, is_refused, no_list, series, usage, verdicts_of}
-use Rattle.sgm_series.specs.Received.{IsWhole, Received}
+use Rattle.sgm_series.specs.Plans.{entries_in, faulty, is_refused, series, usage, verdicts_of}
 use Rattle.sgm_series.specs.SeriesEnds.{AllEnd, PlanEnds, SeriesEnds, TurnsHad}
-use Rattle.sgm_series.specs.Stands.{IsEntryOutcome, IsListEnd, IsListOutcome, IsListed, end_of, outcome_for}
+use Rattle.sgm_series.specs.Stands.{IsEntryOutcome, IsListEnd, IsListOutcome, IsListed, outcome_for}
 use Rattle.sgm_series.specs.Words.{ListWords, list_of, series_words}
 use Rattle.sgm_series.specs.declared.outcome.SeriesOutcome.{SeriesOutcome}
 use Rattle.sgm_series.specs.declared.outcome.SeriesOutcome.TheVariants.{Done, Usage, RefusedList, SomeRefused, ListUnread, ReadFault, WriteFault, NoMemory}

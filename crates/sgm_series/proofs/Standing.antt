@@ -1,23 +1,21 @@
 -- From the form in which files are put, and lines received, to that of the public clauses.
-use Rattle.std.proofs.Common.{◌≡◌, inl, inr, ◌⊎◌, ℕ, ◌≤◌, arith, List, [], ◌++◌, refl, sym, ap, subst, ◌∙◌, Option, None, Some, Result, Ok, Err, take, length, Bool, true, false, append_assoc}
+use Rattle.std.proofs.Common.{◌≡◌, inl, inr, ℕ, ◌≤◌, arith, List, [], ◌++◌, refl, sym, ap, subst, ◌∙◌, Option, None, Some, Result, Ok, Err, Bool, true, false, append_assoc}
 use Rattle.sgm_io.specs.Counts.{Rose}
-use Rattle.sgm_io.specs.Held.{Held, IsPrefix}
+use Rattle.sgm_io.specs.Held.{Held}
 use Rattle.sgm_io.specs.Sink.{GrowsByPrefix, SinkFaults, WritesWhole}
 use Rattle.sgm_io.specs.declared.sink.SinkError.{SinkError}
 use Rattle.sgm_list.specs.Clashes.{first_clash}
 use Rattle.sgm_outcome.specs.Lines.{TakesLine}
 use Rattle.sgm_outcome.specs.declared.outcome.Outcome.TheVariants as run
-use Rattle.sgm_app.specs.Ends.{Hold, FilesStand}
 use Rattle.sgm_app.specs.Verdict.{Verdict}
-use Rattle.sgm_app.proofs.Holding.{hold}
-use Rattle.sgm_series.specs.Ends.{HoldTurns, HoldStop, SeriesFiles, HadTurns}
+use Rattle.sgm_series.specs.Ends.{SeriesFiles}
 use Rattle.sgm_list.specs.Entries.{EntryNames, entries_of}
 use Rattle.sgm_list.specs.Faults.{list_fault}
 use Rattle.sgm_list.specs.declared.fault.ListFault.{ListFault}
 use Rattle.sgm_series.specs.Words.{ListWords, series_words}
 use Rattle.sgm_series.specs.Plans.{Plan, usage, no_list, faulty, series, AreVerdicts, EntriesCallFor, ListCallsFor, ReadCallsFor, SeriesCallsFor, verdicts_of}
 use Rattle.sgm_series.specs.declared.words.SeriesUsage.{SeriesUsage}
-use Rattle.sgm_series.specs.Received.{Received, IsWhole, TakesLast}
+use Rattle.sgm_series.specs.Received.{IsWhole, TakesLast}
 use Rattle.sgm_series.specs.Stands.{SeriesPut}
 use Rattle.sgm_series.specs.declared.outcome.SeriesOutcome.{SeriesOutcome}
 use Rattle.sgm_series.specs.declared.outcome.SeriesOutcome.TheVariants.{Done, Usage, RefusedList, SomeRefused, ListUnread, ReadFault, WriteFault, NoMemory}

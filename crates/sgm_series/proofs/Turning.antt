@@ -6,16 +6,12 @@ use Rattle.std.proofs.lemmas.List.Elements.{All-push, Contains-append_right, Con
 use Rattle.std.proofs.lemmas.List.FromFn.{length-enumerate_from, get_or-enumerate_from}
 use Rattle.std.proofs.lemmas.List.Sums.{count_by_more_yes, count_by_more_no}
 use Rattle.std.proofs.lemmas.Option.{get_or_from_slice_get, slice_get-get_or, slice_get_read}
-use Rattle.sgm_io.specs.Counts.{Counts}
 use Rattle.sgm_io.specs.Held.{Held}
 use Rattle.sgm_io.specs.Unfinished.{NameSet}
-use Rattle.sgm_words.specs.Operands.{FileNames}
 use Rattle.sgm_words.specs.declared.files.Output.{Output}
 use Rattle.sgm_words.specs.declared.files.Output.TheVariants.{Summary}
 use Rattle.sgm_list.specs.Entries.{EntryNames}
-use Rattle.sgm_outcome.specs.declared.outcome.Outcome.{Outcome}
 use Rattle.sgm_app.specs.Deliver.{after_files, EndsIn}
-use Rattle.sgm_app.specs.Ends.{Faults, faults, SameFaults, CountsShow}
 use Rattle.sgm_app.specs.Outputs.{OutputFile}
 use Rattle.sgm_app.specs.Stops.{write_outcome}
 use Rattle.sgm_app.specs.Unfinished.{AreFinished, UnfinishedStands}

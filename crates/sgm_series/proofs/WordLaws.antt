@@ -1,9 +1,7 @@
 -- What words that were read have.
-use Rattle.std.proofs.Common.{◌≡◌, ℕ, suc, ◌≤◌, List, [], ◌∷◌, Bool, true, false, Option, Some, None, Result, Ok, Err, refl, sym, ap, ◌∙◌, subst, arith, if◌then◌else◌}
-use Rattle.std.specs.Prelude.{slice_index_or}
+use Rattle.std.proofs.Common.{◌≡◌, ℕ, ◌≤◌, List, [], ◌∷◌, Bool, true, false, Option, Some, None, Result, Ok, Err, refl, sym, ap, ◌∙◌, subst, arith, if◌then◌else◌}
 use Rattle.sgm_series.specs.Words.{ListWords, list_words, workers_in, with_workers, list_with, series_words, list_of}
 use Rattle.sgm_series.specs.declared.words.SeriesUsage.{SeriesUsage}
-use Rattle.sgm_series.specs.declared.words.SeriesUsage.TheVariants.{NoList, BadWord}
 
 -- the list is the first word, and there are one or two workers
 pub record AreRead (words : List (List ℕ)) (w : ListWords) : Type 0 where

@@ -1,6 +1,6 @@
 -- What the outcome must be where no count of faults stands in the way.
-use Rattle.std.specs.Prelude.{◌≡◌, ◌≢◌, ◌⊎◌, ⊤, ℕ, ◌<◌, List, All, Contains, Some, slice_get}
-use Rattle.std.specs.Prelude.{count_by, Result, Ok, Err}
+use Rattle.std.specs.Prelude.{◌≡◌, ◌⊎◌, ⊤, ℕ, ◌<◌, List, All, Contains, Some, slice_get}
+use Rattle.std.specs.Prelude.{count_by}
 use Rattle.sgm_io.specs.Counts.{Rose}
 use Rattle.sgm_words.specs.Operands.{IsInputName}
 use Rattle.sgm_words.specs.declared.files.Input.{Input}
@@ -8,15 +8,13 @@ use Rattle.sgm_list.specs.Entries.{EntryNames}
 use Rattle.sgm_app.specs.Ends.{Faults}
 use Rattle.sgm_app.specs.Outputs.{OutputFile}
 use Rattle.sgm_app.specs.Verdict.{Verdict, IsFiles, absent}
-use Rattle.sgm_series.specs.Words.{ListWords}
 use Rattle.sgm_series.specs.Plans.{Plan, usage, no_list, faulty, series, names_for, is_refused}
 use Rattle.sgm_series.specs.Plans.{IsJudged}
 use Rattle.sgm_series.specs.Turns.{files_for, IsReached}
-use Rattle.sgm_series.specs.declared.words.SeriesUsage.{SeriesUsage}
 use Rattle.sgm_series.specs.declared.outcome.SeriesOutcome.{SeriesOutcome}
-use Rattle.sgm_series.specs.declared.outcome.SeriesOutcome.TheVariants.{Done, Usage, RefusedList}
-use Rattle.sgm_series.specs.declared.outcome.SeriesOutcome.TheVariants.{SomeRefused, ListUnread}
-use Rattle.sgm_series.specs.declared.outcome.SeriesOutcome.TheVariants.{ReadFault, WriteFault}
+use Rattle.sgm_series.specs.declared.outcome.SeriesOutcome.TheVariants.{Done, RefusedList}
+use Rattle.sgm_series.specs.declared.outcome.SeriesOutcome.TheVariants.{SomeRefused}
+use Rattle.sgm_series.specs.declared.outcome.SeriesOutcome.TheVariants.{ReadFault}
 use Rattle.sgm_series.specs.declared.outcome.SeriesOutcome.TheVariants.{NoMemory}
 
 -- the name is that of an input of one of the entries

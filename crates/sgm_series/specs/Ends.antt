@@ -1,12 +1,12 @@
 -- What stands after a series, and what caused its outcome.
-use Rattle.std.specs.Prelude.{◌≡◌, ◌≢◌, ⊤, ◌⊎◌, ℕ, ◌+◌, ◌*◌, ◌<◌, ◌≤◌, List, [], ◌++◌, take, length}
+use Rattle.std.specs.Prelude.{◌≡◌, ◌≢◌, ⊤, ◌⊎◌, ℕ, ◌+◌, ◌*◌, ◌<◌, ◌≤◌, List, ◌++◌, take}
 use Rattle.std.specs.Prelude.{count_by, All}
 use Rattle.sgm_io.specs.Held.{Held}
 use Rattle.sgm_app.specs.Ends.{Hold, FilesStand, OutStands, NoneBefore, order_of}
 use Rattle.sgm_app.specs.Verdict.{Verdict, IsFiles}
 use Rattle.sgm_words.specs.declared.files.Output.TheVariants.{Summary}
 use Rattle.sgm_outcome.specs.declared.outcome.Outcome.TheVariants as run
-use Rattle.sgm_series.specs.Plans.{Plan, usage, no_list, faulty, series, verdicts_of, is_refused}
+use Rattle.sgm_series.specs.Plans.{Plan, usage, no_list, faulty, series, is_refused}
 use Rattle.sgm_series.specs.Plans.{IsJudged}
 use Rattle.sgm_series.specs.Turns.{files_for, summaries_for, AtEntry, IsReached, HasOutput}
 use Rattle.sgm_series.specs.declared.outcome.SeriesOutcome.{SeriesOutcome}

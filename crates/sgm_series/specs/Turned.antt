@@ -1,7 +1,7 @@
 -- The turns of entries, one after the other, to their ends or to a stop. No public clause speaks of
 -- this.
 use Rattle.std.specs.Prelude.{◌≡◌, ⊤, ◌⊎◌, ℕ, List, [], ◌++◌, take, All, if◌then◌else◌}
-use Rattle.std.specs.Prelude.{Option, None, Some, Result, Ok, Err}
+use Rattle.std.specs.Prelude.{Option, None, Result, Ok, Err}
 use Rattle.sgm_io.specs.Held.{Held}
 use Rattle.sgm_io.specs.Unfinished.{NameSet}
 use Rattle.sgm_words.specs.declared.files.Output.{Output}

@@ -1,5 +1,5 @@
 -- What the turns of the first entries write.
-use Rattle.std.specs.Prelude.{◌≡◌, ⊤, ◌⊎◌, ℕ, List, [], take, length, ◌<◌, ◌≤◌, All, Contains}
+use Rattle.std.specs.Prelude.{◌≡◌, ◌⊎◌, ℕ, List, [], take, All, Contains}
 use Rattle.std.specs.Prelude.{flat_map, slice_get, Some}
 use Rattle.sgm_words.specs.declared.files.Output.{Output}
 use Rattle.sgm_words.specs.declared.files.Output.TheVariants.{Summary}

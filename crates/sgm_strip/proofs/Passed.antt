@@ -20,8 +20,9 @@ use Rattle.sgm_energy.proofs.DirLemmas.{position_inside, strip_there}
 use Rattle.sgm_strip.specs.Cuts.{CutParts, IsCut, first_row, rows_of, last_row}
 use Rattle.sgm_strip.specs.Scenes.{SceneParts, IsScene, problem_of, row_length}
 use Rattle.sgm_strip.specs.Volumes.{HoldsRows}
-use Rattle.sgm_strip.specs.Parcels.{IsParcel, is_done, level_done, parcel_of, with_done}
-use Rattle.sgm_strip.specs.Fronts.{IsFront, front_parts, visit_of}
+use Rattle.sgm_strip.specs.Parcels.{ParcelParts, IsParcel}
+use Rattle.sgm_strip.specs.Parcels.{is_done, level_done, parcel_of, with_done}
+use Rattle.sgm_strip.specs.Fronts.{FrontParts, ComesNextTo, IsFront, front_parts, visit_of}
 use Rattle.sgm_strip.specs.Passing.{ComesBefore, SuitsRows, visited}
 use Rattle.sgm_strip.specs.declared.front.Visit.{Visit}
 use Rattle.sgm_strip.proofs.CutLemmas.{first_more, first_within}
@@ -216,3 +217,68 @@ module _ (scene : SceneParts) (cut : CutParts) (strip : ℕ) (done : List Bool) 
               let is : visit ≡ visit_of strip worker = sym (get_or_from_slice_get all (length all - 1) visit visit s) ∙ get_or_push visits (visit_of strip worker) visit (length all - 1) at in
               subst (λ y. HoldsRow (problem_of scene) y (path_value (problem_of scene) dir) row') (leaving cut dir strip kp.cut_kept ∙ ap (λ (v : Visit). last_row cut dir v.strip) (sym is)) held;
         }
+
+-- a front and the parcel whose strip it comes to next, by the lists that are worked on and by the
+-- parcel's scene and cut
+pub record Met (scene scene' : SceneParts) (cut cut' : CutParts) (strip : ℕ) (done : List Bool)
+    (costs sums : List ℕ) (dir : Dir) (row : List ℕ) (visits : List Visit) : Type 0 where
+  pub same_scene : scene' ≡ scene
+  pub same_cut : cut' ≡ cut
+  pub parcel : IsParcel (parcel_of scene cut strip done costs sums)
+  pub front : IsFront (front_parts scene cut dir row visits)
+  pub next : length visits ≡ position_of dir strip cut.strips
+  pub left : is_done done dir ≡ false
+
+pub met : (scene' scene : SceneParts) (cut' cut : CutParts) (strip : ℕ) (done : List Bool)
+    (costs' costs sums' sums : List ℕ) (dir : Dir) (row' row : List ℕ) (visits : List Visit)
+    (parcel : ParcelParts) (front : FrontParts)
+    → parcel_of scene cut strip done costs' sums' ≡ parcel
+    → front_parts scene' cut' dir row' visits ≡ front
+    → ComesNextTo front parcel → is_done parcel.done front.dir ≡ false
+    → IsParcel (parcel_of scene cut strip done costs' sums')
+    → IsFront (front_parts scene' cut' dir row' visits)
+    → costs ≡ costs' → sums ≡ sums' → row ≡ row'
+    → Met scene scene' cut cut' strip done costs sums dir row visits
+met scene' scene cut' cut strip done costs' costs sums' sums dir row' row visits parcel front
+    ep ef n l kp kf ec es er =
+    let f : FrontParts = front_parts scene' cut' dir row' visits in
+    let here : ComesNextTo f (parcel_of scene cut strip done costs' sums') =
+    subst (λ q. ComesNextTo f q) (sym ep) (subst (λ g. ComesNextTo g parcel) (sym ef) n) in
+    record {
+      same_scene = here.same_scene;
+      same_cut = here.same_cut;
+      parcel = parcel_here scene cut strip done done costs costs' sums sums' refl (sym ec) (sym es)
+          kp;
+      front = subst (λ r. IsFront (front_parts scene cut dir r visits)) (sym er)
+          (front_here scene scene' cut cut' dir row' visits here.same_scene here.same_cut kf);
+      next = here.position;
+      left = subst (λ (q : ParcelParts). is_done q.done dir ≡ false) (sym ep)
+          (subst (λ (g : FrontParts). is_done parcel.done g.dir ≡ false) (sym ef) l);
+    }
+
+-- what passing the rows of the strip asks for
+pub record Entered (scene : SceneParts) (cut : CutParts) (strip : ℕ) (costs : List ℕ) (dir : Dir)
+    (row : List ℕ) (first : ℕ) (penalties : Penalties) (guide : Values) (count : ℕ)
+    (begun : Bool) : Type 0 where
+  pub some : 0 < rows_of cut strip
+  pub suits : SuitsRows (problem_of scene) first (rows_of cut strip) penalties guide count
+      (length row) costs
+  pub comes : ComesBefore (problem_of scene) dir (first + visited dir (rows_of cut strip) 0) begun
+      row
+
+pub entered : (scene : SceneParts) (cut : CutParts) (strip : ℕ) (done : List Bool)
+    (costs sums : List ℕ) (dir : Dir) (row : List ℕ) (visits : List Visit)
+    (first : ℕ) (penalties : Penalties) (guide : Values) (count : ℕ) (begun : Bool)
+    {scene' : SceneParts} {cut' : CutParts}
+    → Met scene scene' cut cut' strip done costs sums dir row visits
+    → first ≡ first_row cut strip → penalties ≡ scene.penalties → guide ≡ scene.guide
+    → count ≡ scene.span.count → begun ≡ not (length visits == 0)
+    → Entered scene cut strip costs dir row first penalties guide count begun
+entered scene cut strip done costs sums dir row visits first penalties guide count begun
+    m et ep eg en eb = record {
+      some = some_rows scene cut strip done costs sums m.parcel;
+      suits = suits scene cut strip done costs sums m.parcel first penalties guide count (length row)
+          et ep eg en m.front.whole;
+      comes = comes scene cut strip done costs sums m.parcel dir row visits m.front m.next first begun
+          et eb;
+    }

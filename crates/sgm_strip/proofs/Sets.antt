@@ -1,6 +1,6 @@
 -- Sets of directions, as lists of truth values.
 use Rattle.std.specs.List.{list_all}
-use Rattle.std.proofs.Common.{◌≡◌, ◌≢◌, ℕ, zero, suc, ◌+◌, ◌<◌, Bool, true, false, List, [], ◌∷◌, length, get_or, set, refl, sym, ap, ◌∙◌, arith, get_or-set_same, get_or-set_other}
+use Rattle.std.proofs.Common.{◌≡◌, ◌≢◌, ℕ, zero, suc, ◌+◌, ◌<◌, Bool, true, false, List, [], ◌∷◌, length, get_or, set, refl, sym, ap, ◌∙◌, arith, get_or-set_same, get_or-set_other, length-set}
 use mathlib.Core.Logic.{dite}
 use native.Mathlib.Decide.{ℕ_discrete}
 use Rattle.sgm_energy.specs.declared.dir.Dir.{Dir}
@@ -13,6 +13,14 @@ use Rattle.sgm_strip.specs.Parcels.{is_done, with_done, level_done, IsComplete}
 
 pub done_here : (done : List Bool) (dir : Dir) → length done ≡ 8 → is_done (with_done done dir) dir ≡ true
 done_here done dir e = get_or-set_same done (number_of dir) true false (omega (arith, e, number_lt dir))
+
+-- a set of eight that was made with a direction has it
+pub done_with : (done now : List Bool) (dir : Dir) → now ≡ with_done done dir → length now ≡ 8
+    → is_done now dir ≡ true
+done_with done now dir e eight =
+    let long : length done ≡ 8 =
+    sym (length-set done (number_of dir) true) ∙ ap length (sym e) ∙ eight in
+    ap (λ s. is_done s dir) e ∙ done_here done dir long
 
 pub done_else : (done : List Bool) (dir other : Dir) → other ≢ dir → is_done (with_done done dir) other ≡ is_done done other
 done_else done dir other ne = get_or-set_other done (number_of dir) (number_of other) true false (λ e. ne (same_number other dir e))

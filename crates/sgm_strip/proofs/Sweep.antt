@@ -1,5 +1,5 @@
 -- From one row of a strip to the next.
-use Rattle.std.proofs.Common.{◌≡◌, ℕ, ◌+◌, ◌-◌, ◌*◌, ◌/◌, ◌<◌, ◌≤◌, ◌⊎◌, ◌||◌, Bool, true, false, cond, ltb, List, length, slice_index, slice_range, Option, Some, refl, sym, ap, ◌∙◌, subst, inl, inr, arith, ◌≢◌}
+use Rattle.std.proofs.Common.{◌≡◌, ℕ, ◌+◌, ◌-◌, ◌*◌, ◌/◌, ◌<◌, ◌≤◌, ◌⊎◌, ◌||◌, Bool, true, false, cond, ltb, List, ◌++◌, length, take, drop, slice_index, slice_range, Option, Some, refl, sym, ap, ◌∙◌, subst, inl, inr, arith, ◌≢◌}
 use Rattle.std.proofs.lemmas.Bool.{cases_eq, cases_lt, lt-ltb, le-ltb, true≢false}
 use Rattle.std.proofs.lemmas.Nat.{div-mul-add, mul-add-lt, mul-le}
 use Rattle.sgm_base.specs.Values.{Values, row_of}
@@ -12,8 +12,9 @@ use Rattle.sgm_energy.specs.Pens.{Penalties}
 use Rattle.sgm_energy.specs.Rows.{HoldsRow}
 use Rattle.sgm_energy.proofs.RayLemmas.{minus_one, minus_up}
 use Rattle.sgm_path.specs.Paths.{far_between, HasFar}
+use Rattle.sgm_path.proofs.Follow.{mid_at, mid_others, mid_was}
 use Rattle.sgm_strip.specs.Volumes.{HoldsRows}
-use Rattle.sgm_strip.specs.Passing.{ComesBefore, SuitsRow, SuitsRows, visited}
+use Rattle.sgm_strip.specs.Passing.{AddsAt, ComesBefore, SuitsRow, SuitsRows, visited}
 use Rattle.sgm_strip.proofs.Guides.{rows_far}
 use Rattle.sgm_strip.proofs.Rows.{row_holds}
 
@@ -50,6 +51,23 @@ comes_next UpRight height top rows i e h k = under height top rows i h k
 comes_next UpLeft height top rows i e h k = under height top rows i h k
 
 -- ---- a row of a strip
+-- sums that are split in three, once the values of a row are added to the part in the middle
+pub adds_at : (at n : ℕ) (row old front here rest after now : List ℕ) → length row ≡ n
+    → front ≡ take at old → length front ≡ at → rest ≡ drop at old → here ≡ take n rest
+    → after ≡ drop n rest → length now ≡ n
+    → ((k : ℕ) → k < length now → slice_index now k ≡ slice_index here k + slice_index row k)
+    → AddsAt at row old (front ++ (now ++ after))
+adds_at at n row old front here rest after now lr ef lf er eh ea ln added = record {
+  each = λ k h.
+      let inside : k < length now = omega (arith, h, lr, ln) in
+      mid_at front now after at k lf inside
+      ∙ added k inside
+      ∙ ap (λ v. v + slice_index row k) (mid_was old here rest at n k eh er (omega (arith, h, lr)));
+  others = λ k h.
+      mid_others old front now after at n k ef (ea ∙ ap (drop n) er) lf ln
+      (subst (λ m. (k < at) ⊎ (at + m ≤ k)) lr h);
+}
+
 pub rows_are : (g : Problem) (top rows : ℕ) (penalties : Penalties) (guide : Values) (count row : ℕ) (costs : List ℕ) → SuitsRows g top rows penalties guide count row costs → 0 < row → length costs / row ≡ rows
 rows_are g top rows penalties guide count row costs s h =
     let e : length costs ≡ rows * row + 0 = omega (arith, s.holds.whole, ap (λ n. rows * n) s.same_row) in

@@ -3,11 +3,12 @@
 use Rattle.std.specs.Prelude.{◌≡◌, ℕ, ◌-◌, ◌≤◌, false, List, length, slice_get, Some, All}
 use Rattle.sgm_base.specs.declared.limits.TheConstants.{MAX_PATH_VALUE}
 use Rattle.sgm_energy.specs.declared.dir.Dir.{Dir}
-use Rattle.sgm_energy.specs.Dirs.{is_level, strip_at}
+use Rattle.sgm_energy.specs.Dirs.{is_level, position_of, strip_at}
 use Rattle.sgm_energy.specs.Energies.{path_value}
 use Rattle.sgm_energy.specs.Rows.{HoldsRow}
 use Rattle.sgm_strip.specs.Cuts.{CutParts, IsCut, last_row}
 use Rattle.sgm_strip.specs.Scenes.{SceneParts, IsScene, problem_of, row_length}
+use Rattle.sgm_strip.specs.Parcels.{ParcelParts}
 use Rattle.sgm_strip.specs.declared.front.Visit.{Visit}
 
 abbrev pub visit_of : ℕ → ℕ → Visit
@@ -46,3 +47,10 @@ pub record IsFront (front : FrontParts) : Type 0 where
   pub last_held : (visit : Visit) → slice_get front.visits (length front.visits - 1) ≡ Some visit
       → let g = problem_of front.scene in
       HoldsRow g (last_row front.cut front.dir visit.strip) (path_value g front.dir) front.row
+
+-- the front is of the parcel's scene and cut, and the parcel's strip is the one that comes next for
+-- it
+pub record ComesNextTo (front : FrontParts) (parcel : ParcelParts) : Type 0 where
+  pub same_scene : front.scene ≡ parcel.scene
+  pub same_cut : front.cut ≡ parcel.cut
+  pub position : length front.visits ≡ position_of front.dir parcel.strip parcel.cut.strips

@@ -1,6 +1,7 @@
 -- How a direction goes through the rows of a strip. No public clause speaks of this.
-use Rattle.std.specs.Prelude.{◌≡◌, ℕ, ◌+◌, ◌-◌, ◌*◌, ◌≤◌, Bool, List, ◌++◌, if◌then◌else◌}
-use Rattle.std.specs.Prelude.{MatchBool, Some, None}
+use Rattle.std.specs.Prelude.{◌≡◌, ℕ, ◌+◌, ◌-◌, ◌*◌, ◌<◌, ◌≤◌, ◌⊎◌, Bool, List, ◌++◌, length}
+use Rattle.std.specs.Prelude.{slice_index, if◌then◌else◌, MatchBool, Some, None, All}
+use Rattle.sgm_base.specs.declared.limits.TheConstants.{MAX_PATH_VALUE}
 use Rattle.sgm_base.specs.Values.{Values, value_at}
 use Rattle.sgm_energy.specs.declared.dir.Dir.{Dir}
 use Rattle.sgm_energy.specs.Dirs.{goes_down}
@@ -48,6 +49,18 @@ pub record HoldsBefore (g : Problem) (dir : Dir) (y : ℕ) (before : List ℕ) :
 abbrev pub ComesBefore : Problem → Dir → ℕ → Bool → List ℕ → Type 0
 ComesBefore g dir y begun before =
     MatchBool begun (HoldsBefore g dir y before) (row_before dir g.height y ≡ None)
+
+-- a row of so many path values, each within its limit
+pub record IsPathRow (entries : ℕ) (row : List ℕ) : Type 0 where
+  pub whole : length row ≡ entries
+  pub low : All (λ v. v ≤ MAX_PATH_VALUE) row
+
+-- the values of a row are added to the sums from a place on, and all other sums stay
+pub record AddsAt (at : ℕ) (row old new : List ℕ) : Type 0 where
+  pub each : (k : ℕ) → k < length row
+      → slice_index new (at + k) ≡ slice_index old (at + k) + slice_index row k
+  pub others : (k : ℕ) → (k < at) ⊎ (at + length row ≤ k)
+      → slice_index new k ≡ slice_index old k
 
 -- a row that has the value f p d of each pixel p of the row y and each index d came to the end
 pub record AddsRow (g : Problem) (y : ℕ) (f : Pixel → ℕ → ℕ) (old new : List ℕ) : Type 0 where

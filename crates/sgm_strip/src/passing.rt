@@ -1,8 +1,7 @@
-ghost use Rattle.std.specs.Prelude.{◌≡◌, ◌++◌, ◌∷◌, [], true, false, length};
-ghost use Rattle.sgm_energy.specs.Dirs.{position_of};
+ghost use Rattle.std.specs.Prelude.{◌≡◌, ◌++◌, ◌∷◌, [], false};
 ghost use Rattle.sgm_strip.specs.Scenes.{row_length};
 ghost use Rattle.sgm_strip.specs.Parcels.{IsParcel, is_done, parcel_of, with_done};
-ghost use Rattle.sgm_strip.specs.Fronts.{IsFront, front_parts, visit_of};
+ghost use Rattle.sgm_strip.specs.Fronts.{ComesNextTo, IsFront, front_parts, visit_of};
 
 use crate::parcel::place;
 use crate::sweeping::{StripCosts, pass_rows};
@@ -13,17 +12,13 @@ use crate::{Front, Parcel, Row, Visit};
 /// The front's row is rewritten in place; what `spare`, which has room for a row, holds does not
 /// matter. Takes no memory.
 pub fn pass(parcel: &mut Parcel, front: &mut Front, spare: &mut Row, worker: u32)
-    requires scene { front.old.scene ≡ parcel.old.scene }
-    requires cut { front.old.cut ≡ parcel.old.cut }
+    requires next { ComesNextTo front.old parcel.old }
     requires spare { spare.old ≡ row_length parcel.old.scene }
-    requires next { length front.old.visits
-        ≡ position_of front.old.dir parcel.old.strip parcel.old.cut.strips }
     requires left { is_done parcel.old.done front.old.dir ≡ false }
 
     // The direction is done in the parcel, the front has this visit, and all else stands.
     ensures parcel { parcel.new ≡ parcel_of parcel.old.scene parcel.old.cut parcel.old.strip
         (with_done parcel.old.done front.old.dir) parcel.old.costs parcel.new.sums }
-    ensures done { is_done parcel.new.done front.old.dir ≡ true }
     ensures front { front.new
         ≡ front_parts front.old.scene front.old.cut front.old.dir front.new.row
         (front.old.visits ++ visit_of parcel.old.strip worker ∷ []) }

@@ -1,5 +1,5 @@
 // One direction through the rows of a strip.
-ghost use Rattle.std.specs.Prelude.{◌≡◌, ℕ, ◌+◌, ◌*◌, ◌/◌, ◌%◌, ◌-◌, ◌^◌, ◌<◌, ◌≤◌, ◌⊎◌, ◌||◌};
+ghost use Rattle.std.specs.Prelude.{◌≡◌, ℕ, ◌+◌, ◌*◌, ◌/◌, ◌%◌, ◌-◌, ◌^◌, ◌<◌, ◌≤◌, ◌||◌};
 ghost use Rattle.std.specs.Prelude.{false, Some, nat_lt, length, slice_index, EachIndex, All};
 ghost use Rattle.sgm_base.specs.declared.limits.TheConstants.{MAX_COST, MAX_COUNT, MAX_PATH_VALUE};
 ghost use Rattle.sgm_energy.specs.Dirs.{is_level};
@@ -9,7 +9,8 @@ ghost use Rattle.sgm_energy.specs.Energies.{path_value};
 ghost use Rattle.sgm_energy.specs.Rows.{HoldsRow};
 ghost use Rattle.sgm_path.specs.Paths.{far_in, terms_of};
 ghost use Rattle.sgm_strip.specs.Volumes.{HoldsRows};
-ghost use Rattle.sgm_strip.specs.Passing.{ComesBefore, SuitsRow, SuitsRows, visited};
+ghost use Rattle.sgm_strip.specs.Passing.{AddsAt, ComesBefore, IsPathRow, SuitsRow, SuitsRows};
+ghost use Rattle.sgm_strip.specs.Passing.{visited};
 
 use crate::Guide;
 use sgm_energy::{Dir, Pen};
@@ -69,17 +70,13 @@ fn advance(
     sums: &mut [u16],
 )
     requires across { is_level (terms_of row.now).dir ≡ false }
-    requires last_length { length last.old ≡ length (terms_of row.now).costs }
+    requires last { IsPathRow (length (terms_of row.now).costs) last.old }
     requires spare_length { (terms_of row.now).count ≤ length spare.old }
-    requires values { All (λ v. v ≤ MAX_PATH_VALUE) last.old }
     requires inside { at + length last.old ≤ length sums.old }
     requires room { (k : ℕ) → k < length last.old
         → slice_index sums.old (at + k) + MAX_PATH_VALUE < 2 ^ 16 }
     ensures bound { All (λ v. v ≤ MAX_PATH_VALUE) last.new }
-    ensures others { (k : ℕ) → (k < at) ⊎ (at + length last.old ≤ k)
-        → slice_index sums.new k ≡ slice_index sums.old k }
-    ensures added { (k : ℕ) → k < length last.old
-        → slice_index sums.new (at + k) ≡ slice_index sums.old (at + k) + slice_index last.new k }
+    ensures added { AddsAt at last.new sums.old sums.new }
     ensures paths { let t = terms_of row.now in (g : Problem) (y : ℕ)
         → SuitsRow g t.dir y t.penalties.p1 t.count (far_in t) t.costs
         → ComesBefore g t.dir y begun last.old → HoldsRow g y (path_value g t.dir) last.new }
@@ -105,10 +102,9 @@ pub(crate) fn pass_rows(
     sums: &mut [u16],
 )
     requires across { is_level dir ≡ false }
-    requires last_length { length last.old ≡ strip.now.guide.now.width * strip.now.count }
+    requires last { IsPathRow (strip.now.guide.now.width * strip.now.count) last.old }
     requires spare_length { strip.now.count ≤ length spare.old }
     requires sums_length { length sums.old ≡ length strip.now.costs.now }
-    requires values { All (λ v. v ≤ MAX_PATH_VALUE) last.old }
     requires room { EachIndex sums.old (λ k. slice_index sums.old k + MAX_PATH_VALUE < 2 ^ 16) }
     ensures bound { All (λ v. v ≤ MAX_PATH_VALUE) last.new }
     ensures last { let s = strip.now in (g : Problem) (rows : ℕ)

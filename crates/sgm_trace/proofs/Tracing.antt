@@ -1,5 +1,5 @@
 -- The sequence from its end backwards.
-use Rattle.std.proofs.Common.{◌≡◌, ℕ, ◌+◌, ◌<◌, ◌≤◌, List, [], ◌∷◌, ◌++◌, length, get_or, take, reverse, slice_index, sym, ap, ◌∙◌, subst, arith, append-nil, append_assoc}
+use Rattle.std.proofs.Common.{◌≡◌, ℕ, ◌+◌, ◌<◌, List, [], ◌∷◌, ◌++◌, length, get_or, take, reverse, slice_index, sym, ap, ◌∙◌, subst, arith, append-nil, append_assoc}
 use Rattle.std.proofs.lemmas.List.{take_all, take_more, reverse-append}
 use Rattle.sgm_energy.specs.Rays.{Pixel, pixel_at, Problem}
 use Rattle.sgm_energy.proofs.Sequences.{sequences_length}
@@ -7,7 +7,7 @@ use Rattle.sgm_trace.specs.declared.traced.Step.{Step}
 use Rattle.sgm_trace.specs.Best.{best, first_step, step_between, steps_of, steps_after}
 use Rattle.sgm_trace.proofs.Bests.{IsBest, IsBefore, best_is, first_is_best, next_is_best, attaining_from, steps_push}
 use Rattle.sgm_energy.specs.Energies.{jump, least_ending}
-use Rattle.sgm_trace.specs.Rows.{energies_of}
+use Rattle.sgm_trace.specs.Rows.{IsFirstLeast, energies_of}
 use Rattle.sgm_trace.proofs.Growing.{up_to_next, energy_at}
 
 -- whatever is best up to the k-th pixel and ends in b begins what is best along all and ends in d, and these are the
@@ -67,17 +67,19 @@ follows_end g ps d b steps h hb rest =
     ∙ ap (steps_of g ps) (sym (best_is g ps d t.0 t.1))
 
 -- what the search for the index before has found, over the row of energies that it read
-pub before_from : (g : Problem) (ps : List Pixel) (j k a b : ℕ) (row : List ℕ) (made : ℕ) → k ≡ j + 1 → k < length ps → row ≡ energies_of g (take (j + 1) ps) → a < g.count
-    → made ≡ jump g (get_or ps j (pixel_at 0 0)) (get_or ps k (pixel_at 0 0)) a b
-    → ((x : ℕ) → x < g.count → slice_index row a + made ≤ slice_index row x + jump g (get_or ps j (pixel_at 0 0)) (get_or ps k (pixel_at 0 0)) x b)
-    → ((x : ℕ) → x < a → slice_index row a + made < slice_index row x + jump g (get_or ps j (pixel_at 0 0)) (get_or ps k (pixel_at 0 0)) x b)
+pub before_from : (g : Problem) (ps : List Pixel) (j k a b : ℕ) (row : List ℕ) → k ≡ j + 1
+    → k < length ps → row ≡ energies_of g (take (j + 1) ps)
+    → IsFirstLeast
+    (λ x. slice_index row x
+    + jump g (get_or ps j (pixel_at 0 0)) (get_or ps k (pixel_at 0 0)) x b)
+    g.count a
     → IsBefore g (take j ps) (get_or ps j (pixel_at 0 0)) (get_or ps k (pixel_at 0 0)) a b
-before_from g ps j k a b row made e h is ha m low first =
+before_from g ps j k a b row e h is w =
     let qs = take j ps ++ get_or ps j (pixel_at 0 0) ∷ [] in
     let upto : row ≡ energies_of g qs = is ∙ ap (energies_of g) (take_more ps j (pixel_at 0 0) (omega arith)) in
     let at = λ (x : ℕ) (hx : x < g.count). (let v : slice_index row x ≡ least_ending g qs x = ap (λ r. slice_index r x) upto ∙ energy_at g qs x hx in v) in
     record {
-      inside = ha;
-      low = λ x hx. omega (arith, low x hx, at x hx, at a ha, m);
-      first = λ x hx. omega (arith, first x hx, at x (omega arith), at a ha, m);
+      inside = w.inside;
+      low = λ x hx. omega (arith, w.low x hx, at x hx, at a w.inside);
+      first = λ x hx. omega (arith, w.first x hx, at x (omega (arith, hx, w.inside)), at a w.inside);
     }

@@ -16,6 +16,12 @@ energies_of g ps = map (least_ending g ps) (below g.count)
 abbrev pub first_energies : Problem → List Pixel → ℕ → List (List ℕ)
 first_energies g ps n = map (λ k. energies_of g (take (k + 1) ps)) (below n)
 
+-- a is the first of the indices below n at which f is least
+pub record IsFirstLeast (f : ℕ → ℕ) (n a : ℕ) : Type 0 where
+  pub inside : a < n
+  pub low : (b : ℕ) → b < n → f a ≤ f b
+  pub first : (b : ℕ) → b < a → f a < f b
+
 -- no energy of a ray is greater: the same index everywhere costs no more
 abbrev pub AreSmall : List ℕ → Type 0
 AreSmall energies = (d : ℕ) → d < length energies → slice_index energies d ≤ MAX_COST * MAX_SIDE

@@ -1,11 +1,11 @@
-ghost use Rattle.std.specs.Prelude.{◌≡◌, ◌+◌, ◌<◌, ◌≤◌, ℕ, All, IfOk, length, map, slice_index};
+ghost use Rattle.std.specs.Prelude.{◌≡◌, ◌+◌, ◌<◌, ◌≤◌, All, IfOk, length, map, slice_index};
 ghost use Rattle.sgm_base.specs.declared.limits.TheConstants.{MAX_COST, MAX_COUNT, MAX_PENALTY};
 ghost use Rattle.sgm_base.specs.declared.limits.TheConstants.{MAX_SIDE};
-ghost use Rattle.sgm_energy.specs.Energies.{IsWithin, change};
+ghost use Rattle.sgm_energy.specs.Energies.{IsWithin, change, jump};
 ghost use Rattle.sgm_energy.specs.Rays.{IsInside};
 ghost use Rattle.sgm_strip.specs.Scenes.{problem_of};
 ghost use Rattle.sgm_trace.specs.Best.{best, first_step, step_between, steps_of};
-ghost use Rattle.sgm_trace.specs.Rows.{AreSmall, first_energies, pixel_of};
+ghost use Rattle.sgm_trace.specs.Rows.{AreSmall, IsFirstLeast, first_energies, pixel_of};
 
 use crate::place::Place;
 use crate::traced::Step;
@@ -53,7 +53,8 @@ struct Back {
     before: u32,
 }
 
-/// The step of the index `d` at a pixel from the pixel `from` before it, and the index there.
+/// The step of the index `d` at a pixel from the pixel `from` before it, and the index there: the
+/// least from which `d` is reached with the least energy.
 fn step_to(scene: &Scene, energies: &[u32], from: Place, here: Place, d: u32) -> Back
     requires whole { length energies.now ≡ (problem_of scene.now).count }
     requires count { length energies.now ≤ MAX_COUNT }
@@ -61,19 +62,11 @@ fn step_to(scene: &Scene, energies: &[u32], from: Place, here: Place, d: u32) ->
     requires from_inside { IsInside (problem_of scene.now) (pixel_of from) }
     requires inside { IsInside (problem_of scene.now) (pixel_of here) }
     requires index { d < (problem_of scene.now).count }
-    ensures before { result.before < (problem_of scene.now).count }
+    ensures before { let g = problem_of scene.now in
+        IsFirstLeast (λ a. slice_index energies.now a + jump g (pixel_of from) (pixel_of here) a d)
+        g.count result.before }
     ensures made { result.made
         ≡ step_between (problem_of scene.now) (pixel_of from) (pixel_of here) result.before d }
-    ensures low { (a : ℕ) → a < (problem_of scene.now).count
-        → slice_index energies.now result.before + result.made.jump
-        ≤ slice_index energies.now a
-        + change (problem_of scene.now).p1
-        ((problem_of scene.now).far (pixel_of from) (pixel_of here)) a d }
-    ensures first { (a : ℕ) → a < result.before
-        → slice_index energies.now result.before + result.made.jump
-        < slice_index energies.now a
-        + change (problem_of scene.now).p1
-        ((problem_of scene.now).far (pixel_of from) (pixel_of here)) a d }
 {
     let near = scene.pen().p1();
     let far = scene.far(here.x, here.y, from.x, from.y);
@@ -112,13 +105,8 @@ fn index_before(energies: &[u32], near: u16, far: u16, d: usize) -> usize
     requires few { length energies.now ≤ MAX_COUNT }
     requires index { d < length energies.now }
     requires small { AreSmall energies.now }
-    ensures inside { result < length energies.now }
-    ensures low { (a : ℕ) → a < length energies.now
-        → slice_index energies.now result + change near far result d
-        ≤ slice_index energies.now a + change near far a d }
-    ensures first { (a : ℕ) → a < result
-        → slice_index energies.now result + change near far result d
-        < slice_index energies.now a + change near far a d }
+    ensures { IsFirstLeast (λ a. slice_index energies.now a + change near far a d)
+        (length energies.now) result }
 {
     let mut best = 0;
     let mut least = energies[0] + u32::from(change(near, far, 0, d));

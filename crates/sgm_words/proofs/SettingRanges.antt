@@ -62,11 +62,6 @@ of_entry place (entry ∷ later) text s e =
       | None ↦ λ is m. of_later place entry later s (of_entry (place + 1) later text s m)
     ] refl e
 
--- what a word sets is an option of the table
-pub set_there : (text : List ℕ) (s : Setting) → set_by text ≡ Some s → s.place < OPTION_COUNT
-unfolding set_by
-set_there text s e = let of = of_entry 0 option_table text s e in omega (arith, of.is, of.there)
-
 set_within : (text : List ℕ) (s : Setting) → set_by text ≡ Some s → IsWithin (entry_at s.place) s.value
 unfolding set_by
 set_within text s e =

@@ -1,7 +1,7 @@
 ghost use Rattle.std.specs.Prelude.{◌≡◌, ◌<◌, length};
 ghost use Rattle.sgm_words.specs.Operands.{bytes_of, word, operands, change_operands};
 ghost use Rattle.sgm_words.specs.Operands.{merge_operands};
-ghost use Rattle.sgm_words.specs.Operands.{is_plain, is_plain_word};
+ghost use Rattle.sgm_words.specs.Operands.{is_plain_word};
 
 use std::marker::Model;
 
@@ -81,13 +81,6 @@ impl<'a> OperandWords<'a> {
         ensures { result.now ≡ self.now.out }
     {
         self.out
-    }
-
-    /// Whether the calibration is the plain one.
-    pub fn is_plain(&self) -> bool
-        ensures { result ≡ is_plain self.now }
-    {
-        is_plain(self.calib)
     }
 }
 

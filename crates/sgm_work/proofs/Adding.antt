@@ -1,5 +1,5 @@
 -- What a try adds.
-use Rattle.std.proofs.Common.{◌≡◌, ◌≢◌, ℕ, ◌+◌, ◌-◌, ◌⊎◌, Bool, true, false, cond, ◌==◌, List, [], ◌∷◌, ◌++◌, length, Some, refl, sym, ap, subst, ◌∙◌, inl, inr, ⊎_elim, arith, eq-eqb, ne_eqb, get_or-set_other}
+use Rattle.std.proofs.Common.{◌≡◌, ◌≢◌, ℕ, ◌+◌, ◌-◌, ◌⊎◌, Bool, true, false, cond, ◌==◌, List, [], ◌∷◌, ◌++◌, length, Option, Some, refl, sym, ap, subst, ◌∙◌, inl, inr, ⊎_elim, arith, eq-eqb, ne_eqb, get_or-set_other}
 use Rattle.std.specs.Prelude.{slice_get}
 use Rattle.std.proofs.lemmas.Bool.{cases_eq}
 use Rattle.std.proofs.lemmas.List.{length_push, get_or_push}
@@ -55,6 +55,7 @@ module _ (p : PassParts) (strip : ℕ) (dir : Dir) where
   pub tried_none : (found : ℕ) (q : PassParts) → q ≡ after_try (after_look p (dir_word dir) found) strip dir → HasTried strip dir 0 p q
   tried_none found q is = subst (HasTried strip dir 0 p) (sym is) record {
     same = record { same_number = refl; same_gathered = refl };
+    same_strip = refl;
     claims = refl;
     here = tries_here;
     others = tries_else;
@@ -65,6 +66,7 @@ module _ (p : PassParts) (strip : ℕ) (dir : Dir) where
   pub tried_some : (due was : ℕ) (q r : PassParts) → q ≡ after_take (after_try (after_look p (dir_word dir) due) strip dir) dir → r ≡ after_put (after_look q (dir_word dir) was) dir → HasTried strip dir 1 p r
   tried_some due was q r is is' = subst (HasTried strip dir 1 p) (sym (is' ∙ ap (λ (u : PassParts). after_put (after_look u (dir_word dir) was) dir) is)) record {
     same = record { same_number = refl; same_gathered = refl };
+    same_strip = refl;
     claims = refl;
     here = tries_here;
     others = tries_else;
@@ -86,6 +88,10 @@ held_put board p q old new dir held strip shown is on = record {
         ∙ sym (ap (λ (f : Dir → Bool). f d) shown ∙ where_else (number_of d) (number_of dir) true (p.done d) other)
   ];
 }
+
+-- a pass holds one strip
+pub one_strip : (held : Option ℕ) (a b : ℕ) → held ≡ Some a → held ≡ Some b → a ≡ b
+one_strip held a b ea eb = let e : Some a ≡ Some b = sym ea ∙ eb in cc
 
 pub last_by : (front : FrontParts) (visits : List Visit) (strip worker : ℕ) → front.visits ≡ visits ++ visit_of strip worker ∷ [] → IsLastBy front strip worker
 last_by front visits strip worker is =

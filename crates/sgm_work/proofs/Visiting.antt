@@ -6,6 +6,9 @@ use Rattle.sgm_energy.specs.declared.dir.Dir.TheVariants.{Right, Left, Down, Dow
 use Rattle.sgm_energy.specs.Dirs.{front_of, is_level}
 use Rattle.sgm_board.specs.Words.{strip_word}
 use Rattle.sgm_board.specs.Passes.{PassParts, after_claim, after_look, HasReadAll}
+use Rattle.sgm_board.specs.Boards.{parts_of, IsIdlePassOf, IsPassOf}
+use Rattle.sgm_board.specs.declared.board.Board.{Board}
+use Rattle.sgm_board.specs.declared.pass.Pass.{Pass}
 use Rattle.sgm_work.specs.Worked.{IsSamePass, LooksMore, TriesWhatItClaims}
 use Rattle.sgm_work.specs.Tries.{HasTriedFirst, HasVisited}
 use Rattle.sgm_work.proofs.Adding.{where_same, where_else}
@@ -32,6 +35,13 @@ tries_none p strip dir level = refl
 
 pub tries_more : (p q r : PassParts) → TriesWhatItClaims p q → TriesWhatItClaims q r → TriesWhatItClaims p r
 tries_more p q r a b strip dir level = omega (arith, a strip dir level, b strip dir level)
+
+-- a pass that held nothing and has looked at a word
+pub still_idle : (board : Board) (old new : Pass) (word found : ℕ) → IsIdlePassOf board old → IsPassOf board new → parts_of new ≡ after_look (parts_of old) word found → IsIdlePassOf board new
+still_idle board old new word found idle own is = record {
+  own = own;
+  idle = record { no_strip = ap (λ (p : PassParts). p.strip) is ∙ idle.idle.no_strip; no_front = ap (λ (p : PassParts). p.front) is ∙ idle.idle.no_front };
+}
 
 -- ---- one strip
 

@@ -7,9 +7,10 @@ use Rattle.sgm_board.specs.Words.{strip_word}
 use Rattle.sgm_board.specs.Passes.{PassParts}
 use Rattle.sgm_work.specs.Worked.{IsSamePass, TriesWhatItClaims}
 
--- the direction was tried once at the strip
+-- the direction was tried once at the strip, and the pass holds the strip that it held
 pub record HasTried (strip : ℕ) (dir : Dir) (handed : ℕ) (p q : PassParts) : Type 0 where
   pub same : IsSamePass p q
+  pub same_strip : q.strip ≡ p.strip
   pub claims : q.claims ≡ p.claims
   pub here : q.tries strip dir ≡ p.tries strip dir + 1
   pub others : (s : ℕ) (d : Dir) → (s ≢ strip) ⊎ (number_of d ≢ number_of dir)

@@ -9,8 +9,8 @@ ghost use Rattle.sgm_strip.specs.Parcels.{ParcelParts};
 ghost use Rattle.sgm_strip.specs.Fronts.{FrontParts};
 ghost use Rattle.sgm_strip.specs.Strips.{AreComplete, AreStrips};
 ghost use Rattle.sgm_board.specs.Settled.{AreSettled};
-ghost use Rattle.sgm_work.specs.Finished.{AreFinished, CanFinish, GoesOnBy, HasVisitedAll};
-ghost use Rattle.sgm_work.specs.Left.{IsDoneFirst, KeepsOthers};
+ghost use Rattle.sgm_work.specs.Finished.{AreFinished, CanFinish, GoesOnBy};
+ghost use Rattle.sgm_work.specs.Left.{IsDoneFirst, IsFinished, KeepsOthers};
 
 use sgm_strip::{Front, Parcel, Row, pass};
 
@@ -26,10 +26,7 @@ fn finish_front(parcels: &mut [Parcel], front: &mut Front, spare: &mut Row)
     ensures strips { AreStrips front.old.scene front.old.cut parcels.new }
     ensures done { IsDoneFirst front.old.dir front.old.cut.strips front.old.cut.strips parcels.new }
     ensures others { KeepsOthers front.old.dir parcels.old parcels.new }
-    ensures front { (front.new.scene ≡ front.old.scene) × (front.new.cut ≡ front.old.cut)
-        × (front.new.dir ≡ front.old.dir) }
-    ensures visited { HasVisitedAll front.old.cut front.new }
-    ensures goes_on { GoesOnBy 16 front.old front.new }
+    ensures front { IsFinished front.old front.new }
     ensures spare { spare.new ≡ spare.old }
 {
     let dir = front.dir();

@@ -5,11 +5,13 @@
 mod finishing;
 mod gate;
 mod matching;
+mod places;
 mod scanning;
 mod working;
 
 pub use finishing::{CALLER, finish};
 pub use gate::{Came, Gate, OpenGate, come};
 pub use matching::{Matched, match_all};
+pub use places::empty_places;
 pub use scanning::scan;
 pub use working::work;

@@ -1,8 +1,8 @@
 //! One worker and the strips.
-ghost use Rattle.std.specs.Prelude.{◌≡◌, ◌+◌, ◌<◌, ◌≤◌, false, Some, None};
+ghost use Rattle.std.specs.Prelude.{◌≡◌, ◌+◌, ◌<◌, ◌≤◌, false, Some};
 ghost use Rattle.sgm_energy.specs.Dirs.{front_of, is_level};
 ghost use Rattle.sgm_strip.specs.Scenes.{row_length};
-ghost use Rattle.sgm_board.specs.Boards.{parts_of, scene_of, strips_of, IsPassOf, IsIdle, IsHeld};
+ghost use Rattle.sgm_board.specs.Boards.{parts_of, scene_of, strips_of, IsIdlePassOf, HoldsOnly};
 ghost use Rattle.sgm_work.specs.Tries.{HasTried, HasTriedFirst, HasVisited};
 ghost use Rattle.sgm_work.specs.Worked.{IsSamePass, LooksMore, TriesWhatItClaims};
 
@@ -36,17 +36,12 @@ fn hand_on<G>(
     dir: Dir,
     came: &Came<G>,
 ) -> u32
-    requires worker { came.now.worker ≡ (parts_of pass.old).number }
-    requires strip { came.now.task ≡ parcel.old.strip }
-    requires own { IsPassOf board.now pass.old }
-    requires bare { (parts_of pass.old).front ≡ None }
-    requires parcel { IsHeld board.now (parts_of pass.old) parcel.old }
+    requires came { (came.now.worker ≡ (parts_of pass.old).number)
+        × (came.now.task ≡ parcel.old.strip) }
+    requires holds { HoldsOnly board.now pass.old parcel.old }
     requires spare { spare.old ≡ row_length (scene_of board.now) }
     requires across { is_level dir ≡ false }
-    ensures own { IsPassOf board.now pass.new }
-    ensures bare { (parts_of pass.new).front ≡ None }
-    ensures parcel { IsHeld board.now (parts_of pass.new) parcel.new }
-    ensures strip { parcel.new.strip ≡ parcel.old.strip }
+    ensures holds { HoldsOnly board.now pass.new parcel.new }
     ensures spare { spare.new ≡ spare.old }
     ensures few { result ≤ 1 }
     ensures tried { HasTried parcel.old.strip dir result (parts_of pass.old) (parts_of pass.new) }
@@ -67,12 +62,9 @@ fn serve<G: Gate>(
     spare: &mut Row,
     gate: &G,
 ) -> u32
-    requires own { IsPassOf board.now pass.old }
-    requires bare { (parts_of pass.old).front ≡ None }
-    requires parcel { IsHeld board.now (parts_of pass.old) parcel }
+    requires holds { HoldsOnly board.now pass.old parcel }
     requires spare { spare.old ≡ row_length (scene_of board.now) }
-    ensures own { IsPassOf board.now pass.new }
-    ensures idle { IsIdle (parts_of pass.new) }
+    ensures idle { IsIdlePassOf board.now pass.new }
     ensures spare { spare.new ≡ spare.old }
     ensures few { result ≤ 6 }
     ensures tried { HasTriedFirst parcel.strip 6 result (parts_of pass.old) (parts_of pass.new) }
@@ -88,12 +80,10 @@ fn serve<G: Gate>(
 
 /// Tries to claim a strip, and each direction at it if it is claimed.
 fn visit<G: Gate>(board: &Board, pass: &mut Pass, spare: &mut Row, strip: u32, gate: &G) -> u32
-    requires own { IsPassOf board.now pass.old }
-    requires idle { IsIdle (parts_of pass.old) }
+    requires idle { IsIdlePassOf board.now pass.old }
     requires spare { spare.old ≡ row_length (scene_of board.now) }
     requires strip { strip < strips_of board.now }
-    ensures own { IsPassOf board.now pass.new }
-    ensures idle { IsIdle (parts_of pass.new) }
+    ensures idle { IsIdlePassOf board.now pass.new }
     ensures spare { spare.new ≡ spare.old }
     ensures few { result ≤ 6 }
     ensures visited { HasVisited strip result (parts_of pass.old) (parts_of pass.new) }
@@ -109,11 +99,9 @@ fn visit<G: Gate>(board: &Board, pass: &mut Pass, spare: &mut Row, strip: u32, g
 /// the strip back. Answers how many fronts it passed on. What `spare`, which has room for a row,
 /// holds does not matter. Takes no memory.
 pub fn scan<G: Gate>(board: &Board, pass: &mut Pass, spare: &mut Row, gate: &G) -> u32
-    requires own { IsPassOf board.now pass.old }
-    requires idle { IsIdle (parts_of pass.old) }
+    requires idle { IsIdlePassOf board.now pass.old }
     requires spare { spare.old ≡ row_length (scene_of board.now) }
-    ensures own { IsPassOf board.now pass.new }
-    ensures idle { IsIdle (parts_of pass.new) }
+    ensures idle { IsIdlePassOf board.now pass.new }
     ensures spare { spare.new ≡ spare.old }
     ensures same { IsSamePass (parts_of pass.old) (parts_of pass.new) }
     ensures handed { (parts_of pass.new).puts ≡ (parts_of pass.old).puts + result }

@@ -1,7 +1,7 @@
 //! One worker, from its first scan to its last.
 ghost use Rattle.std.specs.Prelude.{◌≡◌, ◌⊎◌, true};
 ghost use Rattle.sgm_strip.specs.Scenes.{row_length};
-ghost use Rattle.sgm_board.specs.Boards.{parts_of, scene_of, strips_of, IsPassOf, IsIdle};
+ghost use Rattle.sgm_board.specs.Boards.{parts_of, scene_of, strips_of, IsIdlePassOf};
 ghost use Rattle.sgm_work.specs.Tries.{HasGlanced};
 ghost use Rattle.sgm_work.specs.Worked.{IsSamePass, LooksMore, SeesAllPassed, TriesWhatItClaims};
 ghost use Rattle.sgm_work.specs.Worked.{most_scans};
@@ -19,10 +19,8 @@ const MORE_SCANS: u64 = 1_048_576;
 /// Whether the pass sees, at one look at each direction's word, that all strips were passed. Looks
 /// no further than the first direction for which they were not.
 fn is_over(board: &Board, pass: &mut Pass) -> bool
-    requires own { IsPassOf board.now pass.old }
-    requires idle { IsIdle (parts_of pass.old) }
-    ensures own { IsPassOf board.now pass.new }
-    ensures idle { IsIdle (parts_of pass.new) }
+    requires idle { IsIdlePassOf board.now pass.old }
+    ensures idle { IsIdlePassOf board.now pass.new }
     ensures glanced { HasGlanced (parts_of pass.old) (parts_of pass.new) }
     ensures over { result ≡ true → SeesAllPassed (strips_of board.now) (parts_of pass.new) }
 {
@@ -39,11 +37,9 @@ fn is_over(board: &Board, pass: &mut Pass) -> bool
 /// scan that passed nothing on. What `spare`, which has room for a row, holds does not matter.
 /// Takes no memory.
 pub fn work<G: Gate>(board: &Board, pass: &mut Pass, spare: &mut Row, gate: &G)
-    requires own { IsPassOf board.now pass.old }
-    requires idle { IsIdle (parts_of pass.old) }
+    requires idle { IsIdlePassOf board.now pass.old }
     requires spare { spare.old ≡ row_length (scene_of board.now) }
-    ensures own { IsPassOf board.now pass.new }
-    ensures idle { IsIdle (parts_of pass.new) }
+    ensures idle { IsIdlePassOf board.now pass.new }
     ensures spare { spare.new ≡ spare.old }
     ensures same { IsSamePass (parts_of pass.old) (parts_of pass.new) }
     ensures tried { TriesWhatItClaims (parts_of pass.old) (parts_of pass.new) }

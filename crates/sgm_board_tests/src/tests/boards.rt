@@ -2,7 +2,7 @@
 //! since each way out of a body is proved to give back all that was made until then.
 ghost use Rattle.std.specs.Prelude.{◌≡◌, ◌<◌};
 ghost use Rattle.sgm_strip.specs.Scenes.{row_length};
-ghost use Rattle.sgm_board.specs.Boards.{parts_of, scene_of, strips_of, IsPassOf, IsIdle};
+ghost use Rattle.sgm_board.specs.Boards.{scene_of, strips_of, IsIdlePassOf};
 
 use super::making::{row_of, scene_of, two_passes};
 use super::sums::are_whole;
@@ -22,8 +22,8 @@ fn go_to_one_at_a_time(
     second: &mut Pass,
     spare: &mut Row,
 ) -> Result<(), Fail>
-    requires first { IsPassOf board.now first.old × IsIdle (parts_of first.old) }
-    requires second { IsPassOf board.now second.old × IsIdle (parts_of second.old) }
+    requires first { IsIdlePassOf board.now first.old }
+    requires second { IsIdlePassOf board.now second.old }
     requires two { 1 < strips_of board.now }
     requires spare { spare.old ≡ row_length (scene_of board.now) }
 {

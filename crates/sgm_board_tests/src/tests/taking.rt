@@ -1,8 +1,8 @@
 //! Two strips: the lower one comes first in the direction Up, and the upper one in the direction
 //! Down.
-ghost use Rattle.std.specs.Prelude.{◌≡◌, ◌<◌, true, None};
+ghost use Rattle.std.specs.Prelude.{◌≡◌, ◌<◌, true};
 ghost use Rattle.sgm_strip.specs.Scenes.{row_length};
-ghost use Rattle.sgm_board.specs.Boards.{parts_of, scene_of, strips_of, IsPassOf, IsIdle, IsHeld};
+ghost use Rattle.sgm_board.specs.Boards.{scene_of, strips_of, HoldsOnly, IsIdlePassOf};
 
 use super::working::hand_on;
 use sgm_board::{Board, Pass};
@@ -12,11 +12,9 @@ use std::test::Fail;
 
 /// Whether a strip isn't given.
 pub(super) fn refuses(board: &Board, pass: &mut Pass, strip: u32) -> bool
-    requires own { IsPassOf board.now pass.old }
-    requires idle { IsIdle (parts_of pass.old) }
+    requires idle { IsIdlePassOf board.now pass.old }
     requires strip { strip < strips_of board.now }
-    ensures own { IsPassOf board.now pass.new }
-    ensures idle { result ≡ true → IsIdle (parts_of pass.new) }
+    ensures idle { result ≡ true → IsIdlePassOf board.now pass.new }
 {
     match board.try_claim(pass, strip) {
         Some(_) => false,
@@ -31,8 +29,7 @@ pub(super) fn lower_strip_goes_first(
     pass: &mut Pass,
     spare: &mut Row,
 ) -> Result<(), Fail>
-    requires own { IsPassOf board.now pass.old }
-    requires idle { IsIdle (parts_of pass.old) }
+    requires idle { IsIdlePassOf board.now pass.old }
     requires two { 1 < strips_of board.now }
     requires spare { spare.old ≡ row_length (scene_of board.now) }
 {
@@ -54,9 +51,7 @@ pub(super) fn upper_strip_goes_second(
     pass: &mut Pass,
     upper: &Parcel,
 ) -> Result<(), Fail>
-    requires own { IsPassOf board.now pass.old }
-    requires bare { (parts_of pass.old).front ≡ None }
-    requires held { IsHeld board.now (parts_of pass.old) upper.now }
+    requires holds { HoldsOnly board.now pass.old upper.now }
 {
     let Some(front) = board.try_take(pass, upper, Dir::Up) else {
         return Err("strip 0 comes second in the direction Up")?;

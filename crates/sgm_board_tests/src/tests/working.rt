@@ -1,11 +1,10 @@
 //! What workers do on a board.
-ghost use Rattle.std.specs.Prelude.{◌≡◌, ◌<◌, ◌||◌, ℕ, true, false, None, IfOk};
+ghost use Rattle.std.specs.Prelude.{◌≡◌, ◌<◌, ◌||◌, ℕ, true, false};
 ghost use Rattle.sgm_energy.specs.Dirs.{is_level};
-ghost use Rattle.sgm_strip.specs.Parcels.{ParcelParts};
 ghost use Rattle.sgm_strip.specs.Scenes.{row_length};
 ghost use Rattle.sgm_board.specs.Settled.{AreSettled};
 ghost use Rattle.sgm_board.specs.Boards.{parts_of, scene_of, cut_of, passes_of, strips_of};
-ghost use Rattle.sgm_board.specs.Boards.{IsPassOf, IsIdle, IsHeld};
+ghost use Rattle.sgm_board.specs.Boards.{HoldsOnly, IsIdlePassOf};
 
 use super::making::dir_of;
 use sgm_board::{Board, Pass};
@@ -21,14 +20,10 @@ pub(super) fn hand_on(
     spare: &mut Row,
     dir: Dir,
 ) -> bool
-    requires own { IsPassOf board.now pass.old }
-    requires bare { (parts_of pass.old).front ≡ None }
-    requires held { IsHeld board.now (parts_of pass.old) parcel.old }
+    requires holds { HoldsOnly board.now pass.old parcel.old }
     requires spare { spare.old ≡ row_length (scene_of board.now) }
     requires across { is_level dir ≡ false }
-    ensures own { IsPassOf board.now pass.new }
-    ensures bare { (parts_of pass.new).front ≡ None }
-    ensures held { IsHeld board.now (parts_of pass.new) parcel.new }
+    ensures holds { HoldsOnly board.now pass.new parcel.new }
     ensures spare { spare.new ≡ spare.old }
     ensures gathered { (parts_of pass.new).gathered ≡ (parts_of pass.old).gathered }
 {
@@ -43,10 +38,8 @@ pub(super) fn hand_on(
 
 /// Whether the pass sees that a front has passed all strips.
 fn has_passed(board: &Board, pass: &mut Pass, number: usize) -> bool
-    requires own { IsPassOf board.now pass.old }
-    requires idle { IsIdle (parts_of pass.old) }
-    ensures own { IsPassOf board.now pass.new }
-    ensures idle { IsIdle (parts_of pass.new) }
+    requires idle { IsIdlePassOf board.now pass.old }
+    ensures idle { IsIdlePassOf board.now pass.new }
     ensures gathered { (parts_of pass.new).gathered ≡ (parts_of pass.old).gathered }
 {
     match dir_of(number) {
@@ -57,10 +50,8 @@ fn has_passed(board: &Board, pass: &mut Pass, number: usize) -> bool
 
 /// Whether the pass sees that each front has passed all strips.
 fn is_over(board: &Board, pass: &mut Pass) -> bool
-    requires own { IsPassOf board.now pass.old }
-    requires idle { IsIdle (parts_of pass.old) }
-    ensures own { IsPassOf board.now pass.new }
-    ensures idle { IsIdle (parts_of pass.new) }
+    requires idle { IsIdlePassOf board.now pass.old }
+    ensures idle { IsIdlePassOf board.now pass.new }
     ensures gathered { (parts_of pass.new).gathered ≡ (parts_of pass.old).gathered }
 {
     for number in 0..6 {
@@ -73,13 +64,9 @@ fn is_over(board: &Board, pass: &mut Pass) -> bool
 
 /// Tries the front of this number once, and passes it on if it comes.
 fn try_front(board: &Board, pass: &mut Pass, parcel: &mut Parcel, spare: &mut Row, number: usize)
-    requires own { IsPassOf board.now pass.old }
-    requires bare { (parts_of pass.old).front ≡ None }
-    requires held { IsHeld board.now (parts_of pass.old) parcel.old }
+    requires holds { HoldsOnly board.now pass.old parcel.old }
     requires spare { spare.old ≡ row_length (scene_of board.now) }
-    ensures own { IsPassOf board.now pass.new }
-    ensures bare { (parts_of pass.new).front ≡ None }
-    ensures held { IsHeld board.now (parts_of pass.new) parcel.new }
+    ensures holds { HoldsOnly board.now pass.new parcel.new }
     ensures spare { spare.new ≡ spare.old }
     ensures gathered { (parts_of pass.new).gathered ≡ (parts_of pass.old).gathered }
 {
@@ -93,12 +80,9 @@ fn try_front(board: &Board, pass: &mut Pass, parcel: &mut Parcel, spare: &mut Ro
 
 /// Tries each front once at the strip held, and gives the strip back.
 fn serve(board: &Board, pass: &mut Pass, mut parcel: Parcel, spare: &mut Row)
-    requires own { IsPassOf board.now pass.old }
-    requires bare { (parts_of pass.old).front ≡ None }
-    requires held { IsHeld board.now (parts_of pass.old) parcel }
+    requires holds { HoldsOnly board.now pass.old parcel }
     requires spare { spare.old ≡ row_length (scene_of board.now) }
-    ensures own { IsPassOf board.now pass.new }
-    ensures idle { IsIdle (parts_of pass.new) }
+    ensures idle { IsIdlePassOf board.now pass.new }
     ensures spare { spare.new ≡ spare.old }
     ensures gathered { (parts_of pass.new).gathered ≡ (parts_of pass.old).gathered }
 {
@@ -110,12 +94,10 @@ fn serve(board: &Board, pass: &mut Pass, mut parcel: Parcel, spare: &mut Row)
 
 /// Tries to claim a strip, and each front at it if it is claimed.
 fn visit(board: &Board, pass: &mut Pass, spare: &mut Row, strip: u32)
-    requires own { IsPassOf board.now pass.old }
-    requires idle { IsIdle (parts_of pass.old) }
+    requires idle { IsIdlePassOf board.now pass.old }
     requires spare { spare.old ≡ row_length (scene_of board.now) }
     requires strip { strip < strips_of board.now }
-    ensures own { IsPassOf board.now pass.new }
-    ensures idle { IsIdle (parts_of pass.new) }
+    ensures idle { IsIdlePassOf board.now pass.new }
     ensures spare { spare.new ≡ spare.old }
     ensures gathered { (parts_of pass.new).gathered ≡ (parts_of pass.old).gathered }
 {
@@ -127,11 +109,9 @@ fn visit(board: &Board, pass: &mut Pass, spare: &mut Row, strip: u32)
 
 /// Tries to claim each strip once.
 fn go_round(board: &Board, pass: &mut Pass, spare: &mut Row)
-    requires own { IsPassOf board.now pass.old }
-    requires idle { IsIdle (parts_of pass.old) }
+    requires idle { IsIdlePassOf board.now pass.old }
     requires spare { spare.old ≡ row_length (scene_of board.now) }
-    ensures own { IsPassOf board.now pass.new }
-    ensures idle { IsIdle (parts_of pass.new) }
+    ensures idle { IsIdlePassOf board.now pass.new }
     ensures spare { spare.new ≡ spare.old }
     ensures gathered { (parts_of pass.new).gathered ≡ (parts_of pass.old).gathered }
 {
@@ -143,11 +123,9 @@ fn go_round(board: &Board, pass: &mut Pass, spare: &mut Row)
 /// Goes round until all fronts have passed all strips; of three strips it tries to claim one at
 /// most a million times.
 fn work(board: &Board, mut pass: Pass, mut spare: Row) -> Pass
-    requires own { IsPassOf board.now pass }
-    requires idle { IsIdle (parts_of pass) }
+    requires idle { IsIdlePassOf board.now pass }
     requires spare { spare ≡ row_length (scene_of board.now) }
-    ensures own { IsPassOf board.now result }
-    ensures idle { IsIdle (parts_of result) }
+    ensures idle { IsIdlePassOf board.now result }
     ensures gathered { (parts_of result).gathered ≡ (parts_of pass).gathered }
 {
     for _ in 0..333_333 {
@@ -167,10 +145,8 @@ pub(super) fn work_both<R: Threads + Sync>(
     first: (Pass, Row),
     second: (Pass, Row),
 ) -> (Vec<Parcel>, Vec<Front>)
-    requires first { IsPassOf board first.0 × IsIdle (parts_of first.0)
-        × (first.1 ≡ row_length (scene_of board)) }
-    requires second { IsPassOf board second.0 × IsIdle (parts_of second.0)
-        × (second.1 ≡ row_length (scene_of board)) }
+    requires first { IsIdlePassOf board first.0 × (first.1 ≡ row_length (scene_of board)) }
+    requires second { IsIdlePassOf board second.0 × (second.1 ≡ row_length (scene_of board)) }
     requires all { (k : ℕ) → k < passes_of board
         → ((parts_of first.0).gathered k || (parts_of second.0).gathered k) ≡ true }
     ensures { AreSettled (scene_of board) (cut_of board) result.0.items result.1.items }
@@ -181,16 +157,15 @@ pub(super) fn work_both<R: Threads + Sync>(
     let (mut one, other) = join(
         rt,
         move || -> Pass
-            requires { IsPassOf shared.now one × IsIdle (parts_of one)
-                × (spare ≡ row_length (scene_of shared.now)) }
-            ensures own { IsPassOf shared.entry.now result × IsIdle (parts_of result) }
-            ensures same { (parts_of result).gathered ≡ (parts_of one).gathered }
+            requires { IsIdlePassOf shared.now one × (spare ≡ row_length (scene_of shared.now)) }
+            ensures { IsIdlePassOf shared.entry.now result
+                × ((parts_of result).gathered ≡ (parts_of one).gathered) }
         { work(shared, one, spare) },
         move || -> Pass
-            requires { IsPassOf shared.now other × IsIdle (parts_of other)
+            requires { IsIdlePassOf shared.now other
                 × (other_spare ≡ row_length (scene_of shared.now)) }
-            ensures own { IsPassOf shared.entry.now result × IsIdle (parts_of result) }
-            ensures same { (parts_of result).gathered ≡ (parts_of other).gathered }
+            ensures { IsIdlePassOf shared.entry.now result
+                × ((parts_of result).gathered ≡ (parts_of other).gathered) }
         { work(shared, other, other_spare) },
     );
     board.join(&mut one, other);

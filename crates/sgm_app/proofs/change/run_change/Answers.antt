@@ -55,8 +55,7 @@ returns-in-Ok-name_change g c =
     (λ t. files (change_files_of asked.out t) t.summary) (change_texts_in c.in-Ok-change_texts.texts) calls
     (c.in-Ok.ensures.verdict told _ (none_changed 6 (omega arith) asked held))
     (read ∙ c.in-Ok-change_texts.ensures)))
-    names.ensures.named ends.shown ends.files ends.out ends.untouched ends.writing ends.unfinished ends.finished
-    ends.counts
+    names.ensures.named ends.ends ends.files ends.out ends.writing ends.unfinished ends.finished ends.counts
 
 pub returns : goal.returns
 returns g c =

@@ -1,9 +1,10 @@
 use Rattle.std.proofs.Common.{◌∙◌, ap, sym, refl, [], List, ℕ, Result}
 use Rattle.sgm_outcome.specs.declared.outcome.Refusal.{Refusal}
+use Rattle.sgm_app.specs.Stops.{texts_outcome}
 use Rattle.sgm_app.specs.Verdict.{demo_for, files, unless_refused}
 use Rattle.sgm_app.proofs.Delivering.{out_along}
+use Rattle.sgm_app.proofs.Early.{early_out, texts_early}
 use Rattle.sgm_app.proofs.Steps.{shown_along, stop_shown}
-use Rattle.sgm_app.proofs.Stopping.{texts_out, texts_untouched}
 use Rattle.sgm_app.proofs.demo.run_demo.Goals as goal
 
 pub returns-in-Ok-clause-cause : goal.returns-in-Ok-clause-cause
@@ -25,7 +26,5 @@ returns-in-Err-clause-cause g c =
     rw c.outcome.ensures (stop_shown (demo_for c.args.number c.args.refine) (λ s. files [] s) c.in-Err.stop c.in-Err.ensures)
 
 pub returns-in-Err-clause-out : goal.returns-in-Err-clause-out
-returns-in-Err-clause-out g c = λ told. rw c.outcome.ensures (texts_out c.in-Err.stop _ _ _ refl)
-
-pub returns-in-Err-clause-untouched : goal.returns-in-Err-clause-untouched
-returns-in-Err-clause-untouched g c = λ told. rw c.outcome.ensures (texts_untouched c.in-Err.stop _ _ refl)
+returns-in-Err-clause-out g c = λ told.
+    rw c.outcome.ensures (early_out (texts_outcome c.in-Err.stop) _ _ _ (texts_early c.in-Err.stop) refl)

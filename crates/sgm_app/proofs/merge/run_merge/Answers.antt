@@ -85,8 +85,8 @@ returns-in-Ok-name_merge g c =
     ∙ c.in-Ok-plan_merge.ensures.plan (calib_named asked.calib calls.calib)
     (calib_at asked held v _ _ calls at c.calib.ensures))
     (c.in-Ok.ensures.keeps.held told) (c.in-Ok-merge_entries.ensures.texts told asked.out)))
-    (names.ensures.named listed) ends.shown ends.files ends.out ends.untouched ends.writing ends.unfinished
-    ends.finished ends.counts
+    (names.ensures.named listed) ends.ends ends.files ends.out ends.writing ends.unfinished ends.finished
+    ends.counts
 
 pub returns : goal.returns
 returns g c =

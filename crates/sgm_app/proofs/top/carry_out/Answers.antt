@@ -9,7 +9,7 @@ use Rattle.sgm_app.specs.Moments.{moment, told_at}
 use Rattle.sgm_app.specs.RunEnds.{RunEnds}
 use Rattle.sgm_app.specs.Verdict.{demoed}
 use Rattle.sgm_app.proofs.Completing.{demo_outputs, out_counts, summary_alone}
-use Rattle.sgm_app.proofs.Delivering.{out_along}
+use Rattle.sgm_app.proofs.Delivering.{out_along, untouched_by}
 use Rattle.sgm_app.proofs.Ending.{ends_alone}
 use Rattle.sgm_app.proofs.Steps.{shown_along}
 use Rattle.sgm_app.proofs.WordsEnding.{read_so, words_end, words_fault}
@@ -41,7 +41,8 @@ returns-in-Demo g c =
     (summary_alone c.run_demo.result _ _ counts)
     (λ told v calls. shown_along v _ c.run_demo.result (sym calls) ends.cause)
     (λ told told_out v calls. out_along c.run_demo.result v _ _ _ calls (ends.out told_out))
-    ends.untouched (out_counts of_none c.run_demo.result _ _ counts))
+    (λ told. untouched_by c.run_demo.result _ _ _ (ends.out told))
+    (out_counts of_none c.run_demo.result _ _ counts))
 
 pub returns-in-Trace : goal.returns-in-Trace
 returns-in-Trace g c =

@@ -1,4 +1,3 @@
-use Rattle.sgm_app.specs.Moments.{moment}
 use Rattle.sgm_app.proofs.Completing.{distinct_verdict, completes_run, is_told, no_file_fault, usage_by}
 use Rattle.sgm_app.proofs.Holding.{stand}
 use Rattle.sgm_app.proofs.WordsEnding.{end_called, end_counts, end_unfinished, end_untouched, end_writing}

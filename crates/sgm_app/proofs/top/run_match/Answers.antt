@@ -41,8 +41,7 @@ returns-in-Ok-name_texts g c =
     (λ told v calls. delivered _ _ _ _ v names.ensures.files names.ensures.summary
     (sym (made_is asked c.args.refine _ v c.in-Ok.inputs (Ok c.in-Ok-texts.texts) calls
     (c.in-Ok.ensures.verdict told) (c.in-Ok.ensures.at_hand told) made)))
-    names.ensures.named ends.shown ends.files ends.out ends.untouched ends.writing ends.unfinished ends.finished
-    ends.counts
+    names.ensures.named ends.ends ends.files ends.out ends.writing ends.unfinished ends.finished ends.counts
 
 pub returns : goal.returns
 returns g c =

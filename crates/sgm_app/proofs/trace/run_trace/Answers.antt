@@ -4,7 +4,7 @@ use Rattle.sgm_app.specs.Certificates.{certificate_for}
 use Rattle.sgm_app.specs.Verdict.{files, calib_of}
 use Rattle.sgm_app.proofs.Completing.{out_counts, summary_alone, trace_outputs}
 use Rattle.sgm_app.proofs.Counting.{counts_since}
-use Rattle.sgm_app.proofs.Delivering.{settled, out_along}
+use Rattle.sgm_app.proofs.Delivering.{settled, out_along, untouched_by}
 use Rattle.sgm_app.proofs.Ending.{ends_alone, ends_textless, ends_unfetched, unchanged, uncounted}
 use Rattle.sgm_app.proofs.Reading.{image_reads, calib_reads}
 use Rattle.sgm_app.proofs.Steps.{shown_along, stop_shown}
@@ -58,7 +58,7 @@ returns-in-Ok-certificate-clause-ends g c =
     (image_reads _ _ _ r.right at.right c.right.ensures are.right)
     (calib_reads asked _ r c.in-Ok.inputs _ at are c.calib.ensures)))
     (ends.out told_out))
-    ends.untouched
+    (λ told. untouched_by c.deliver_summary.result _ _ _ (ends.out told))
     (counts_since (of_trace asked) c.deliver_summary.result _ _ _ _ _ _ given
     (out_counts (of_trace asked) c.deliver_summary.result _ _ counts))
 

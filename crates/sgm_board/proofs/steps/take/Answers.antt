@@ -37,8 +37,4 @@ returns-clause-front c =
     let abouts : g.2 ≡ about_of c.args.shown.now.key = cc in
     let half : 2 * g.1 ≡ 2 * c.from-due.result = g.5 ∙ c.if-found-due.false in
     let visits : g.1 ≡ position_of d c.args.strip c.args.strips = (let q : g.1 ≡ c.from-due.result = omega arith in q) ∙ (c.from-due.ensures ∙ c.position.ensures) in
-    subst (λ (z : About × ℕ × FrontParts). IsFrontAt z.0 d z.1 z.2) (λ i. (abouts i, visits i, same i)) g.4
-
-pub returns-clause-left : goal.returns-clause-left
-returns-clause-left c =
-    let g = (c.compare_exchange-found.ensures.2 c.args.strip c.args.dir c.requires.holds.0 c.requires.dir c.word_of-word.ensures.word).0 c.if-found-due.false in g.6
+    (subst (λ (z : About × ℕ × FrontParts). IsFrontAt z.0 d z.1 z.2) (λ i. (abouts i, visits i, same i)) g.4, g.6)

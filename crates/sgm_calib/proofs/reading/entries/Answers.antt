@@ -12,6 +12,7 @@ invariant_of-result c = record {
   gridding_kept = c.gridding.ensures.kept;
   grid_has_camera = grid_has_camera (view c.args.top.now) c.in_ok-grid.grid c.in_ok-camera.camera c.in_ok-grid.ensures.value c.in_ok-camera.ensures.asked;
   regions_have_grid = given-map _ c.in_ok-grid.grid c.in_ok-regions.regions c.in_ok-regions.ensures.given;
-  regions_inside = inside-map _ c.in_ok-grid.grid c.in_ok-regions.regions c.in_ok-regions.ensures.inside;
-  regions_few = few-map _ 1000 c.in_ok-regions.regions c.in_ok-regions.ensures.few;
+  regions_inside = inside-map _ c.in_ok-grid.grid c.in_ok-regions.regions c.in_ok-regions.ensures.kept;
+  regions_few = few-map _ c.in_ok-grid.grid c.in_ok-regions.regions c.in_ok-regions.ensures.given
+      c.in_ok-regions.ensures.kept;
 }

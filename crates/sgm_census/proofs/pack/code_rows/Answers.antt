@@ -15,12 +15,16 @@ use Rattle.sgm_census.proofs.pack.code_rows.Goals as goal
 in_range : (inside window : WindowSides) → inside ≡ window → IsWindow inside.width inside.height → IsWindow window.width window.height
 in_range inside window e w = subst (λ (v : WindowSides). IsWindow v.width v.height) e w
 
-pub returns-then-width-across-clause-each : goal.returns-then-width-across-clause-each
-returns-then-width-across-clause-each c =
+pub returns-then-width-across : goal.returns-then-width-across
+returns-then-width-across c =
     let range = in_range record { width = c.window.inside.width; height = c.window.inside.height } c.args.window c.window.view_is c.window.invariant in
     let wide : c.window.inside.width ≡ c.args.window.width = ap (λ (s : WindowSides). s.width) c.window.view_is in
     let width = c.requires.holds.width_is in
-    rows_narrow c.args.plane.now c.args.window c.args.words.now c.args.present.now range (omega arith) c.requires.none
+    record {
+      each = rows_narrow c.args.plane.now c.args.window c.args.words.now c.args.present.now range
+          (omega arith) c.requires.none;
+      within = c.requires.within;
+    }
 
 pub loop-y-init : goal.loop-y-init
 loop-y-init c =
@@ -117,13 +121,14 @@ loop-y-preserved c =
     (word_is i inside) marked)
     c.loop-y.invariant
 
-pub returns-clause-each : goal.returns-clause-each
-returns-clause-each c =
+pub returns : goal.returns
+returns c =
     let plane = c.args.plane.now in
     let range = in_range record { width = c.window.inside.width; height = c.window.inside.height } c.args.window c.window.view_is c.window.invariant in
     let height = c.requires.holds.height_is in
     let high : c.window.inside.height ≡ c.args.window.height = ap (λ (s : WindowSides). s.height) c.window.view_is in
-    rows_all plane c.args.window c.loop-y.words c.loop-y.present c.loop-y.y range (omega (arith, c.saturating_sub-y-end.ensures)) c.loop-y.invariant
-
-pub returns-then-width-across-clause-within : goal.returns-then-width-across-clause-within
-returns-then-width-across-clause-within c = c.requires.within
+    record {
+      each = rows_all plane c.args.window c.loop-y.words c.loop-y.present c.loop-y.y range
+          (omega (arith, c.saturating_sub-y-end.ensures)) c.loop-y.invariant;
+      within = c.loop-y.invariant.within;
+    }

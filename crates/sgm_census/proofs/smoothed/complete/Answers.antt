@@ -33,3 +33,12 @@ loop-x-preserved c =
           (completed_kept n width code c.args.words.now c.args.present.now c.loop-x.words c.loop-x.present x c.loop-x.invariant inside
           (ap (λ i. get_or c.loop-x.present i false) (sym place) ∙ w.if-not-present-place.false) c.requires.marked))
     ]
+
+pub returns : goal.returns
+returns c =
+    record {
+      each = λ x h.
+          c.loop-x.invariant.done x h
+          (omega (arith, h, c.requires.middles_length, c.loop-x-test.false));
+      within = c.loop-x.invariant.within;
+    }

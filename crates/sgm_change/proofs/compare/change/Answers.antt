@@ -1,4 +1,4 @@
-use Rattle.std.proofs.Common.{◌≡◌, ℕ, ◌<◌, ◌≤◌, ◌+◌, ◌-◌, ◌*◌, length, take, ap, sym, subst, ◌∙◌, arith, to_z, of_z, w64, ℤ}
+use Rattle.std.proofs.Common.{◌≡◌, ℕ, ◌≤◌, ◌+◌, ◌-◌, ◌*◌, length, take, ap, sym, subst, ◌∙◌, arith, to_z, of_z, w64, ℤ}
 use Rattle.std.proofs.lemmas.Nat.{mul-le}
 use Rattle.std.proofs.lemmas.Int.{ints}
 use Rattle.sgm_grid.specs.declared.grid_spec.GridSpec.{GridSpec}

@@ -1,8 +1,7 @@
-use Rattle.std.proofs.Common.{◌≢◌, ◌≡◌, ◌++◌, ℕ, List, [], ◌∷◌, ap, ◌∙◌, codes, refl}
-use Rattle.csv.specs.Writing.{default_writer, fields_text, is_blank, row_text, writer_setup}
+use Rattle.std.proofs.Common.{◌≢◌, ◌++◌, ℕ, List, ap, ◌∙◌}
+use Rattle.csv.specs.Writing.{row_text, writer_setup}
 use Rattle.csv.specs.declared.writer.QuoteStyle.TheVariants as style
 use Rattle.csv.specs.declared.writer.WriterBuilder.{WriterBuilder}
-use Rattle.sgm_text.specs.Texts.{line}
 use Rattle.sgm_report.specs.Writers.{text_of}
 use Rattle.sgm_report.proofs.Plain.{on_ok}
 use Rattle.sgm_change.proofs.Names.{names, names_are}

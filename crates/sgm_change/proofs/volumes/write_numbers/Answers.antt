@@ -4,8 +4,7 @@ use mir.Syntax.{w128}
 use Rattle.csv.specs.Writing.{default_writer, row_text, writer_setup}
 use Rattle.csv.specs.declared.writer.QuoteStyle.TheVariants as style
 use Rattle.csv.specs.declared.writer.WriterBuilder.{WriterBuilder}
-use Rattle.sgm_report.specs.Table.{fields_line}
-use Rattle.sgm_report.specs.Writers.{IsPlain, text_of}
+use Rattle.sgm_report.specs.Writers.{text_of}
 use Rattle.sgm_report.proofs.Plain.{count_plain, on_ok, row_is}
 use Rattle.sgm_change.specs.Texts.{volumes_of}
 use Rattle.sgm_change.proofs.volumes.write_numbers.Goals as goal

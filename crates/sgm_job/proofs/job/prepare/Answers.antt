@@ -1,7 +1,6 @@
-use Rattle.std.proofs.Common.{◌∙◌, sym}
 use Rattle.sgm_job.specs.Answers.{matched_in}
 use Rattle.sgm_job.proofs.Surveying.{matched_is}
-use Rattle.sgm_job.proofs.Passing.{passes, sides_are, fault_prepared, scene_prepared, left_faultless, right_faultless, one_size}
+use Rattle.sgm_job.proofs.Passing.{images_pass, sides_are, fault_prepared, scene_prepared}
 use Rattle.sgm_job.proofs.job.prepare.Goals as goal
 
 pub returns-in-Some : goal.returns-in-Some
@@ -10,24 +9,12 @@ returns-in-Some c =
     let right = sides_are c.size-2.result c.args.right.now c.size-2.ensures.width c.size-2.ensures.height in
     fault_prepared c.args.left.now c.args.right.now c.args.calib.now c.size.result c.size-2.result c.in-Some.fault left right c.in-Some.ensures
 
-pub prepare_each-requires-clause-left : goal.prepare_each-requires-clause-left
-prepare_each-requires-clause-left c =
-    let left = sides_are c.size.result c.args.left.now c.size.ensures.width c.size.ensures.height in
-    left_faultless c.args.left.now c.args.calib.now c.size.result c.size-2.result left
-    (passes c.size.result c.size-2.result c.args.calib.now (sym c.in_default.ensures))
-
-pub prepare_each-requires-clause-right : goal.prepare_each-requires-clause-right
-prepare_each-requires-clause-right c =
-    let right = sides_are c.size-2.result c.args.right.now c.size-2.ensures.width c.size-2.ensures.height in
-    right_faultless c.args.right.now c.args.calib.now c.size.result c.size-2.result right
-    (passes c.size.result c.size-2.result c.args.calib.now (sym c.in_default.ensures))
-
-pub prepare_each-requires-clause-same : goal.prepare_each-requires-clause-same
-prepare_each-requires-clause-same c =
+pub prepare_each-requires : goal.prepare_each-requires
+prepare_each-requires c =
     let left = sides_are c.size.result c.args.left.now c.size.ensures.width c.size.ensures.height in
     let right = sides_are c.size-2.result c.args.right.now c.size-2.ensures.width c.size-2.ensures.height in
-    one_size c.args.left.now c.args.right.now c.size.result c.size-2.result c.args.calib.now left right
-    (passes c.size.result c.size-2.result c.args.calib.now (sym c.in_default.ensures))
+    images_pass c.args.left.now c.args.right.now c.args.calib.now c.size.result c.size-2.result left right
+    c.in_default.ensures
 
 pub returns : goal.returns
 returns c =

@@ -1,6 +1,6 @@
-use Rattle.std.proofs.Common.{◌∙◌, sym}
+use Rattle.std.proofs.Common.{◌∙◌}
 use Rattle.sgm_job.proofs.Surveying.{map_is, map_of_codes}
-use Rattle.sgm_job.proofs.Passing.{passes, sides_are, fault_answered, survey_answered, survey_is, left_faultless, right_faultless, one_size}
+use Rattle.sgm_job.proofs.Passing.{images_pass, sides_are, fault_answered, survey_answered, survey_is}
 use Rattle.sgm_job.proofs.job.survey_refined.Goals as goal
 
 pub returns-in-Some-clause-exact : goal.returns-in-Some-clause-exact
@@ -9,24 +9,12 @@ returns-in-Some-clause-exact g c =
     let right = sides_are c.size-2.result c.args.right.now c.size-2.ensures.width c.size-2.ensures.height in
     fault_answered c.args.left.now c.args.right.now c.args.calib.now c.args.refine c.size.result c.size-2.result c.in-Some.fault left right c.in-Some.ensures
 
-pub prepare_both-requires-clause-left : goal.prepare_both-requires-clause-left
-prepare_both-requires-clause-left g c =
-    let left = sides_are c.size.result c.args.left.now c.size.ensures.width c.size.ensures.height in
-    left_faultless c.args.left.now c.args.calib.now c.size.result c.size-2.result left
-    (passes c.size.result c.size-2.result c.args.calib.now (sym c.in_default.ensures))
-
-pub prepare_both-requires-clause-right : goal.prepare_both-requires-clause-right
-prepare_both-requires-clause-right g c =
-    let right = sides_are c.size-2.result c.args.right.now c.size-2.ensures.width c.size-2.ensures.height in
-    right_faultless c.args.right.now c.args.calib.now c.size.result c.size-2.result right
-    (passes c.size.result c.size-2.result c.args.calib.now (sym c.in_default.ensures))
-
-pub prepare_both-requires-clause-same : goal.prepare_both-requires-clause-same
-prepare_both-requires-clause-same g c =
+pub prepare_both-requires : goal.prepare_both-requires
+prepare_both-requires g c =
     let left = sides_are c.size.result c.args.left.now c.size.ensures.width c.size.ensures.height in
     let right = sides_are c.size-2.result c.args.right.now c.size-2.ensures.width c.size-2.ensures.height in
-    one_size c.args.left.now c.args.right.now c.size.result c.size-2.result c.args.calib.now left right
-    (passes c.size.result c.size-2.result c.args.calib.now (sym c.in_default.ensures))
+    images_pass c.args.left.now c.args.right.now c.args.calib.now c.size.result c.size-2.result left right
+    c.in_default.ensures
 
 pub returns-clause-exact : goal.returns-clause-exact
 returns-clause-exact g c =

@@ -3,7 +3,7 @@ use Rattle.std.specs.Prelude.{All, IfSome, option_and_then}
 use Rattle.std.proofs.lemmas.List.Elements.{All-get_or, All-push}
 use Rattle.sgm_base.specs.declared.point.Point.{Point}
 use Rattle.sgm_grid.specs.declared.placed.Placed.{Placed}
-use Rattle.sgm_grid.specs.Placing.{IsPlaced, placed}
+use Rattle.sgm_grid.specs.Placing.{IsPlaced}
 use Rattle.sgm_job.specs.Heights.{point_at}
 use Rattle.sgm_job.proofs.Places.{few_more, place_none, place_some, places_below}
 use Rattle.sgm_job.proofs.placing.place_row.Goals as goal

@@ -1,7 +1,7 @@
-use Rattle.std.proofs.Common.{◌≡◌, ℕ, ◌+◌, ◌-◌, ◌<◌, ◌≤◌, slice_index, length, arith}
+use Rattle.std.proofs.Common.{◌≡◌, ℕ, ◌+◌, ◌-◌, ◌∙◌, ap, slice_index, length, drop, arith}
 use Rattle.sgm_energy.specs.Pens.{penalties_of}
 use Rattle.sgm_path.specs.Paths.{Follows}
-use Rattle.sgm_path.proofs.Follow.{follows_le, mid_at, mid_was, pixel_follows}
+use Rattle.sgm_path.proofs.Follow.{follows_le, mid_at, mid_others, mid_was, pixel_follows}
 use Rattle.sgm_path.proofs.pixel.follow.Goals as goal
 
 pub returns-then-this-ne0-clause-each : goal.returns-then-this-ne0-clause-each
@@ -28,19 +28,29 @@ returns-then-this-ne0-clause-bound g c d h =
       arith,
       follows_le (slice_index c.args.prev.now) row.count p1 c.args.far cost d value f,
       row.low (at + d) 0 (omega (arith, h, c.requires.inside)),
-      c.requires.penalties,
+      c.requires.before.0,
     )
 
 pub returns-then-this-ne0-clause-added : goal.returns-then-this-ne0-clause-added
-returns-then-this-ne0-clause-added g c t d h =
+returns-then-this-ne0-clause-added g c t =
+    let count : ℕ = c.args.row.now.count in
     let sums = c.add_step.new.sums in
-    let long : d < length sums = omega (arith, h, c.add_step.auto.sums, c.split_at_mut-here.ensures.front_len) in
-    omega (
-      arith,
-      mid_at c.split_at_mut-rest.result.0.now sums c.split_at_mut-here.result.1.now c.args.at d c.split_at_mut-rest.ensures.front_len long,
-      c.add_step.ensures.added d long,
-      mid_was c.args.sums.now c.split_at_mut-here.result.0.now c.split_at_mut-rest.result.1.now c.args.at c.args.row.now.count d
-          c.split_at_mut-here.ensures.front c.split_at_mut-rest.ensures.back h,
+    let front = c.split_at_mut-rest.result.0.now in
+    let here = c.split_at_mut-here.result.0.now in
+    let tail = c.split_at_mut-here.result.1.now in
+    let long : length sums ≡ count = omega (arith, c.add_step.auto.sums, c.split_at_mut-here.ensures.front_len) in
+    let at_front = c.split_at_mut-rest.ensures.front_len in (
+      λ k h.
+          mid_others c.args.sums.now front sums tail c.args.at count k
+          c.split_at_mut-rest.ensures.front
+          (c.split_at_mut-here.ensures.back ∙ ap (drop count) c.split_at_mut-rest.ensures.back) at_front long h,
+      λ d h. omega (
+        arith,
+        mid_at front sums tail c.args.at d at_front (omega (arith, h, long)),
+        c.add_step.ensures.added d (omega (arith, h, long)),
+        mid_was c.args.sums.now here c.split_at_mut-rest.result.1.now c.args.at count d
+            c.split_at_mut-here.ensures.front c.split_at_mut-rest.ensures.back h,
+      ),
     )
 
 pub returns-else-this-ne0-clause-each : goal.returns-else-this-ne0-clause-each
@@ -67,5 +77,5 @@ returns-else-this-ne0-clause-bound g c d h =
       arith,
       follows_le (slice_index c.args.prev.now) row.count p1 c.args.far cost d value f,
       row.low (at + d) 0 (omega (arith, h, c.requires.inside)),
-      c.requires.penalties,
+      c.requires.before.0,
     )

@@ -1,4 +1,4 @@
-use Rattle.std.proofs.Common.{ℕ, ◌+◌, ◌*◌, ◌<◌, length, refl, arith}
+use Rattle.std.proofs.Common.{◌+◌, ◌*◌, ◌<◌, length, refl, arith}
 use Rattle.std.proofs.lemmas.Nat.{mul-add-lt}
 use Rattle.sgm_energy.specs.declared.dir.Dir.{Dir}
 use Rattle.sgm_energy.specs.declared.dir.Dir.TheVariants.{Right, Left}
@@ -17,10 +17,10 @@ returns k c g y s f =
       guide_before = c.args.guide.now;
       count = c.args.count;
     } in
-    let right = level_paths g y (terms Right) c.args.into.now c.sweep.new.values s f c.args.pen.ordered (omega (arith, c.requires.count_range))
+    let right = level_paths g y (terms Right) c.args.into.now c.sweep.new.values s f c.args.pen.ordered (omega (arith, c.requires.costs.0))
     (omega (arith, c.sweep.auto.values, c.requires.same_length)) refl
     (follows_of (terms_of c.make-right.result) (terms Right) c.args.into.now c.sweep.new.values c.make-right.ensures c.sweep.ensures.each) in
-    let left = level_paths g y (terms Left) c.args.spare.now c.sweep-2.new.values s f c.args.pen.ordered (omega (arith, c.requires.count_range))
+    let left = level_paths g y (terms Left) c.args.spare.now c.sweep-2.new.values s f c.args.pen.ordered (omega (arith, c.requires.costs.0))
     (omega (arith, c.sweep-2.auto.values, c.requires.spare_length, c.requires.same_length)) refl
     (follows_of (terms_of c.make-left.result) (terms Left) c.args.spare.now c.sweep-2.new.values c.make-left.ensures c.sweep-2.ensures.each) in
     record {

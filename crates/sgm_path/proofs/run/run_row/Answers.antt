@@ -14,7 +14,7 @@ returns-then-is_adaptive-clause-paths c g y s f =
       guide_before = c.args.guide.now;
       count = c.args.count;
     } in
-    level_paths g y t c.args.into.now c.sweep.new.values s f c.args.pen.ordered (omega (arith, c.requires.count_range))
+    level_paths g y t c.args.into.now c.sweep.new.values s f c.args.pen.ordered (omega (arith, c.requires.costs.0))
     (omega (arith, c.sweep.auto.values, c.requires.same_length)) c.requires.level
     (follows_of (terms_of c.make-row.result) t c.args.into.now c.sweep.new.values c.make-row.ensures c.sweep.ensures.each)
 
@@ -28,6 +28,6 @@ returns-else-is_adaptive-clause-paths c g y s f =
       guide_before = c.args.guide.now;
       count = c.args.count;
     } in
-    level_paths g y t c.args.into.now c.sweep-else-is_adaptive.new.values s f c.args.pen.ordered (omega (arith, c.requires.count_range))
+    level_paths g y t c.args.into.now c.sweep-else-is_adaptive.new.values s f c.args.pen.ordered (omega (arith, c.requires.costs.0))
     (omega (arith, c.sweep-else-is_adaptive.auto.values, c.requires.same_length)) c.requires.level
     (follows_of (terms_of c.make-row.result) t c.args.into.now c.sweep-else-is_adaptive.new.values c.make-row.ensures c.sweep-else-is_adaptive.ensures.each)

@@ -23,7 +23,7 @@ returns-then-is_adaptive-clause-paths c g y s w =
     let values = c.sweep.new.values in
     let b = subst (λ o. MatchOption o (row_before dir g.height y ≡ None) (λ r. HoldsRowBefore g dir y (far_in t) r.now)) c.in-Some.is w in
     across_paths g y t first values s (subst (HoldsRowBefore g dir y (far_in t)) (sym c.copy_from_slice.ensures.after) b)
-    c.args.pen.ordered (omega (arith, c.requires.count_range))
+    c.args.pen.ordered (omega (arith, c.requires.costs.0))
     (omega (arith, c.sweep.auto.values, c.copy_from_slice.auto.self, c.requires.same_length)) c.requires.across
     (follows_of (terms_of c.make-row.result) t first values c.make-row.ensures c.sweep.ensures.each)
 
@@ -42,7 +42,7 @@ returns-else-is_adaptive-clause-paths c g y s w =
     let values = c.sweep-else-is_adaptive.new.values in
     let b = subst (λ o. MatchOption o (row_before dir g.height y ≡ None) (λ r. HoldsRowBefore g dir y (far_in t) r.now)) c.in-Some.is w in
     across_paths g y t first values s (subst (HoldsRowBefore g dir y (far_in t)) (sym c.copy_from_slice.ensures.after) b)
-    c.args.pen.ordered (omega (arith, c.requires.count_range))
+    c.args.pen.ordered (omega (arith, c.requires.costs.0))
     (omega (arith, c.sweep-else-is_adaptive.auto.values, c.copy_from_slice.auto.self, c.requires.same_length)) c.requires.across
     (follows_of (terms_of c.make-row.result) t first values c.make-row.ensures c.sweep-else-is_adaptive.ensures.each)
 

@@ -28,19 +28,19 @@ returns-clause-v c =
     (kept32 c.node-u11.result.1 c.node-u11.ensures.kept.1 ∙ c.node-u11.ensures.v)
 
 pub blended-v-requires-clause-positive : goal.blended-v-requires-clause-positive
-blended-v-requires-clause-positive c = c.requires.positive
+blended-v-requires-clause-positive c = c.requires.step.0
 
 pub blended-v-requires-clause-step : goal.blended-v-requires-clause-step
-blended-v-requires-clause-step c = c.requires.step
+blended-v-requires-clause-step c = c.requires.step.1
 
 pub blended-u-requires-clause-a : goal.blended-u-requires-clause-a
-blended-u-requires-clause-a c = mod_below c.args.x c.args.step c.requires.positive
+blended-u-requires-clause-a c = mod_below c.args.x c.args.step c.requires.step.0
 
 pub blended-u-requires-clause-b : goal.blended-u-requires-clause-b
-blended-u-requires-clause-b c = mod_below c.args.y c.args.step c.requires.positive
+blended-u-requires-clause-b c = mod_below c.args.y c.args.step c.requires.step.0
 
 pub blended-v-requires-clause-a : goal.blended-v-requires-clause-a
-blended-v-requires-clause-a c = mod_below c.args.x c.args.step c.requires.positive
+blended-v-requires-clause-a c = mod_below c.args.x c.args.step c.requires.step.0
 
 pub blended-v-requires-clause-b : goal.blended-v-requires-clause-b
-blended-v-requires-clause-b c = mod_below c.args.y c.args.step c.requires.positive
+blended-v-requires-clause-b c = mod_below c.args.y c.args.step c.requires.step.0

@@ -1,4 +1,4 @@
-use Rattle.std.proofs.Common.{◌≡◌, ◌∙◌, refl, sym, subst, Err}
+use Rattle.std.proofs.Common.{◌∙◌, refl, sym, subst, Err}
 use Rattle.sgm_outcome.specs.declared.outcome.Refusal.{Refusal}
 use Rattle.sgm_app.specs.declared.stops.TextsError.TheVariants.{Refused}
 use Rattle.sgm_series.specs.Answers.{IsAnswerOf}

@@ -1,11 +1,10 @@
-use Rattle.std.proofs.Common.{◌≡◌, ◌∙◌, ℕ, ◌≤◌, List, Ok, Err, sym, subst}
+use Rattle.std.proofs.Common.{◌∙◌, ℕ, ◌≤◌, List, Ok, Err, sym, subst}
 use Rattle.sgm_words.specs.Operands.{bytes_of}
 use Rattle.sgm_list.specs.Entries.{EntryNames}
 use Rattle.sgm_series.specs.Moments.{series_at}
 use Rattle.sgm_series.specs.SeriesEnds.{AllEnd}
 use Rattle.sgm_series.proofs.PlanEnding.{ends_usage, ends_unlisted, ends_listed, ends_stopped}
 use Rattle.sgm_series.proofs.WordLaws.{are_read}
-use Rattle.sgm_series.proofs.series.carry_out.Given
 use Rattle.sgm_series.proofs.series.carry_out.Goals as goal
 
 pub returns-in-Err : goal.returns-in-Err

@@ -1,10 +1,7 @@
-use Rattle.std.proofs.Common.{◌≡◌, ◌∙◌, ℕ, ◌+◌, ◌-◌, ◌<◌, ◌≤◌, List, length, arith, sym, subst, Ok, Err}
-use Rattle.sgm_list.specs.Entries.{EntryNames}
-use Rattle.sgm_series.specs.Moments.{series_at}
+use Rattle.std.proofs.Common.{◌≡◌, ◌-◌, ◌≤◌, length, arith}
 use Rattle.sgm_series.proofs.ManyBatches.{cut, unmade_at, batches_none, batches_done, batch_unmade, batch_stops, batches_more}
 use Rattle.sgm_series.proofs.Batches.{stop_within}
-use Rattle.sgm_series.proofs.Slices.{BatchSize, batch_size, full_cut, smaller}
-use Rattle.sgm_series.proofs.series.match_entries.Given
+use Rattle.sgm_series.proofs.Slices.{batch_size, full_cut, smaller}
 use Rattle.sgm_series.proofs.series.match_entries.Goals as goal
 
 pub outcome-requires : goal.outcome-requires

@@ -1,4 +1,4 @@
-use Rattle.std.proofs.Common.{◌≡◌, ◌≤◌, arith, take}
+use Rattle.std.proofs.Common.{arith, take}
 use Rattle.sgm_words.specs.Operands.{bytes_of}
 use Rattle.sgm_series.specs.Words.{list_of}
 use Rattle.sgm_series.specs.Plans.{verdicts_of}

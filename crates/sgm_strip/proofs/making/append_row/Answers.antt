@@ -15,8 +15,17 @@ use Rattle.sgm_strip.proofs.making.append_row.Goals as goal
 pub level_sums-requires-clause-costs : goal.level_sums-requires-clause-costs
 level_sums-requires-clause-costs c =
     let new = c.cost_row.new.into in
-    let same : c.deref.result.now ≡ new = c.deref.ensures.value ∙ with_items_is c.args.room.now.costs new (omega (arith, c.cost_row.auto.into, c.deref_mut.ensures.len)) in
-    subst (All (λ v. v ≤ MAX_COST)) (sym same) c.cost_row.ensures.most
+    let costs = c.deref.result.now in
+    let same : costs ≡ new = c.deref.ensures.value ∙ with_items_is c.args.room.now.costs new (omega (arith, c.cost_row.auto.into, c.deref_mut.ensures.len)) in
+    let width = c.args.scene.now.left.width in
+    let long : length costs ≡ width * c.count.result = omega (arith, ap length same, ap (λ k. width * k) c.count.ensures.value, c.cost_row.auto.into, c.deref_mut.ensures.len, c.requires.room) in (
+      omega (arith, c.count.ensures.range),
+      omega (arith, c.count.ensures.range),
+      whole_pixels (length costs) width c.count.result long,
+      c.row.ensures.whole ∙ c.scene.invariant.guide_width ∙ ap (λ (s : SceneParts). s.left.width) c.scene.view_is
+          ∙ pixels (length costs) width c.count.result long (omega (arith, c.count.ensures.range)),
+      subst (All (λ v. v ≤ MAX_COST)) (sym same) c.cost_row.ensures.most,
+    )
 
 pub returns-clause-room : goal.returns-clause-room
 returns-clause-room c =
@@ -44,17 +53,6 @@ returns-clause-costs c =
       added = costs_are c;
       holds = made c.args.scene.now _ c.args.y new c.scene.view_is whole c.cost_row.ensures.each;
     }
-
-pub level_sums-requires-clause-whole : goal.level_sums-requires-clause-whole
-level_sums-requires-clause-whole c =
-    let width = c.args.scene.now.left.width in
-    whole_pixels (length c.deref_mut-3.result.now) width c.count.result (omega (arith, ap (λ k. width * k) c.count.ensures.value, c.deref_mut-3.ensures.len, c.args.room.now.level_length, c.requires.room))
-
-pub level_sums-requires-clause-guide_length : goal.level_sums-requires-clause-guide_length
-level_sums-requires-clause-guide_length c =
-    let width = c.args.scene.now.left.width in
-    c.row.ensures.whole ∙ c.scene.invariant.guide_width ∙ ap (λ (s : SceneParts). s.left.width) c.scene.view_is
-    ∙ pixels (length c.deref_mut-3.result.now) width c.count.result (omega (arith, ap (λ k. width * k) c.count.ensures.value, c.deref_mut-3.ensures.len, c.args.room.now.level_length, c.requires.room)) (omega (arith, c.count.ensures.range))
 
 pub returns-clause-sums : goal.returns-clause-sums
 returns-clause-sums c =

@@ -1,27 +1,21 @@
-use Rattle.std.proofs.Common.{ℕ, ◌<◌, ◌∙◌, length, drop, ap, subst, arith}
-use Rattle.sgm_path.proofs.Follow.{mid_at, mid_others, mid_was}
+use Rattle.std.proofs.Common.{length, subst, arith}
 use Rattle.sgm_strip.specs.Passing.{ComesBefore, HoldsBefore}
+use Rattle.sgm_strip.proofs.Sweep.{adds_at}
 use Rattle.sgm_strip.proofs.sweeping.advance.Goals as goal
 
-pub returns-then-begun-clause-others : goal.returns-then-begun-clause-others
-returns-then-begun-clause-others c k h =
-    let n : ℕ = length c.args.last.now in
-    mid_others c.args.sums.now c.split_at_mut-rest.result.0.now c.pass_row.new.sums c.split_at_mut-here.result.1.now c.args.at n k
-    c.split_at_mut-rest.ensures.front
-    (c.split_at_mut-here.ensures.back ∙ ap (drop n) c.split_at_mut-rest.ensures.back)
-    c.split_at_mut-rest.ensures.front_len
-    (omega (arith, c.pass_row.auto.sums, c.split_at_mut-here.ensures.front_len))
-    h
-
 pub returns-then-begun-clause-added : goal.returns-then-begun-clause-added
-returns-then-begun-clause-added c k h =
-    let inside : k < length c.pass_row.new.sums = omega (arith, h, c.pass_row.auto.sums, c.split_at_mut-here.ensures.front_len) in
-    omega (
-      arith,
-      mid_at c.split_at_mut-rest.result.0.now c.pass_row.new.sums c.split_at_mut-here.result.1.now c.args.at k c.split_at_mut-rest.ensures.front_len inside,
-      c.pass_row.ensures.added k inside,
-      mid_was c.args.sums.now c.split_at_mut-here.result.0.now c.split_at_mut-rest.result.1.now c.args.at (length c.args.last.now) k c.split_at_mut-here.ensures.front c.split_at_mut-rest.ensures.back h,
-    )
+returns-then-begun-clause-added c =
+    adds_at c.args.at (length c.args.last.now) c.pass_row.new.values c.args.sums.now
+    c.split_at_mut-rest.result.0.now c.split_at_mut-here.result.0.now
+    c.split_at_mut-rest.result.1.now c.split_at_mut-here.result.1.now c.pass_row.new.sums
+    c.pass_row.auto.values
+    c.split_at_mut-rest.ensures.front
+    c.split_at_mut-rest.ensures.front_len
+    c.split_at_mut-rest.ensures.back
+    c.split_at_mut-here.ensures.front
+    c.split_at_mut-here.ensures.back
+    (omega (arith, c.pass_row.auto.sums, c.split_at_mut-here.ensures.front_len))
+    c.pass_row.ensures.added
 
 pub returns-then-begun-clause-paths : goal.returns-then-begun-clause-paths
 returns-then-begun-clause-paths c g y s b =
@@ -34,25 +28,19 @@ returns-then-begun-clause-paths c g y s b =
       holds = before.holds;
     }
 
-pub returns-else-begun-clause-others : goal.returns-else-begun-clause-others
-returns-else-begun-clause-others c k h =
-    let n : ℕ = length c.args.last.now in
-    mid_others c.args.sums.now c.split_at_mut-rest.result.0.now c.begin_row.new.sums c.split_at_mut-here.result.1.now c.args.at n k
-    c.split_at_mut-rest.ensures.front
-    (c.split_at_mut-here.ensures.back ∙ ap (drop n) c.split_at_mut-rest.ensures.back)
-    c.split_at_mut-rest.ensures.front_len
-    (omega (arith, c.begin_row.auto.sums, c.split_at_mut-here.ensures.front_len))
-    h
-
 pub returns-else-begun-clause-added : goal.returns-else-begun-clause-added
-returns-else-begun-clause-added c k h =
-    let inside : k < length c.begin_row.new.sums = omega (arith, h, c.begin_row.auto.sums, c.split_at_mut-here.ensures.front_len) in
-    omega (
-      arith,
-      mid_at c.split_at_mut-rest.result.0.now c.begin_row.new.sums c.split_at_mut-here.result.1.now c.args.at k c.split_at_mut-rest.ensures.front_len inside,
-      c.begin_row.ensures.added k inside,
-      mid_was c.args.sums.now c.split_at_mut-here.result.0.now c.split_at_mut-rest.result.1.now c.args.at (length c.args.last.now) k c.split_at_mut-here.ensures.front c.split_at_mut-rest.ensures.back h,
-    )
+returns-else-begun-clause-added c =
+    adds_at c.args.at (length c.args.last.now) c.begin_row.new.values c.args.sums.now
+    c.split_at_mut-rest.result.0.now c.split_at_mut-here.result.0.now
+    c.split_at_mut-rest.result.1.now c.split_at_mut-here.result.1.now c.begin_row.new.sums
+    c.begin_row.auto.values
+    c.split_at_mut-rest.ensures.front
+    c.split_at_mut-rest.ensures.front_len
+    c.split_at_mut-rest.ensures.back
+    c.split_at_mut-here.ensures.front
+    c.split_at_mut-here.ensures.back
+    (omega (arith, c.begin_row.auto.sums, c.split_at_mut-here.ensures.front_len))
+    c.begin_row.ensures.added
 
 pub returns-else-begun-clause-paths : goal.returns-else-begun-clause-paths
 returns-else-begun-clause-paths c g y s b =

@@ -19,11 +19,11 @@ loop-i-preserved c =
     let top = c.args.strip.now.top in
     let guide = c.args.strip.now.guide.now in
     let high : c.height.inside.height ≡ guide.height = ap (λ (sides : Sides). sides.height) c.height.view_is ∙ c.size.ensures.height in
-    let el : length c.loop-i.last ≡ n = c.loop-i.auto.last in
+    let el : length c.advance.new.last ≡ n = c.advance.auto.last ∙ c.loop-i.auto.last in
     let others : (k : ℕ) → (k < r * n) ⊎ (r * n + n ≤ k) → slice_index c.advance.new.sums k ≡ slice_index c.loop-i.sums k =
-    λ k h. c.advance.ensures.others k (subst (λ m. (k < r * n) ⊎ (r * n + m ≤ k)) (sym el) h) in
+    λ k h. c.advance.ensures.added.others k (subst (λ m. (k < r * n) ⊎ (r * n + m ≤ k)) (sym el) h) in
     let here : (k : ℕ) → k < n → slice_index c.advance.new.sums (r * n + k) ≡ slice_index c.loop-i.sums (r * n + k) + slice_index c.advance.new.last k =
-    λ k h. c.advance.ensures.added k (omega (arith, el)) in
+    λ k h. c.advance.ensures.added.each k (omega (arith, el)) in
     let before = c.loop-i.last in
     let last = c.advance.new.last in
     let Paths : RowTerms → Type 0 = λ t. (g : Problem) (y : ℕ)
@@ -50,7 +50,7 @@ returns-clause-last c g rows s some b =
     let n = length c.args.last.now in
     let it =
     finished g dir c.args.strip.now.top rows (penalties_of c.args.strip.now.pen) c.args.strip.now.guide.now c.args.strip.now.count (length c.args.last.now) n c.loop-i.i c.args.begun c.args.strip.now.costs.now c.args.last.now c.loop-i.last c.args.sums.now c.loop-i.sums
-    s refl (some_entries c.args.strip.now.guide.now.width c.args.strip.now.count (length c.args.last.now) c.args.strip.now.some (omega (arith, c.args.strip.now.count_range)) c.requires.last_length) (omega arith) b (c.loop-i.invariant.done g) in
+    s refl (some_entries c.args.strip.now.guide.now.width c.args.strip.now.count (length c.args.last.now) c.args.strip.now.some (omega (arith, c.args.strip.now.count_range)) c.requires.last.whole) (omega arith) b (c.loop-i.invariant.done g) in
     it.1.handed some
 
 pub returns-clause-sums : goal.returns-clause-sums
@@ -59,5 +59,5 @@ returns-clause-sums c g rows f s some b h =
     let n = length c.args.last.now in
     let it =
     finished g dir c.args.strip.now.top rows (penalties_of c.args.strip.now.pen) c.args.strip.now.guide.now c.args.strip.now.count (length c.args.last.now) n c.loop-i.i c.args.begun c.args.strip.now.costs.now c.args.last.now c.loop-i.last c.args.sums.now c.loop-i.sums
-    s refl (some_entries c.args.strip.now.guide.now.width c.args.strip.now.count (length c.args.last.now) c.args.strip.now.some (omega (arith, c.args.strip.now.count_range)) c.requires.last_length) (omega arith) b (c.loop-i.invariant.done g) in
+    s refl (some_entries c.args.strip.now.guide.now.width c.args.strip.now.count (length c.args.last.now) c.args.strip.now.some (omega (arith, c.args.strip.now.count_range)) c.requires.last.whole) (omega arith) b (c.loop-i.invariant.done g) in
     all_done g dir c.args.strip.now.top rows n f c.args.last.now c.loop-i.last c.args.sums.now c.loop-i.sums it.0.same_row c.loop-i.auto.sums it.1 h

@@ -55,13 +55,13 @@ loop-k-preserved c =
     let p = get_or-map pixel_of c.args.places.now k none (pixel_at 0 0) c.loop-k.invariant.place in
     let made : c.step_to-step.result.made ≡ step_between g (get_or ps j (pixel_at 0 0)) (get_or ps k (pixel_at 0 0)) c.step_to-step.result.before c.loop-k.index = cc in
     let follows = follows_more g ps c.args.d j k c.step_to-step.result.before c.loop-k.index c.loop-k.steps.items (omega (arith, c.loop-k-test.true)) (omega (arith, long, c.loop-k.invariant.place)) c.loop-k.invariant.index
-    (before_from g ps j k c.step_to-step.result.before c.loop-k.index c.deref.result.now c.step_to-step.result.made.jump (omega (arith, c.loop-k-test.true)) (omega (arith, long, c.loop-k.invariant.place)) row c.step_to-step.ensures.before
-    (ap (λ (s : Step). s.jump) made)
-    (rw (q, p) c.step_to-step.ensures.low) (rw (q, p) c.step_to-step.ensures.first)) c.loop-k.invariant.follows in
+    (before_from g ps j k c.step_to-step.result.before c.loop-k.index c.deref.result.now
+    (omega (arith, c.loop-k-test.true)) (omega (arith, long, c.loop-k.invariant.place)) row
+    (rw (q, p) c.step_to-step.ensures.before)) c.loop-k.invariant.follows in
     let items : c.push.new.self.items ≡ c.loop-k.steps.items ++ step_between g (get_or ps j (pixel_at 0 0)) (get_or ps k (pixel_at 0 0)) c.step_to-step.result.before c.loop-k.index ∷ [] = c.in_ok-push.ensures.items ∙ ap (λ (s : Step). c.loop-k.steps.items ++ s ∷ []) made in
     record {
       place = top;
-      index = c.step_to-step.ensures.before;
+      index = c.step_to-step.ensures.before.inside;
       follows = subst (Follows g ps c.args.d j c.step_to-step.result.before) (sym items) follows;
     }
 

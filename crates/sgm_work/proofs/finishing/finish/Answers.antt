@@ -45,15 +45,15 @@ loop-front-preserved c =
     record {
       spare = did.spare ∙ inv.spare;
       settled = λ scene cut was. let now = inv.settled scene cut was in
-          settled_more scene cut c.loop-front.parcels fronts now k old new c.finish_front.new.parcels (omega (arith, now.six, inside)) at did.strips did.done did.others did.front.0 did.front.1 did.front.2 did.visited;
+          settled_more scene cut c.loop-front.parcels fronts now k old new c.finish_front.new.parcels (omega (arith, now.six, inside)) at did.strips did.done did.others did.front.same.same_scene did.front.same.same_cut did.front.same.same_dir did.front.visited;
       visited = λ scene cut was j front hj e. let now = inv.settled scene cut was in elim (get_set fronts k new j front e) [
-        | inl same ↦ subst (HasVisitedAll cut) (sym same.1) (subst (λ (x : CutParts). HasVisitedAll x new) (front_is scene cut c.loop-front.parcels fronts now k old (omega (arith, now.six, inside)) at).same_cut did.visited)
+        | inl same ↦ subst (HasVisitedAll cut) (sym same.1) (subst (λ (x : CutParts). HasVisitedAll x new) (front_is scene cut c.loop-front.parcels fronts now k old (omega (arith, now.six, inside)) at).same_cut did.front.visited)
         | inr other ↦ inv.visited scene cut was j front (omega (arith, other.0)) other.1
       ];
       goes_on = λ j d hj. elim (cases_eq j k) [
         | inl same ↦ (let here : slice_index_or c.args.fronts.now j d ≡ old = sym (inv.rest j d (omega (arith, same))) ∙ ap (λ n. get_or fronts n d) same ∙ any_default fronts k d c.front-item.result inside in
             subst (λ (x : FrontParts). GoesOnBy 16 (slice_index_or c.args.fronts.now j d) x) (sym (ap (λ n. get_or (Rattle.std.proofs.Common.set fronts k new) n d) same ∙ get_or-set_same fronts k new d inside))
-            (subst (λ (x : FrontParts). GoesOnBy 16 x new) (sym here) did.goes_on))
+            (subst (λ (x : FrontParts). GoesOnBy 16 x new) (sym here) did.front.goes_on))
         | inr other ↦ subst (λ (x : FrontParts). GoesOnBy 16 (slice_index_or c.args.fronts.now j d) x) (sym (get_or-set_other fronts k j new d other)) (inv.goes_on j d (omega (arith, other)))
       ];
       rest = λ j d hj. get_or-set_other fronts k j new d (λ e. omega arith) ∙ inv.rest j d (omega arith);

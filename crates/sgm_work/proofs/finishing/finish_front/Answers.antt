@@ -2,11 +2,13 @@ use Rattle.std.proofs.Common.{◌≡◌, ◌<◌, ◌∙◌, length, ap, subst, 
 use Rattle.std.specs.Prelude.{slice_index_or, true}
 use Rattle.std.proofs.lemmas.List.{length_push}
 use Rattle.std.proofs.lemmas.Option.{slice_get-get_or}
-use Rattle.sgm_energy.specs.Dirs.{position_of}
+use Rattle.sgm_energy.specs.Dirs.{position_of, strip_at}
 use Rattle.sgm_energy.proofs.DirLemmas.{position_inside}
+use Rattle.sgm_strip.specs.Cuts.{CutParts}
 use Rattle.sgm_strip.specs.Fronts.{FrontParts, visit_of}
 use Rattle.sgm_strip.specs.Parcels.{ParcelParts, is_done, with_done}
 use Rattle.sgm_strip.specs.Strips.{IsStripOf}
+use Rattle.sgm_strip.proofs.Sets.{done_with}
 use Rattle.sgm_work.specs.Left.{IsDoneFirst}
 use Rattle.sgm_work.proofs.Handing.{done_more, goes_more, not_yet, others_more, strip_is, strips_set}
 use Rattle.sgm_work.proofs.finishing.finish_front.Goals as goal
@@ -51,10 +53,25 @@ loop-position-preserved c =
       kept = c.pass.ensures.front_kept;
       visits = ap length visits ∙ length_push c.loop-position.front.visits (visit_of item.strip 16) ∙ omega (arith, inv.visits);
       spare = c.pass.ensures.spare ∙ inv.spare;
-      done = done_more dir cut.strips k s new c.loop-position.parcels inv.done inv.strips.all at h (subst (λ d. is_done new.done d ≡ true) inv.dir c.pass.ensures.done);
+      done = done_more dir cut.strips k s new c.loop-position.parcels inv.done inv.strips.all at h
+          (subst (λ d. is_done new.done d ≡ true) inv.dir
+          (done_with item.done new.done c.loop-position.front.dir
+          (ap (λ (p : ParcelParts). p.done) c.pass.ensures.parcel)
+          c.pass.ensures.parcel_kept.directions));
       others = others_more dir s item new c.args.parcels.now c.loop-position.parcels inv.others (slice_get-get_or c.loop-position.parcels s c.index-parcels-strip.result (omega (arith, inv.strips.all, fits)))
           (subst (λ d. new.done ≡ with_done item.done d) inv.dir (ap (λ (p : ParcelParts). p.done) c.pass.ensures.parcel));
       goes_on = goes_more 16 item.strip c.args.front.now c.loop-position.front c.pass.new.front inv.goes_on visits;
+    }
+
+pub returns-clause-front : goal.returns-clause-front
+returns-clause-front c =
+    let inv = c.loop-position.invariant in
+    let dir = c.loop-position.front.dir in
+    let end : c.loop-position.position ≡ c.args.front.now.cut.strips = omega (arith, c.requires.strips.all, c.loop-position-test.false, c.loop-position.auto.position-end, c.next-position.ensures.most) in
+    record {
+      same = record { same_scene = inv.scene; same_cut = inv.cut; same_dir = inv.dir };
+      visited = record { all = inv.visits ∙ end; in_order = λ position visit at. inv.kept.in_order position visit at ∙ ap (λ (cut : CutParts). strip_at dir position cut.strips) inv.cut };
+      goes_on = inv.goes_on;
     }
 
 pub returns-clause-done : goal.returns-clause-done

@@ -5,7 +5,6 @@ use Rattle.sgm_work.proofs.scanning.scan.Goals as goal
 
 pub loop-strip-init : goal.loop-strip-init
 loop-strip-init g c = record {
-  own = c.requires.own;
   idle = c.requires.idle;
   spare = refl;
   few = omega arith;
@@ -24,7 +23,6 @@ loop-strip-preserved g c =
     let old = parts_of c.loop-strip.pass in
     let new = parts_of c.visit-handed.new.pass in
     record {
-      own = did.own;
       idle = did.idle;
       spare = did.spare ∙ inv.spare;
       few = omega (arith, did.few, inv.few);

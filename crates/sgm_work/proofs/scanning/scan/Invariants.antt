@@ -1,14 +1,13 @@
 use Rattle.std.proofs.Common.{◌≡◌, ℕ, ◌+◌, ◌*◌, ◌≤◌}
 use Rattle.sgm_board.specs.Words.{strip_word}
-use Rattle.sgm_board.specs.Boards.{parts_of, IsPassOf, IsIdle}
+use Rattle.sgm_board.specs.Boards.{parts_of, IsIdlePassOf}
 use Rattle.sgm_work.specs.Worked.{IsSamePass, LooksMore, TriesWhatItClaims}
 use Rattle.sgm_work.proofs.scanning.scan.Given as goal
 
 -- the strips before this one were visited
 abbrev pub invariant-loop-strip : goal.invariant-loop-strip
 invariant-loop-strip g l = record {
-  own : IsPassOf l.board l.pass;
-  idle : IsIdle (parts_of l.pass);
+  idle : IsIdlePassOf l.board l.pass;
   spare : l.spare ≡ l.fn.spare;
   few : l.handed ≤ 6 * l.strip;
   same : IsSamePass (parts_of l.fn.pass) (parts_of l.pass);

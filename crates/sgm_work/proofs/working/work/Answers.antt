@@ -6,7 +6,7 @@ use Rattle.sgm_work.proofs.Glancing.{same_glanced, scanned, tries_glanced}
 use Rattle.sgm_work.proofs.working.work.Goals as goal
 
 pub loop-round-init : goal.loop-round-init
-loop-round-init g c = record { own = c.requires.own; idle = c.requires.idle; spare = refl; same = same_pass (parts_of c.args.pass.now); tried = tries_none (parts_of c.args.pass.now); looked = λ s h. omega arith }
+loop-round-init g c = record { idle = c.requires.idle; spare = refl; same = same_pass (parts_of c.args.pass.now); tried = tries_none (parts_of c.args.pass.now); looked = λ s h. omega arith }
 
 pub returns-then-is_over-clause-same : goal.returns-then-is_over-clause-same
 returns-then-is_over-clause-same g c = same_glanced (parts_of c.args.pass.now) (parts_of c.loop-round.pass) (parts_of c.scan-handed.new.pass) (parts_of c.is_over.new.pass) c.loop-round.invariant.same c.scan-handed.ensures.same c.is_over.ensures.glanced
@@ -26,7 +26,6 @@ loop-round-preserved g c =
     let new = parts_of c.scan-handed.new.pass in
     let end = parts_of c.is_over.new.pass in
     record {
-      own = c.is_over.ensures.own;
       idle = c.is_over.ensures.idle;
       spare = did.spare ∙ inv.spare;
       same = same_glanced was old new end inv.same did.same c.is_over.ensures.glanced;

@@ -1,13 +1,12 @@
 use Rattle.std.proofs.Common.{◌≡◌}
-use Rattle.sgm_board.specs.Boards.{parts_of, strips_of, IsPassOf, IsIdle}
+use Rattle.sgm_board.specs.Boards.{parts_of, strips_of, IsIdlePassOf}
 use Rattle.sgm_work.specs.Worked.{IsSamePass, LooksMore, TriesWhatItClaims}
 use Rattle.sgm_work.proofs.working.work.Given as goal
 
 -- after so many rounds
 abbrev pub invariant-loop-round : goal.invariant-loop-round
 invariant-loop-round g l = record {
-  own : IsPassOf l.board l.pass;
-  idle : IsIdle (parts_of l.pass);
+  idle : IsIdlePassOf l.board l.pass;
   spare : l.spare ≡ l.fn.spare;
   same : IsSamePass (parts_of l.fn.pass) (parts_of l.pass);
   tried : TriesWhatItClaims (parts_of l.fn.pass) (parts_of l.pass);

@@ -6,12 +6,12 @@ use Rattle.sgm_board.proofs.Parts.{parts-look, parts-return, shows_known}
 use Rattle.sgm_board.proofs.board.Board.give_back.Goals as goal
 
 pub give_back-requires-clause-parcel : goal.give_back-requires-clause-parcel
-give_back-requires-clause-parcel c = record {
+give_back-requires-clause-parcel c = let parcel = c.requires.holds.held in record {
   kept = c.strip-strip.ensures.kept;
-  same_scene = c.requires.parcel.of_board.0;
-  same_cut = c.requires.parcel.of_board.1;
+  same_scene = parcel.of_board.0;
+  same_cut = parcel.of_board.1;
   same_strip = sym c.strip-strip.ensures.value;
-  done = λ dir level. c.requires.parcel.done dir ∙ shows_known c.args.pass.now.seat.me.0 c.args.parcel.strip dir c.requires.parcel.held level c.args.pass.now.read;
+  done = λ dir level. parcel.done dir ∙ shows_known c.args.pass.now.seat.me.0 c.args.parcel.strip dir parcel.held level c.args.pass.now.read;
 }
 
 pub returns-clause-back : goal.returns-clause-back

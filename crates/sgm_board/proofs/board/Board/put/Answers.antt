@@ -15,14 +15,14 @@ pub put-requires-clause-front : goal.put-requires-clause-front
 put-requires-clause-front c =
     let front = c.args.front in
     let kept = c.dir-dir.ensures.kept in
-    let on = c.requires.front in
+    let on = c.requires.through.on_board in
     let strips : front.cut.strips ≡ c.strips-strips.result = ap (λ (cut : CutParts). cut.strips) on.1 ∙ sym c.strips-strips.ensures in
     record {
       kept = kept;
       same_scene = on.0;
       same_cut = on.1;
       same_dir = sym c.dir-dir.ensures.value;
-      visited = length-visits front c.args.parcel.now.strip (parts_of c.args.pass.now).number kept c.requires.visit ∙ (λ i. position_of (sym c.dir-dir.ensures.value i) (sym c.strip-strip.ensures.value i) (strips i) + 1);
+      visited = length-visits front c.args.parcel.now.strip (parts_of c.args.pass.now).number kept c.requires.through.last ∙ (λ i. position_of (sym c.dir-dir.ensures.value i) (sym c.strip-strip.ensures.value i) (strips i) + 1);
     }
 
 pub invariant_of-pass : goal.invariant_of-pass

@@ -8,7 +8,7 @@ use Rattle.sgm_board.specs.Pockets.{ReadsAll, pocket}
 use Rattle.sgm_board.specs.Passes.{parts_of_view, after_look, after_try, after_take}
 use Rattle.sgm_board.proofs.Handing.{still_held}
 use Rattle.sgm_board.proofs.Options.{if_some_map, if_none_map, either_way}
-use Rattle.sgm_board.proofs.Parts.{parts-look, parts-try}
+use Rattle.sgm_board.proofs.Parts.{parts-look, parts-try, shows_known}
 use Rattle.sgm_board.proofs.board.Board.try_take.Goals as goal
 
 -- the answer by its cases: a front or none
@@ -16,7 +16,7 @@ pub invariant_of-pass : goal.invariant_of-pass
 invariant_of-pass c =
     let p = c.args.pass.now in
     let v = p.seat.me.0 in
-    let held = c.requires.parcel.held in
+    let held = c.requires.holds.held.held in
     either_way c.take.result _ _ _
     (λ front now.
     let new = sym (ap (λ m. m.0) now) in
@@ -25,7 +25,7 @@ invariant_of-pass c =
       alive = subst IsLive new p.alive;
       read = subst ReadsAll new p.read;
       slots = ap (λ m. m.1) now
-          ∙ (ap (λ cs. (dir_word c.args.dir, Empty) ∷ cs) (p.slots ∙ (λ i. pocket (held i) (c.requires.bare i)))
+          ∙ (ap (λ cs. (dir_word c.args.dir, Empty) ∷ cs) (p.slots ∙ (λ i. pocket (held i) (c.requires.holds.bare i)))
           ∙ (ap (λ strip. pocket strip (Some c.args.dir)) (sym held) ∙ (λ i. pocket (new i).strip (new i).front)));
     })
     (λ none.
@@ -46,9 +46,21 @@ returns-clause-held c =
     let before = parts_of_view c.args.pass.now.seat.me.0 in
     let after = parts_of_view c.take.new.seat.me.0 in
     either_way c.take.result _ _ _
-    (λ front now. let e = ap (λ m. parts_of_view m.0) now in still_held board before after parcel (ap (λ p. p.strip) e) (ap (λ p. p.done) e) c.requires.parcel)
-    (λ none. let e = ap (λ m. parts_of_view m.0) none.2 in still_held board before after parcel (ap (λ p. p.strip) e) (ap (λ p. p.done) e) c.requires.parcel)
+    (λ front now. let e = ap (λ m. parts_of_view m.0) now in still_held board before after parcel (ap (λ p. p.strip) e) (ap (λ p. p.done) e) c.requires.holds.held)
+    (λ none. let e = ap (λ m. parts_of_view m.0) none.2 in still_held board before after parcel (ap (λ p. p.strip) e) (ap (λ p. p.done) e) c.requires.holds.held)
     c.take.ensures.some c.take.ensures.none
+
+pub returns-clause-front : goal.returns-clause-front
+returns-clause-front c =
+    let parcel = c.requires.holds.held in
+    if_some_map c.take.result _ _
+    (λ front now. record {
+      on_board = (now.0.same_scene, now.0.same_cut);
+      same_dir = now.0.same_dir;
+      visited = now.0.visited ∙ (λ i. position_of c.args.dir (c.strip-strip.ensures.value i) (c.strips-strips.ensures i));
+      left = parcel.done c.args.dir ∙ (shows_known c.args.pass.now.seat.me.0 c.args.parcel.now.strip c.args.dir parcel.held c.requires.across c.args.pass.now.read ∙ now.1);
+    })
+    c.take.ensures.front
 
 pub returns-clause-some : goal.returns-clause-some
 returns-clause-some c =

@@ -1,8 +1,8 @@
 use Rattle.std.proofs.Common.{◌≡◌, ◌≤◌, None, replicate, vec_capacity, vec_len}
-use Rattle.sgm_batch.proofs.batch.places.Given as goal
+use Rattle.sgm_work.proofs.places.empty_places.Given as goal
 
 abbrev pub invariant-loop : goal.invariant-loop
-invariant-loop l = record {
+invariant-loop g l = record {
   count : vec_len l.places ≡ l.counter;
   room : l.count ≤ vec_capacity l.places;
   empty : l.places.items ≡ replicate l.counter None;
