@@ -4,9 +4,14 @@
 # and so on, until a run takes none of that number. All workers count together, so a number may fall to any of them.
 # Each run has to end Done, with the files and the summary whole; or out of memory, with its line and status, nothing
 # on standard output, and each file as it was, but for outputs up to one: those before that one whole, and that one the
-# beginning of its text. All is tried twice, over a folder without outputs and over one with older ones. The program is
-# the one that the variable SGM names (./sgm of this repository without it); gcc builds the library that refuses, which
-# takes the place of the C library's calls.
+# beginning of its text. All is tried twice, over a folder without outputs and over one with older ones.
+#
+# Then all allocations above a megabyte are refused. Each of these runs is done all the same, as none of them has so much
+# to keep; and a grid whose head asks for 4096 x 4096 heights, of which none follows, is refused for that, and not for
+# want of the memory that they would take.
+#
+# The program is the one that the variable SGM names (./sgm of this repository without it); gcc builds the library that
+# refuses, which takes the place of the C library's calls.
 #
 #     tests/refused_allocations.sh
 set -u
@@ -61,18 +66,21 @@ extern void *__libc_memalign(size_t, size_t);
 
 static atomic_ulong calls;
 static unsigned long refused;
+static size_t most = -1;
 static const char *mark;
 
 /* What the loader takes before the program stands isn't counted. */
 __attribute__((constructor)) static void begin(void) {
-    const char *number = getenv("REFUSED_ALLOCATION");
+    const char *number = getenv("REFUSED_ALLOCATION"), *bytes = getenv("LARGEST_ALLOCATION");
     mark = getenv("REFUSED_MARK");
     refused = number ? strtoul(number, NULL, 10) : 0;
+    if (bytes)
+        most = strtoul(bytes, NULL, 10);
 }
 
-/* Whether this allocation is the one to refuse; then the file of the mark is made. */
-static int refuses(void) {
-    if (refused == 0 || atomic_fetch_add(&calls, 1) + 1 != refused)
+/* Whether this allocation is too large, or the one to refuse; then the file of the mark is made. */
+static int refuses(size_t size) {
+    if (size <= most && (refused == 0 || atomic_fetch_add(&calls, 1) + 1 != refused))
         return 0;
     if (mark)
         close(open(mark, O_WRONLY | O_CREAT, 0600));
@@ -80,10 +88,15 @@ static int refuses(void) {
     return 1;
 }
 
-void *malloc(size_t size) { return refuses() ? NULL : __libc_malloc(size); }
-void *calloc(size_t count, size_t size) { return refuses() ? NULL : __libc_calloc(count, size); }
-void *realloc(void *old, size_t size) { return refuses() ? NULL : __libc_realloc(old, size); }
-void *memalign(size_t unit, size_t size) { return refuses() ? NULL : __libc_memalign(unit, size); }
+void *malloc(size_t size) { return refuses(size) ? NULL : __libc_malloc(size); }
+void *calloc(size_t count, size_t size) {
+    size_t bytes;
+    if (__builtin_mul_overflow(count, size, &bytes))
+        bytes = -1;
+    return refuses(bytes) ? NULL : __libc_calloc(count, size);
+}
+void *realloc(void *old, size_t size) { return refuses(size) ? NULL : __libc_realloc(old, size); }
+void *memalign(size_t unit, size_t size) { return refuses(size) ? NULL : __libc_memalign(unit, size); }
 void *aligned_alloc(size_t unit, size_t size) { return memalign(unit, size); }
 int posix_memalign(void **into, size_t unit, size_t size) {
     void *block = memalign(unit, size);
@@ -128,9 +141,9 @@ stopped() {
 
 is_done() { [ "$status" = 0 ] && diff -r whole made >/dev/null && [ "$(cat out)" = "$summary" ] && [ ! -s err ]; }
 
-# run [NUMBER]: the run in made, whose memory is refused at this number, if one is given. Sets status.
+# run [VARIABLE=VALUE]: the run in made, whose memory is refused as the variable says, if one is given. Sets status.
 run() {
-    (cd made && env ${1:+LD_PRELOAD="$work/refuse.so"} REFUSED_ALLOCATION="${1-}" REFUSED_MARK="$work/mark" \
+    (cd made && env ${1:+LD_PRELOAD="$work/refuse.so"} ${1:+"$1"} REFUSED_MARK="$work/mark" \
         "$program" "${words[@]}" >"$work/out" 2>"$work/err" </dev/null)
     status=$?
 }
@@ -149,7 +162,7 @@ refuse_each() {
         rm -rf before mark
         if [ "$what" = "older outputs" ]; then begin made older; else begin made; fi
         cp -r made before
-        run "$number"
+        run REFUSED_ALLOCATION="$number"
         [ -e mark ] || break
         case $status in
         0)
@@ -173,8 +186,32 @@ refuse_each() {
     taken+=("$((number - 1))")
 }
 
+# refuse_large: the words with no allocation above a megabyte. Counts the runs in small.
+refuse_large() {
+    number=0 what="none above a megabyte"
+    rm -rf mark
+    begin made
+    run LARGEST_ALLOCATION=1048576
+    is_done || wrong "status $status, '$(cat err)'"
+    [ ! -e mark ] || wrong "so much is asked for"
+    small=$((small + 1))
+}
+
+# refuse_head: the same of a grid that has a head for 4096 x 4096 heights and none of these.
+refuse_head() {
+    of change
+    number=0 what="a head without heights"
+    rm -rf mark
+    begin made
+    sed -e 's/ncols 4/ncols 4096/' -e 's/nrows 3/nrows 4096/' -e 6q e.asc >made/e.asc
+    run LARGEST_ALLOCATION=1048576
+    [ "$status $(cat err)" = '3 sgm: earlier: 0 heights, 16777216 needed' ] || wrong "status $status, '$(cat err)'"
+    [ ! -e mark ] || wrong "its room is asked for"
+    small=$((small + 1))
+}
+
 cd "$work" || exit 1
-without=0 with=0 told=
+without=0 with=0 small=0 told=
 commands=(match trace change)
 if has_merge; then commands+=(merge); fi
 for command in "${commands[@]}"; do
@@ -189,7 +226,10 @@ for command in "${commands[@]}"; do
     taken=()
     refuse_each "no older outputs"
     [ ${#outputs[@]} = 0 ] || refuse_each "older outputs"
+    refuse_large
     told+="${told:+, }$command ${taken[*]}"
 done
-echo "refused_allocations: allocations of $told, each refused in a run of its own: $with runs done, $without out of memory, $failed wrong"
+refuse_head
+echo "refused_allocations: allocations of $told, each refused in a run of its own: $with runs done, $without out of memory;" \
+    "$small runs without large ones; $failed wrong"
 [ "$failed" = 0 ]
