@@ -1,5 +1,5 @@
 -- A front that went through a strip last.
-use Rattle.std.proofs.Common.{◌≡◌, ℕ, ◌+◌, ◌-◌, ◌<◌, length, sym, ap, ◌∙◌, arith}
+use Rattle.std.proofs.Common.{◌≡◌, ℕ, ◌+◌, ◌-◌, ◌<◌, length, ap, ◌∙◌, arith}
 use Rattle.std.proofs.lemmas.Option.{slice_get_within}
 use Rattle.sgm_energy.specs.Dirs.{position_of}
 use Rattle.sgm_strip.specs.Fronts.{FrontParts, IsFront, visit_of}

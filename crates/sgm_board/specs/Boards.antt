@@ -79,7 +79,7 @@ IsLastBy front strip worker = slice_get front.visits (length front.visits - 1)
 
 -- the front is that of this direction, and the parcel's strip comes next for it: it visited those
 -- at the positions before, and the direction is not done in the parcel
-pub record ComesNext (board : Board) (dir : Dir) (parcel : ParcelParts)
+pub record IsDue (board : Board) (dir : Dir) (parcel : ParcelParts)
     (front : FrontParts) : Type 0 where
   pub on_board : IsFrontOn board front
   pub same_dir : front.dir ≡ dir

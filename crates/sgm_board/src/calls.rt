@@ -8,7 +8,7 @@ ghost use Rattle.sgm_board.specs.Passes.{after_look, after_claim, after_return, 
 ghost use Rattle.sgm_board.specs.Passes.{after_take, after_put, HasReadAll, HasJoined};
 ghost use Rattle.sgm_board.specs.Boards.{parts_of, scene_of, cut_of, strips_of};
 ghost use Rattle.sgm_board.specs.Boards.{IsPassOf, IsIdle, IsHeld, HoldsOnly};
-ghost use Rattle.sgm_board.specs.Boards.{ComesNext, WentThrough};
+ghost use Rattle.sgm_board.specs.Boards.{IsDue, WentThrough};
 
 use crate::board::Board;
 use crate::pass::Pass;
@@ -52,7 +52,7 @@ impl Board {
         requires across { is_level dir ≡ false }
         ensures own { IsPassOf self.now pass.new }
         ensures held { IsHeld self.now (parts_of pass.new) parcel.now }
-        ensures front { IfSome result (ComesNext self.now dir parcel.now) }
+        ensures front { IfSome result (IsDue self.now dir parcel.now) }
         ensures some { let due = 2 * position_of dir parcel.now.strip (strips_of self.now) in
             let tried =
             after_try (after_look (parts_of pass.old) (dir_word dir) due) parcel.now.strip dir in

@@ -51,8 +51,8 @@ AreCosts count guide costs = (1 ≤ count) × (count ≤ MAX_COUNT) × (length c
 
 -- before can be the row of path values that a direction comes from to a row of this size: it has
 -- count of them for each of the pixels that have these grey values, and none is too great
-abbrev pub ComesBefore : ℕ → List (Option ℕ) → List ℕ → ℕ → Type 0
-ComesBefore count guide_before before size = (length before ≡ size)
+abbrev pub CanComeBefore : ℕ → List (Option ℕ) → List ℕ → ℕ → Type 0
+CanComeBefore count guide_before before size = (length before ≡ size)
     × (length guide_before ≡ size / count) × All (λ v. v ≤ MAX_PATH_VALUE) before
 
 -- the penalty of a change by more than one from the column z to the column x of a row, where the
@@ -149,8 +149,8 @@ CanAddRow t sums = (length sums ≡ length t.costs)
     × EachIndex sums (λ k. slice_index sums k + MAX_PATH_VALUE < 2 ^ 16)
 
 -- the values of the pixel at this place were added to its sums, and all other sums stay
-abbrev pub AddsAt : ℕ → ℕ → (ℕ → ℕ) → List ℕ → List ℕ → Type 0
-AddsAt at count values old new = OthersStay at count old new
+abbrev pub AddsPixel : ℕ → ℕ → (ℕ → ℕ) → List ℕ → List ℕ → Type 0
+AddsPixel at count values old new = OthersStay at count old new
     × ((d : ℕ) → d < count → slice_index new (at + d) ≡ slice_index old (at + d) + values d)
 
 -- the values of the column x follow from the row before, and all others stay

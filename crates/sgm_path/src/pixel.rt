@@ -2,7 +2,7 @@
 // their rows. Where `ADD` says so, the values are added to the sums.
 ghost use Rattle.std.specs.Prelude.{◌≡◌, ℕ, ◌+◌, ◌^◌, ◌<◌, ◌≤◌, length, slice_index, All, IsTrue};
 ghost use Rattle.sgm_energy.specs.Pens.{penalties_of, far_of};
-ghost use Rattle.sgm_path.specs.Paths.{AddsAt, CanAdd, Follows, FollowsAt, IsFarIn, IsLowAt};
+ghost use Rattle.sgm_path.specs.Paths.{AddsPixel, CanAdd, Follows, FollowsAt, IsFarIn, IsLowAt};
 ghost use Rattle.sgm_path.specs.Paths.{OthersStay, terms_of};
 
 use crate::row_pass::RowPass;
@@ -72,7 +72,7 @@ pub(crate) fn begin_at<const ADD: bool>(
     ensures each { (d : ℕ) → d < row.now.count
         → slice_index values.new (at + d) ≡ slice_index row.now.costs.now (at + d) }
     ensures bound { IsLowAt at row.now.count values.new }
-    ensures added { IsTrue ADD → AddsAt at row.now.count
+    ensures added { IsTrue ADD → AddsPixel at row.now.count
         (λ d. slice_index values.new (at + d)) sums.old sums.new }
 {
     begin(row.costs, row.count, at, values);
@@ -101,7 +101,7 @@ fn follow<const ADD: bool>(
         (slice_index row.now.costs.now (at + d)) d (slice_index into.new d) }
     ensures bound { (d : ℕ) → d < row.now.count → slice_index into.new d ≤ MAX_PATH_VALUE }
     ensures added { IsTrue ADD
-        → AddsAt at row.now.count (slice_index into.new) sums.old sums.new }
+        → AddsPixel at row.now.count (slice_index into.new) sums.old sums.new }
 {
     let costs = &row.costs[at..at + row.count];
     let p1 = row.pen.p1();
@@ -131,7 +131,7 @@ pub(crate) fn from_left<const ADD: bool>(
     requires sums { IsTrue ADD → CanAdd (terms_of row.now) at sums.old }
     ensures follows { FollowsAt (terms_of row.now) far from at values.old values.new }
     ensures bound { IsLowAt at row.now.count values.new }
-    ensures added { IsTrue ADD → AddsAt at row.now.count
+    ensures added { IsTrue ADD → AddsPixel at row.now.count
         (λ d. slice_index values.new (at + d)) sums.old sums.new }
 {
     let (front, back) = values.split_at_mut(at);
@@ -156,7 +156,7 @@ pub(crate) fn from_right<const ADD: bool>(
     requires sums { IsTrue ADD → CanAdd (terms_of row.now) at sums.old }
     ensures follows { FollowsAt (terms_of row.now) far from at values.old values.new }
     ensures bound { IsLowAt at row.now.count values.new }
-    ensures added { IsTrue ADD → AddsAt at row.now.count
+    ensures added { IsTrue ADD → AddsPixel at row.now.count
         (λ d. slice_index values.new (at + d)) sums.old sums.new }
 {
     let end = at + row.count;
@@ -184,7 +184,7 @@ pub(crate) fn from_itself<const ADD: bool>(
     requires sums { IsTrue ADD → CanAdd (terms_of row.now) at sums.old }
     ensures follows { FollowsAt (terms_of row.now) far at at values.old values.new }
     ensures bound { IsLowAt at row.now.count values.new }
-    ensures added { IsTrue ADD → AddsAt at row.now.count
+    ensures added { IsTrue ADD → AddsPixel at row.now.count
         (λ d. slice_index values.new (at + d)) sums.old sums.new }
 {
     let (_, back) = values.split_at_mut(at);

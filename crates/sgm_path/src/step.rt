@@ -5,7 +5,7 @@ ghost use Rattle.sgm_energy.specs.Pens.{penalties_of};
 ghost use Rattle.sgm_energy.specs.Rays.{Problem, row_before};
 ghost use Rattle.sgm_energy.specs.Energies.{path_value};
 ghost use Rattle.sgm_energy.specs.Rows.{HoldsRow};
-ghost use Rattle.sgm_path.specs.Paths.{AreCosts, CanAddRow, ComesBefore, far_between, far_in};
+ghost use Rattle.sgm_path.specs.Paths.{AreCosts, CanAddRow, CanComeBefore, far_between, far_in};
 ghost use Rattle.sgm_path.specs.Paths.{HoldsRowBefore, RowFollows, Suits, terms_of};
 
 use crate::pixel::begin;
@@ -88,7 +88,7 @@ pub fn step_row(
     requires costs { AreCosts count guide.now costs.now }
     requires same_length { length costs.now ≡ length into.old }
     requires before { IfSome before
-        (λ b. ComesBefore count guide_before.now b.now (length into.old)) }
+        (λ b. CanComeBefore count guide_before.now b.now (length into.old)) }
     ensures bound { All (λ v. v ≤ MAX_PATH_VALUE) into.new }
     ensures costs_alone { IfNone before.entry
         (EachIndex into.new (λ k. slice_index into.new k ≡ slice_index costs.now k)) }

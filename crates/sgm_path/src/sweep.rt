@@ -4,7 +4,7 @@ ghost use Rattle.std.specs.Prelude.{EachIndex, IsTrue, Some, false};
 ghost use Rattle.sgm_energy.specs.Dirs.{is_level};
 ghost use Rattle.sgm_energy.specs.Pens.{penalties_of};
 ghost use Rattle.sgm_energy.specs.Rays.{column_before};
-ghost use Rattle.sgm_path.specs.Paths.{AddsAt, AreRows, CanAdd, CanAddRow, column_at};
+ghost use Rattle.sgm_path.specs.Paths.{AddsPixel, AreRows, CanAdd, CanAddRow, column_at};
 ghost use Rattle.sgm_path.specs.Paths.{ColumnFollows, far_in, IsLowAt, row_from, RowFollows};
 ghost use Rattle.sgm_path.specs.Paths.{terms_of};
 
@@ -47,7 +47,7 @@ fn step_at<const ADAPTIVE: bool, const ADD: bool, const COUNT: usize>(
     requires sums { IsTrue ADD → CanAdd (terms_of row.now) (x * row.now.count) sums.old }
     ensures follows { ColumnFollows (terms_of row.now) x values.old values.new }
     ensures bound { IsLowAt (x * row.now.count) row.now.count values.new }
-    ensures added { IsTrue ADD → AddsAt (x * row.now.count) row.now.count
+    ensures added { IsTrue ADD → AddsPixel (x * row.now.count) row.now.count
         (λ d. slice_index values.new (x * row.now.count + d)) sums.old sums.new }
 {
     let at = x * row.count;
