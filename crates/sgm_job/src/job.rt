@@ -1,4 +1,4 @@
-ghost use Rattle.std.specs.Prelude.{◌≡◌, ◌≤◌, IfOk, Some, None};
+ghost use Rattle.std.specs.Prelude.{◌≡◌, ◌≤◌, ◌<◌, IfOk, Some, None};
 ghost use Rattle.sgm_rectify.specs.Warps.{IsWarp};
 ghost use Rattle.sgm_base.specs.Values.{AtMost};
 ghost use Rattle.sgm_base.specs.declared.limits.TheConstants.{MAX_DISPARITY, MAX_STRIPS};
@@ -161,6 +161,13 @@ fn disparity_map<R: Threads + Sync, G: Gate + Sync>(
     scene_map(rt, alloc, &planes, calib.fine(), asked, gate)
 }
 
+/// In how many threads both images are rectified: one for each worker, or one for each image.
+fn threads_for(workers: u32) -> usize
+    ensures { 0 < result }
+{
+    workers.max(2) as usize
+}
+
 /// Surveys a pair of images: rectifies them, matches them, and gives for each pixel of the left one
 /// its disparity, less the first, in sixteenths, or None where the match isn't the same from the
 /// right or a pixel is void; the grid of heights where the calibration has one, of what each cell
@@ -214,7 +221,7 @@ pub fn survey_refined<R: Threads + Sync, G: Gate + Sync>(
     if let Some(fault) = pair_fault(left.size(), right.size(), calib) {
         return Err(SurveyError::Fault(fault));
     }
-    let pair = prepare_both(rt, alloc, left, right, calib)?;
+    let pair = prepare_both(rt, alloc, left, right, calib, threads_for(workers))?;
     let asked = Asked {
         strips,
         workers,

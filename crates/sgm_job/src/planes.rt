@@ -1,6 +1,6 @@
 //! From the images to what is matched: rectified planes, their codes, and the scene of these.
 
-ghost use Rattle.std.specs.Prelude.{◌≡◌, IfOk};
+ghost use Rattle.std.specs.Prelude.{◌≡◌, ◌<◌, IfOk};
 ghost use Rattle.sgm_energy.specs.Pens.{guide_of};
 ghost use Rattle.sgm_rectify.specs.Faults.{Suits};
 ghost use Rattle.sgm_rectify.specs.Rectified.{sides_of};
@@ -11,7 +11,7 @@ use crate::pair::{Coded, CodedPair, ScenePlanes};
 use sgm_base::Image;
 use sgm_calib::Calib;
 use sgm_census::{CostRule, Window, codes};
-use sgm_rectify::{Warp, rectify};
+use sgm_rectify::{Warp, rectify, rectify_by};
 use sgm_strip::{Guide, Scene};
 use std::alloc::{AllocError, Global};
 use std::thread::{Threads, join};
@@ -71,27 +71,38 @@ pub(crate) fn prepare_each(
     Ok(paired(left_made, right_made, left, right, calib))
 }
 
-/// Both images, each by its warp, side by side where there is a thread for it.
-pub(crate) fn prepare_both<R: Threads>(
+/// Both images, each by its warp: the planes one after the other by at most so many threads, and
+/// then their codes side by side where there is a thread for it.
+pub(crate) fn prepare_both<R: Threads + Sync>(
     rt: &R,
     alloc: Global,
     left: &Image,
     right: &Image,
     calib: &Calib,
+    threads: usize,
 ) -> Result<CodedPair, AllocError>
-    requires { Passes (sides_of left.now) (sides_of right.now) calib.now }
+    requires passes { Passes (sides_of left.now) (sides_of right.now) calib.now }
+    requires threads { 0 < threads }
     ensures { IfOk result (IsPair left.now right.now calib.now) }
 {
     let window = calib.window();
     let rule = calib.rule();
-    let left_warp = calib.left();
-    let right_warp = calib.right();
-    let (left_made, right_made) = join(
+    let left_plane = rectify_by(rt, alloc, left, calib.left(), threads)?;
+    let right_plane = rectify_by(rt, alloc, right, calib.right(), threads)?;
+    let (left_codes, right_codes) = join(
         rt,
-        || coded_image(alloc, left, left_warp, window, rule),
-        || coded_image(alloc, right, right_warp, window, rule),
+        || codes(alloc, &left_plane, window, rule),
+        || codes(alloc, &right_plane, window, rule),
     );
-    Ok(paired(left_made?, right_made?, left, right, calib))
+    let left_made = Coded {
+        plane: left_plane,
+        codes: left_codes?,
+    };
+    let right_made = Coded {
+        plane: right_plane,
+        codes: right_codes?,
+    };
+    Ok(paired(left_made, right_made, left, right, calib))
 }
 
 /// The scene of a pair, with the left image as the guide.

@@ -1,10 +1,12 @@
 -- Rectified rows.
-use Rattle.std.proofs.Common.{◌≡◌, ℕ, ◌+◌, ◌-◌, ◌*◌, ◌/◌, ◌%◌, ◌<◌, cond, ltb, ◌&&◌, List, ◌++◌, length, get_or, set, take, map, below_more, Option, Some, None, option_map, IfSome, pos, sym, ap, ◌∙◌, subst, arith, inl, inr}
+use Rattle.std.proofs.Common.{◌≡◌, ℕ, ◌+◌, ◌-◌, ◌*◌, ◌/◌, ◌%◌, ◌<◌, ◌≤◌, cond, ltb, ◌&&◌, List, ◌++◌, length, get_or, set, take, map, below_more, Option, Some, None, option_map, IfSome, pos, sym, ap, ◌∙◌, subst, arith, inl, inr}
 use Rattle.std.specs.List.{range_with_len}
+use Rattle.std.specs.Prelude.{min}
+use Rattle.std.proofs.Math.Nat.{div-mul-le_self, dvd-mul_left, mod-mod_of_dvd, mul-add-div_right, mul-add-mod_self_right, mul-le-mul_right, mul-mod_left, mul-sub, zero-mod}
 use Rattle.std.proofs.lemmas.Bool.{cases_lt, lt-ltb}
 use Rattle.std.proofs.lemmas.List.{get_or-take, get_or_append_left, get_or-append_right, get_or-set_same, get_or-set_other, ext_get_or}
 use Rattle.std.proofs.lemmas.List.FromFn.{length-map-range_with_len, get_or-map-range_with_len}
-use Rattle.std.proofs.lemmas.Nat.{div-mul-add, mod-mul-add}
+use Rattle.std.proofs.lemmas.Nat.{div-add-mod', div-mul-add, mod-mul-add}
 use Rattle.sgm_base.specs.Picture.{Picture}
 use Rattle.sgm_base.specs.Values.{Values}
 use Rattle.sgm_rectify.specs.declared.warp.Warp.{Warp}
@@ -31,9 +33,45 @@ row_more width y into front row rest f ef lf lr old new k h = elim (cases_lt k (
       ∙ get_or_append_left row rest None x (omega arith) ∙ new x inside ∙ sym (ap (λ n. f n (k / width)) column ∙ ap (λ n. f x n) line))
 ]
 
+-- rows that begin at a place
+
+pub begin_of : (start width : ℕ) → start % width ≡ 0 → start / width * width ≡ start
+begin_of start width whole = omega (arith, div-add-mod' start width, whole)
+
+-- a row that has room lies inside
+pub row_inside : (start row len width height : ℕ) → 0 < width → start % width ≡ 0 → row < len / width → start + len ≤ width * height → start / width + row < height
+row_inside start row len width height some whole room inside =
+    let first = start / width in
+    elim (cases_lt (first + row) height) [
+      | inl l ↦ l
+      | inr l ↦ absurd (omega (arith, inside, begin_of start width whole, mul-le-mul_right width l, mul-le-mul_right {m = row + 1} {n = len / width} width (omega (arith, room)), div-mul-le_self len width, some))
+    ]
+
+-- the column and the row of a place behind it
+pub place_column : (start k width : ℕ) → start % width ≡ 0 → k % width ≡ (start + k) % width
+place_column start k width whole =
+    sym (mul-add-mod_self_right (start / width) width k) ∙ ap (λ n. (n + k) % width) (begin_of start width whole)
+
+pub place_row : (start k width : ℕ) → 0 < width → start % width ≡ 0 → start / width + k / width ≡ (start + k) / width
+place_row start k width some whole =
+    sym (mul-add-div_right some (start / width) k) ∙ ap (λ n. (n + k) / width) (begin_of start width whole)
+
+-- a part that is so many rows, or what is left, has whole rows
+pub begins_whole : (start rows width : ℕ) → start % (rows * width) ≡ 0 → start % width ≡ 0
+begins_whole start rows width e =
+    sym (mod-mod_of_dvd width start (dvd-mul_left width rows)) ∙ ap (λ n. n % width) e ∙ zero-mod width
+
+pub ends_whole : (start len rows width height : ℕ) → start % width ≡ 0 → len ≡ min (rows * width) (width * height - start) → len % width ≡ 0
+ends_whole start len rows width height whole e = elim (cases_lt (rows * width) (width * height - start)) [
+  | inl l ↦ (let full : len ≡ rows * width = omega (arith, e, l) in ap (λ n. n % width) full ∙ mul-mod_left rows width)
+  | inr l ↦
+      (let rest : len ≡ (height - start / width) * width = omega (arith, e, l, begin_of start width whole, mul-sub width height (start / width)) in
+      ap (λ n. n % width) rest ∙ mul-mod_left (height - start / width) width)
+]
+
 -- all rows
 pub all_rows : (image : Picture) (warp : Warp) (into : List (Option ℕ)) → length into ≡ image.width * image.height
-    → ((k : ℕ) → k < image.height * image.width → get_or into k None ≡ rectified image warp (k % image.width) (k / image.width))
+    → ((k : ℕ) → k < length into → get_or into k None ≡ rectified image warp (k % image.width) (k / image.width))
     → into ≡ (rectified_values image warp).entries
 unfolding rectified_values
 all_rows image warp into e h =
@@ -42,7 +80,7 @@ all_rows image warp into e h =
     ext_get_or None into (map f (range_with_len 0 n)) (e ∙ sym (length-map-range_with_len f 0 n))
     (λ k l.
     let inside : k < n = omega (arith, e) in
-    h k (omega arith) ∙ sym (get_or-map-range_with_len f 0 n k k None inside (omega arith)))
+    h k l ∙ sym (get_or-map-range_with_len f 0 n k k None inside (omega arith)))
 
 -- at a pixel's own place the value is its sample
 inside-is : (image : Picture) (x y v : ℕ) → x < image.width → y < image.height → cond {A = Option ℕ} (ltb x image.width && ltb y image.height) (Some v) None ≡ Some v

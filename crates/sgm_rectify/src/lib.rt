@@ -14,5 +14,5 @@ pub use limits::{
     MAX_ENTRY, MAX_NODE, MAX_NODE_COUNT, MAX_STEP, MIN_ENTRY, MIN_NODE, MIN_NODE_COUNT, MIN_STEP,
 };
 pub use nodes::Nodes;
-pub use rectified::{rectify, rectify_row};
+pub use rectified::{rectify, rectify_by, rectify_row};
 pub use warp::{Warp, WarpFault};

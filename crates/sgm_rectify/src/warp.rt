@@ -151,15 +151,24 @@ impl Warp {
         requires { SuitsPixel self.now x y }
         ensures { result ≡ place_of self.now x y }
     {
+        self.place_near(x, y, (0, 0))
+    }
+
+    /// The same, found soonest where it lies at most 1/256 of a pixel from `near` in both axes.
+    #[inline]
+    pub(crate) fn place_near(&self, x: u32, y: u32, near: (i64, i64)) -> (i64, i64)
+        requires { SuitsPixel self.now x y }
+        ensures { result ≡ place_of self.now x y }
+    {
         match self {
             Warp::Identity => (256 * x as i64, 256 * y as i64),
-            Warp::Projective(matrix) => projected(matrix, x, y),
+            Warp::Projective(matrix) => projected(matrix, x, y, near),
             Warp::Mesh {
                 step,
                 cols,
                 nodes,
                 ..
-            } => meshed(*step, *cols, nodes.as_slice(), x, y),
+            } => meshed(*step, *cols, nodes.as_slice(), x, y, near),
         }
     }
 }

@@ -9,8 +9,8 @@ returns-in-Some-clause-exact g c =
     let right = sides_are c.size-2.result c.args.right.now c.size-2.ensures.width c.size-2.ensures.height in
     fault_answered c.args.left.now c.args.right.now c.args.calib.now c.args.refine c.size.result c.size-2.result c.in-Some.fault left right c.in-Some.ensures
 
-pub prepare_both-requires : goal.prepare_both-requires
-prepare_both-requires g c =
+pub prepare_both-requires-clause-passes : goal.prepare_both-requires-clause-passes
+prepare_both-requires-clause-passes g c κs within =
     let left = sides_are c.size.result c.args.left.now c.size.ensures.width c.size.ensures.height in
     let right = sides_are c.size-2.result c.args.right.now c.size-2.ensures.width c.size-2.ensures.height in
     images_pass c.args.left.now c.args.right.now c.args.calib.now c.size.result c.size-2.result left right

@@ -36,11 +36,11 @@ returns c =
     let third = c.share-3.ensures.value ∙ ap (λ (z : ℤ). pos ((s - a) * b) *ℤ z) (kept32 c.args.lower.0 c.requires.lower.0) in
     let fourth = c.share-4.ensures.value ∙ ap (λ (z : ℤ). pos (a * b) *ℤ z) (kept32 c.args.lower.1 c.requires.lower.1) in
     let weight_kept : to_z w64 (of_z w64 c.weight.result) ≡ c.weight.result = omega (arith, ints, c.weight.type_inv) in
-    let result_kept : to_z w64 (of_z w64 c.floor_div.result) ≡ c.floor_div.result = omega (arith, ints, c.floor_div.type_inv) in
+    let result_kept : to_z w64 (of_z w64 c.floor_near.result) ≡ c.floor_near.result = omega (arith, ints, c.floor_near.type_inv) in
     let area = weight_kept ∙ c.weight.ensures.value in
     let sum_of : ℤ → ℤ → ℤ → ℤ → ℤ = λ p q r t. ((p +ℤ q) +ℤ r) +ℤ t in
     let is_sum = sum ∙ ap4 sum_of first second third fourth in
-    result_kept ∙ c.floor_div.ensures
+    result_kept ∙ c.floor_near.ensures
     ∙ ap (λ (d : ℤ). int_div_euclid (to_z w64 (of_z w64 (to_z w64 (of_z w64 (to_z w64 (of_z w64 (to_z w64 (of_z w64 c.share.result) +ℤ to_z w64 (of_z w64 c.share-2.result))) +ℤ to_z w64 (of_z w64 c.share-3.result))) +ℤ to_z w64 (of_z w64 c.share-4.result)))) d) area
     ∙ ap (λ (n : ℤ). int_div_euclid n (pos (s * s))) is_sum
 

@@ -8,7 +8,7 @@ returns c =
     let numerator : to_z w64 (of_z w64 (pos 256 *ℤ to_z w64 (of_z w64 c.affine-numerator.result))) ≡ pos 256 *ℤ c.affine-numerator.result =
     omega (arith, ints, c.affine-numerator.ensures.low, c.affine-numerator.ensures.high) in
     let divisor : to_z w64 (of_z w64 c.affine.result) ≡ c.affine.result = omega (arith, ints, c.affine.type_inv) in
-    let kept : to_z w64 (of_z w64 c.floor_div.result) ≡ c.floor_div.result = omega (arith, ints, c.floor_div.type_inv) in
-    kept ∙ c.floor_div.ensures
+    let kept : to_z w64 (of_z w64 c.floor_near.result) ≡ c.floor_near.result = omega (arith, ints, c.floor_near.type_inv) in
+    kept ∙ c.floor_near.ensures
     ∙ ap₂ int_div_euclid
     (numerator ∙ ap (λ (z : ℤ). pos 256 *ℤ z) c.affine-numerator.ensures.value) (divisor ∙ c.affine.ensures.value)

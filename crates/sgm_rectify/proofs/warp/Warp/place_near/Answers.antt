@@ -4,7 +4,7 @@ use Rattle.sgm_rectify.specs.declared.warp.Warp.{Warp}
 use Rattle.sgm_rectify.specs.Faults.{SuitsPixel}
 use Rattle.sgm_rectify.specs.Places.{in_cell, place_of}
 use Rattle.sgm_rectify.proofs.Suits.{positive_at, column_there, nodes_there}
-use Rattle.sgm_rectify.proofs.warp.Warp.place.Goals as goal
+use Rattle.sgm_rectify.proofs.warp.Warp.place_near.Goals as goal
 
 pub projected-requires-clause-positive : goal.projected-requires-clause-positive
 projected-requires-clause-positive c =
