@@ -1,7 +1,8 @@
 //! The samples of an image as bytes.
 
 ghost use Rattle.std.specs.Prelude.{◌≡◌, ◌↔◌, ◌+◌, ◌*◌, ◌/◌, ◌<◌, ◌≤◌, ℕ, All, IfOk, IfSome};
-ghost use Rattle.std.specs.Prelude.{IsSome, MatchOption, MatchResult, length, nat_lt, slice_index};
+ghost use Rattle.std.specs.Prelude.{IsSome, MatchOption, MatchResult, false, length, nat_lt};
+ghost use Rattle.std.specs.Prelude.{slice_index};
 ghost use Rattle.sgm_base.specs.Picture.{IsPicture, picture};
 ghost use Rattle.sgm_pgm.specs.declared.fault.PgmFault.TheVariants.{SampleAbove};
 ghost use Rattle.sgm_pgm.specs.Fault.{IsFirstAbove};
@@ -88,7 +89,11 @@ fn samples_of(alloc: Global, size: Size, maxval: u16, raster: &[u8]) -> Result<V
 fn single_bytes(alloc: Global, raster: &[u8]) -> Result<Vec<u16>, AllocError>
     ensures { IfOk result (λ samples. samples.items ≡ raster.now) }
 {
-    raster.iter().map(|byte| u16::from(*byte)).collect(alloc)
+    let mut samples = vec![in alloc; 0u16; raster.len()]?;
+    for index in 0..samples.len() {
+        samples[index] = u16::from(raster[index]);
+    }
+    Ok(samples)
 }
 
 /// Each two bytes as a sample, the most significant first.
@@ -123,11 +128,26 @@ fn checked_image(size: Size, maxval: u16, samples: Vec<u16>) -> Result<Image, Pg
     }
 }
 
+/// Whether a sample is above maxval.
+fn has_above(maxval: u16, samples: &[u16]) -> bool
+    ensures { result ≡ false → All (λ s. s ≤ maxval) samples.now }
+{
+    let mut found = false;
+    // No way out within, so that many samples are looked at at once.
+    for sample in samples {
+        found = found | (*sample > maxval);
+    }
+    found
+}
+
 /// The least index of a sample above maxval.
 fn first_above(maxval: u16, samples: &[u16]) -> Option<usize>
     ensures { MatchOption result (All (λ s. s ≤ maxval) samples.now)
         (λ index. IsFirstAbove maxval samples.now index) }
 {
+    if !has_above(maxval, samples) {
+        return None;
+    }
     for (index, sample) in samples.iter().enumerate() {
         if *sample > maxval {
             return Some(index);

@@ -46,7 +46,20 @@ fn append_samples(into: &mut Vec<u8>, samples: &[u16])
     requires { vec_len into.old + 2 * length samples.now ≤ vec_capacity into.old }
     ensures { into.new.items ≡ into.old.items ++ flat_map two_bytes samples.now }
 {
-    for sample in samples {
-        append(into, &sample.to_be_bytes());
+    let from = into.len();
+    into.resize(from + 2 * samples.len(), 0).unwrap();
+    let (_, behind) = into.as_mut_slice().split_at_mut(from);
+    write_samples(samples, behind);
+}
+
+/// Writes two bytes a sample.
+fn write_samples(samples: &[u16], into: &mut [u8])
+    requires { length samples.now * 2 ≡ length into.old }
+    ensures { into.new ≡ flat_map two_bytes samples.now }
+{
+    for index in 0..samples.len() {
+        let [high, low] = samples[index].to_be_bytes();
+        into[2 * index] = high;
+        into[2 * index + 1] = low;
     }
 }
