@@ -196,7 +196,9 @@ fn near_word(plane: &Plane, window: Window, at: Centre) -> u64
     without_centre(word, window.width * window.height / 2)
 }
 
-/// The code of the pixel (x, y), whose middle is given, as a word.
+/// The code of the pixel (x, y), whose middle is given, as a word. Few pixels are coded so; within
+/// the loop that looks for them, it would slow it down.
+#[inline(never)]
 fn coded(plane: &Plane, window: Window, x: usize, y: usize, middle: u16) -> Option<u64>
     requires pixel { (x < 2 ^ 15) × (y < 2 ^ 15) }
     requires middle { (own : ℕ) → value_at plane.now x y ≡ Some own

@@ -1,8 +1,9 @@
 -- How far a disparity lies from its index, and that it stays among those of all indices.
-use Rattle.std.proofs.Common.{◌≡◌, ℕ, ◌+◌, ◌-◌, ◌*◌, ◌/◌, ◌<◌, ◌≤◌, true, false, cond, eqb, ◌||◌, Bool, List, refl, sym, ap, ◌∙◌, subst, inl, inr, arith, pos, negsuc, ◌+ℤ◌, ◌-ℤ◌, ◌*ℤ◌, unsigned_abs}
+use Rattle.std.proofs.Common.{◌≡◌, ℕ, ◌+◌, ◌-◌, ◌*◌, ◌/◌, ◌%◌, ◌<◌, ◌≤◌, true, false, cond, eqb, ◌||◌, Bool, List, refl, sym, ap, ◌∙◌, subst, inl, inr, arith, pos, negsuc, ◌+ℤ◌, ◌-ℤ◌, ◌*ℤ◌, unsigned_abs}
 use Rattle.std.proofs.lemmas.Bool.{cases_lt, eq-eqb, ne_eqb}
 use Rattle.std.proofs.lemmas.Int.{ints}
-use Rattle.std.proofs.lemmas.Nat.{div_below}
+use Rattle.std.proofs.Math.Nat.{add-mul-div_right, mul-le-mul_right, mul-sub}
+use Rattle.std.proofs.lemmas.Nat.{div-add-mod', div-mul-add, div_below, mod_below}
 use Rattle.std.specs.Int.{int_div_euclid}
 use Rattle.sgm_base.specs.Ranges.{Within}
 use Rattle.sgm_base.specs.Rounding.{rounded}
@@ -24,6 +25,32 @@ near a c h = elim (cases_lt (17 * a) (15 * c)) [
   | inr l ↦ (let high : (17 * a - 15 * c) / (2 * (a + c)) < 9 = div_below (17 * a - 15 * c) (2 * (a + c)) 9 (omega arith) (omega arith) in
       subst (λ z. Within 8 z) (sym (vertex_after a c l)) (omega (arith, ints), omega (arith, ints)))
 ]
+
+-- eight more than that lies never before the middle
+shifted : (a c : ℕ) → 0 < a → rounded (pos 8 *ℤ (pos a -ℤ pos c)) (pos a +ℤ pos c) ≡ pos ((33 * a + c) / (2 * (a + c))) -ℤ pos 8
+shifted a c some =
+    let k = 2 * (a + c) in
+    elim (cases_lt (17 * a) (15 * c)) [
+      | inl l ↦
+          (let m = 15 * c - 17 * a - 1 in
+          let low : m / k < 8 = div_below m k 8 (omega arith) (omega arith) in
+          let rest : m % k < k = mod_below m k (omega (arith, some)) in
+          let parts : (7 - m / k) * k + (k - 1 - m % k) ≡ 33 * a + c = omega (arith, div-add-mod' m k, mul-sub k 7 (m / k), mul-le-mul_right {m = m / k} {n = 7} k (omega (arith, low)), rest, low, l) in
+          let quotient : (33 * a + c) / k ≡ 7 - m / k = ap (λ n. n / k) (sym parts) ∙ div-mul-add (7 - m / k) k (k - 1 - m % k) (omega (arith, some)) in
+          vertex_before a c l ∙ omega (arith, ints, quotient, low))
+      | inr l ↦
+          (let m = 17 * a - 15 * c in
+          let quotient : (33 * a + c) / k ≡ m / k + 8 = ap (λ n. n / k) (omega (arith, l)) ∙ add-mul-div_right m 8 (omega (arith, some)) in
+          vertex_after a c l ∙ omega (arith, ints, quotient))
+    ]
+
+pub vertex_is : (before at after : ℕ) → at < before → at ≤ after
+    → vertex before at after ≡ pos ((33 * (before - at) + (after - at)) / (2 * ((before - at) + (after - at)))) -ℤ pos 8
+unfolding vertex
+vertex_is before at after f r =
+    let ea : pos before -ℤ pos at ≡ pos (before - at) = omega (arith, ints) in
+    let ec : pos after -ℤ pos at ≡ pos (after - at) = omega (arith, ints) in
+    rw (ea, ec) (shifted (before - at) (after - at) (omega arith))
 
 pub vertex_near : (before at after : ℕ) → at < before → at ≤ after → Within 8 (vertex before at after)
 unfolding vertex

@@ -20,9 +20,10 @@ pub fn sixteenths(before: u16, at: u16, after: u16) -> i32
     ensures exact { result ≡ vertex before at after }
     ensures near { Within 8 result }
 {
-    let a = i32::from(before - at);
-    let c = i32::from(after - at);
-    (16 * (a - c) + (a + c)).div_euclid(2 * (a + c))
+    let a = u32::from(before - at);
+    let c = u32::from(after - at);
+    // Eight more is never below 0, so that no sign has to be asked for.
+    ((33 * a + c) / (2 * (a + c))) as i32 - 8
 }
 
 /// The offset of the index `base` of the column `x`.

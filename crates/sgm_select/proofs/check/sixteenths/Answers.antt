@@ -1,27 +1,22 @@
-use Rattle.std.proofs.Common.{◌≡◌, ◌∙◌, ap, arith, subst, sym, ℤ, pos, ◌+ℤ◌, ◌-ℤ◌, ◌*ℤ◌, to_z, of_z}
+use Rattle.std.proofs.Common.{◌≡◌, ◌+◌, ◌-◌, ◌*◌, ◌/◌, pos, ◌-ℤ◌, to_z, of_z, ap, ap₂, arith, subst, sym, ◌∙◌}
 use Rattle.std.proofs.lemmas.Int.{ints}
-use Rattle.std.specs.Int.{int_div_euclid, w32}
+use Rattle.std.specs.Int.{w32}
 use Rattle.sgm_base.specs.Ranges.{Within}
-use Rattle.sgm_select.specs.Selection.{vertex}
-use Rattle.sgm_select.proofs.Offsets.{vertex_near}
+use Rattle.sgm_select.proofs.Offsets.{vertex_is, vertex_near}
 use Rattle.sgm_select.proofs.check.sixteenths.Goals as goal
 
-same_quotient : (x x' y y' : ℤ) → x ≡ x' → y ≡ y' → int_div_euclid x y ≡ int_div_euclid x' y'
-same_quotient x x' y y' ex ey = ap (λ (z : ℤ). int_div_euclid z y) ex ∙ ap (λ (z : ℤ). int_div_euclid x' z) ey
-
 pub returns-clause-exact : goal.returns-clause-exact
-unfolding vertex
 returns-clause-exact c =
     let a = c.from-a.result in
     let b = c.from-c.result in
-    let a' = pos c.args.before -ℤ pos c.args.at in
-    let c' = pos c.args.after -ℤ pos c.args.at in
-    let less = to_z w32 (of_z w32 (to_z w32 (of_z w32 a) -ℤ to_z w32 (of_z w32 b))) in
-    let both = to_z w32 (of_z w32 (to_z w32 (of_z w32 a) +ℤ to_z w32 (of_z w32 b))) in
-    let top : to_z w32 (of_z w32 (to_z w32 (of_z w32 (pos 16 *ℤ less)) +ℤ both)) ≡ (pos 2 *ℤ (pos 8 *ℤ (a' -ℤ c'))) +ℤ (a' +ℤ c') = omega (arith, ints, c.from-a.ensures, c.from-c.ensures) in
-    let bottom : to_z w32 (of_z w32 (pos 2 *ℤ both)) ≡ pos 2 *ℤ (a' +ℤ c') = omega (arith, ints, c.from-a.ensures, c.from-c.ensures) in
-    let whole : to_z w32 (of_z w32 c.div_euclid.result) ≡ c.div_euclid.result = omega (arith, ints, c.div_euclid.type_inv) in
-    whole ∙ c.div_euclid.ensures ∙ same_quotient _ _ _ _ top bottom
+    let q = (33 * a + b) / (2 * (a + b)) in
+    let same : q ≡ (33 * (c.args.before - c.args.at) + (c.args.after - c.args.at)) / (2 * ((c.args.before - c.args.at) + (c.args.after - c.args.at))) =
+    ap₂ (λ m n. (33 * m + n) / (2 * (m + n))) c.from-a.ensures c.from-c.ensures in
+    let is = vertex_is c.args.before c.args.at c.args.after c.requires.falls c.requires.rises in
+    let near = vertex_near c.args.before c.args.at c.args.after c.requires.falls c.requires.rises in
+    let small : pos q -ℤ pos 8 ≡ _ = ap (λ n. pos n -ℤ pos 8) same ∙ sym is in
+    let kept : to_z w32 (of_z w32 (to_z w32 q -ℤ pos 8)) ≡ pos q -ℤ pos 8 = omega (arith, ints, small, near.0, near.1) in
+    kept ∙ small
 
 pub returns-clause-near : goal.returns-clause-near
 returns-clause-near c =

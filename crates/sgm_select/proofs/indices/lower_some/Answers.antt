@@ -1,6 +1,5 @@
-use Rattle.std.proofs.Common.{◌≡◌, ◌+◌, ◌-◌, ◌<◌, ◌∙◌, ℕ, ap, sym, arith, drop, length, slice_index, take, min}
-use Rattle.std.proofs.lemmas.List.{get_or-drop, get_or-take}
-use Rattle.sgm_census.proofs.CodeRows.{IsWritten, written}
+use Rattle.std.proofs.Common.{◌≡◌, ◌+◌, ◌-◌, ◌∙◌, ℕ, ap, sym, arith, drop, length, slice_index, take, min}
+use Rattle.sgm_census.proofs.CodeRows.{written}
 use Rattle.sgm_select.specs.Keys.{key_of}
 use Rattle.sgm_select.proofs.LeastIndex.{part_at}
 use Rattle.sgm_select.proofs.indices.lower_some.Goals as goal
