@@ -74,10 +74,23 @@ def write_pair(folder, width, height):
     return names
 
 
-def write_calibration(folder, count, version=1):
+def warp_of(kind, width, height):
+    """A warp of that kind which turns a picture by a third of a degree and moves it by two pixels."""
+    if kind == "identity":
+        return {"kind": kind}
+    if kind == "projective":
+        return {"kind": kind, "matrix": [10**9, 5817764, -2 * 10**9, -5817764, 10**9, 2 * 10**9, 11, 7, 10**9]}
+    step = 16
+    cols, rows = (width - 1) // step + 2, (height - 1) // step + 2
+    corners = itertools.product(range(0, rows * step, step), range(0, cols * step, step))
+    places = ((256 * x + y * 3 // 2 - 512, 256 * y - x * 3 // 2 + 512) for y, x in corners)
+    return {"kind": kind, "step": step, "cols": cols, "rows": rows, "nodes": list(itertools.chain(*places))}
+
+
+def write_calibration(folder, count, version=1, warp=None):
     """The name of a calibration of that version and so many disparities. Version 3 has the penalties that are recommended
-    for it, the others have the plain ones; P2 is fixed in all."""
-    if count == 64 and version == 1:
+    for it, the others have the plain ones; P2 is fixed in all. Both pictures have the warp, if one is given."""
+    if count == 64 and version == 1 and warp is None:
         return "-"
     span, penalties = {"first": 0, "count": count}, {"p1": 10, "p2": 120}
     if version == 3:
@@ -86,8 +99,10 @@ def write_calibration(folder, count, version=1):
         penalties["adapt"] = False
     name = os.path.join(folder, f"calibration-{version}-{count}.json")
     with open(name, "w") as file:
-        census = {"width": 9, "height": 7}
-        json.dump({"version": version, "disparities": span, "census": census, "penalties": penalties}, file)
+        made = {"version": version, "disparities": span, "census": {"width": 9, "height": 7}, "penalties": penalties}
+        if warp is not None:
+            made["warp"] = {"left": warp, "right": warp}
+        json.dump(made, file)
     return name
 
 
@@ -245,9 +260,12 @@ def measure(words, cases, programs, python, folder):
                 yield f"{width} x {height}, {count} disparities, {strips}, {workers}, {build_name}", command, opencv
 
 
-def turns_of(words, programs, pair, count, python, folder):
+def turns_of(words, programs, case, python, folder):
     """The seconds of OpenCV, and the runs by their program's name, version and workers, and then by their strips."""
-    calibrations = [(version, write_calibration(folder, count, version)) for version in words.versions]
+    width, height, count = case
+    pair = write_pair(folder, width, height)
+    warp = warp_of(words.warp, width, height) if words.warp else None
+    calibrations = [(version, write_calibration(folder, count, version, warp)) for version in words.versions]
     rival, runs, out = [], {}, os.path.join(folder, "out")
     for _ in range(words.turns):
         rival += beside(python, pair, count, 1)[:1]
@@ -278,7 +296,7 @@ def in_turns(words, cases, programs, python, folder):
     row(*made)
     row(*["---"] * len(made))
     for width, height, count in cases:
-        rival, runs = turns_of(words, programs, write_pair(folder, width, height), count, python, folder)
+        rival, runs = turns_of(words, programs, (width, height, count), python, folder)
         for (name, _), workers, version in itertools.product(programs, words.workers, words.versions):
             strips, seconds, busy, memory = best_of(runs[name, version, workers])
             cells = [f"{width} x {height}", str(count), *([name] if has_names else []), *([str(version)] if has_versions else [])]
@@ -318,11 +336,15 @@ def words_of():
     parser.add_argument("--beside", metavar="PROGRAM", help="another program that runs in each turn too (with --turns)")
     help_versions = "versions of the calibration that run in each turn, each set beside the first one (with --turns; 1 without it)"
     parser.add_argument("--versions", type=int, choices=(1, 2, 3), nargs="+", metavar="N", default=[1], help=help_versions)
+    help_warp = "how both pictures are rectified (with --turns; not at all without it)"
+    parser.add_argument("--warp", choices=("identity", "projective", "mesh"), help=help_warp)
     words = parser.parse_args()
     if words.beside and not words.turns:
         parser.error("--beside takes --turns")
     if words.versions != [1] and not words.turns:
         parser.error("--versions takes --turns")
+    if words.warp and not words.turns:
+        parser.error("--warp takes --turns")
     if len(set(words.versions)) < len(words.versions):
         parser.error("--versions: one of them stands twice")
     return words

@@ -87,6 +87,7 @@ workers             program     tests/workers.sh
 random_cases        program     tests/random_cases.py --cases 400
 random_series       series      tests/random_cases.py --series --cases 400
 refused_allocations program,gcc tests/refused_allocations.sh
+threads             program,gcc tests/threads.sh
 interrupted         program     tests/interrupted.py
 asc_gdal            program,gdal    tests/asc_gdal.sh
 pgm_tools           program,netpbm  tests/pgm_tools.sh
