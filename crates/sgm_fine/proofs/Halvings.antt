@@ -1,5 +1,5 @@
 -- The least and the greatest of some numbers, and how often their distance has to be halved.
-use Rattle.std.proofs.Common.{◌≡◌, ℕ, ◌+◌, ◌-◌, ◌/◌, ◌^◌, ◌<◌, ◌≤◌, zero, suc, refl, List, [], ◌∷◌, ◌++◌, Bool, true, false, length, Some, Contains, slice_index, ℤ, pos, arith, ap, ap₂, subst, sym, ◌∙◌, ⊎_elim}
+use Rattle.std.proofs.Common.{◌≡◌, ℕ, ◌+◌, ◌-◌, ◌*◌, ◌/◌, ◌^◌, ◌<◌, ◌≤◌, zero, suc, refl, List, [], ◌∷◌, ◌++◌, Bool, true, false, length, Some, Contains, slice_index, ℤ, pos, arith, ap, ap₂, subst, sym, ◌∙◌, ⊎_elim}
 use Rattle.std.specs.List.{All, find, fold, list_all, range_with_len}
 use Rattle.std.specs.Prelude.{min, max, nat_lt, slice_index_or, unwrap_or}
 use Rattle.std.proofs.lemmas.Bool.{cases_lt, cond-false, cond-true, lt-ltb, le-ltb}
@@ -7,7 +7,9 @@ use Rattle.std.proofs.lemmas.Int.{ints}
 use Rattle.std.proofs.lemmas.Bool.Decides.{Decides-by_and}
 use Rattle.std.proofs.lemmas.List.Elements.{All-append, All-contains, All-weaker, Contains-append_left, Contains-append_right, Contains-get_or}
 use Rattle.std.proofs.lemmas.List.Folds.{list_all_at}
-use Rattle.std.proofs.lemmas.Nat.{le-div, pow_pos, shr-shr, shr_le}
+use Rattle.std.proofs.lemmas.Nat.{le-div, leading_length, pow-add, pow_pos, shr-shr, shr_below, shr_le}
+use Rattle.std.proofs.Math.Pow.{pow_mono}
+use lib.Count.{count_leading_zeros}
 use Rattle.std.proofs.Math.Nat.{div-mul-le_self}
 use Rattle.sgm_fine.specs.Small.{IsGreatest, IsLeast, halved, halvings, least, small}
 use Rattle.sgm_base.specs.Ranges.{IsFromTo}
@@ -154,3 +156,29 @@ in_third xs ys zs k lt = Contains-append_right (xs ++ ys) zs _ (Contains-get_or 
 -- the greatest of them has 20 bits as all have
 pub greatest_small : (m n : ℕ) (xs ys zs : List ℕ) → IsGreatest n (xs ++ ys ++ zs) → All (λ v. v < m) xs → All (λ v. v < m) ys → All (λ v. v < m) zs → n < m
 greatest_small m n xs ys zs h a b c = All-contains (λ v. v < m) (xs ++ ys ++ zs) n (All-append (λ v. v < m) (xs ++ ys) zs (All-append (λ v. v < m) xs ys a b) c) h.contained
+
+-- how often a number of 32 bits has to be halved until it has no more than b bits
+halvings_few : (m n : ℕ) → n < 2 ^ 20 → 2 ^ m ≤ 2 * n + 1 → m ≤ 20
+halvings_few m n small low =
+    ⊎_elim (λ (x : 20 < m). let p : 2 ^ 21 ≤ 2 ^ m = pow_mono x in absurd (omega (arith, small, low, p)))
+    (λ (x : m ≤ 20). x)
+    (cases_lt 20 m)
+
+pub length_few : (b n r : ℕ) → n < 2 ^ 20 → r ≡ (32 - count_leading_zeros 32 n) - b → r ≤ 20
+length_few b n r small is =
+    let found = leading_length 32 n (omega (arith, small)) in
+    let few = halvings_few found.0 n small found.3 in
+    omega (arith, few, found.1, is)
+
+pub length_enough : (b n r : ℕ) → n < 2 ^ 20 → r ≡ (32 - count_leading_zeros 32 n) - b → n / 2 ^ r < 2 ^ b
+length_enough b n r small is =
+    let found = leading_length 32 n (omega (arith, small)) in
+    let up : 2 ^ found.0 ≤ 2 ^ (b + r) = pow_mono (omega (arith, found.1, is)) in
+    shr_below n b r (omega (arith, up, found.2))
+
+pub length_least : (b n r : ℕ) → n < 2 ^ 20 → r ≡ (32 - count_leading_zeros 32 n) - b → (j : ℕ) → j < r → 2 ^ b ≤ n / 2 ^ j
+length_least b n r small is j lt =
+    let found = leading_length 32 n (omega (arith, small)) in
+    let up : 2 ^ (b + j + 1) ≤ 2 ^ found.0 = pow_mono (omega (arith, found.1, is, lt)) in
+    let twice : 2 ^ (b + j + 1) ≡ 2 ^ (b + j) * 2 = pow-add 2 (b + j) 1 in
+    le-div (2 ^ b) n (2 ^ j) (pow_pos j) (omega (arith, up, twice, found.3, pow-add 2 b j))

@@ -59,22 +59,15 @@ fn greatest_of_three(after: &Samples, here: &Samples, before: &Samples) -> u32
     first.max(greatest_of(before))
 }
 
-/// How often a number has to be halved until it is below a limit.
+/// How often a number has to be halved until it has no more than so many bits.
 #[inline]
-fn halvings_to(limit: u32, number: u32) -> u32
-    requires limit { 0 < limit }
+fn halvings_to(bits: u32, number: u32) -> u32
     requires number { number < 2 ^ 20 }
     ensures few { result ≤ 20 }
-    ensures enough { number / 2 ^ result < limit }
-    ensures least { (j : ℕ) → j < result → limit ≤ number / 2 ^ j }
+    ensures enough { number / 2 ^ result < 2 ^ bits }
+    ensures least { (j : ℕ) → j < result → 2 ^ bits ≤ number / 2 ^ j }
 {
-    let mut halvings = 0;
-    for n in 1..21 {
-        if limit <= number >> (n - 1) {
-            halvings = n;
-        }
-    }
-    halvings
+    (u32::BITS - number.leading_zeros()).saturating_sub(bits)
 }
 
 /// The samples less the least one, halved so often.
@@ -101,10 +94,10 @@ pub(crate) fn small_window(window: &Window) -> SmallWindow
     ensures kept { IsSmall result }
 {
     let low = least_of(&window.left);
-    let left = halvings_to(256, greatest_of(&window.left) - low);
+    let left = halvings_to(8, greatest_of(&window.left) - low);
     let least = least_of_three(&window.after, &window.here, &window.before);
     let most = greatest_of_three(&window.after, &window.here, &window.before);
-    let right = halvings_to(4096, most - least);
+    let right = halvings_to(12, most - least);
     SmallWindow {
         left: made_small(&window.left, low, left),
         after: made_small(&window.after, least, right),

@@ -3,10 +3,10 @@ use Rattle.std.proofs.lemmas.List.Elements.{Contains-get_or}
 use Rattle.sgm_fine.proofs.Halvings.{greatest_small, halved_below, halves, in_first, in_second, in_third, least_below, small_is, small_within}
 use Rattle.sgm_fine.proofs.small.small_window.Goals as goal
 
-pub halvings_to-right-requires-clause-number : goal.halvings_to-right-requires-clause-number
-halvings_to-right-requires-clause-number c =
+pub halvings_to-right-requires : goal.halvings_to-right-requires
+halvings_to-right-requires c =
     let w = c.args.window.now in
-    omega (arith, greatest_small 1048576 c.greatest_of_three-most.result w.after w.here w.before c.greatest_of_three-most.ensures c.requires.after c.requires.here c.requires.before)
+    record { number = omega (arith, greatest_small 1048576 c.greatest_of_three-most.result w.after w.here w.before c.greatest_of_three-most.ensures c.requires.after c.requires.here c.requires.before) }
 
 pub made_small-requires-clause-small : goal.made_small-requires-clause-small
 made_small-requires-clause-small c = λ k lt.
