@@ -1,9 +1,10 @@
 -- The sample of a row between two pixels, from those of the pixels.
-use Rattle.std.proofs.Common.{◌≡◌, ◌≢◌, ℕ, zero, suc, ◌+◌, ◌-◌, ◌*◌, ◌<◌, ◌≤◌, inl, inr, true, false, ◌==◌, Option, Some, None, is_some, if◌then◌else◌, ℤ, pos, negsuc, ◌+ℤ◌, ◌*ℤ◌, unsigned_abs, arith, refl, ap, ap₂, sym, ◌∙◌}
+use Rattle.std.proofs.Common.{◌≡◌, ◌≢◌, ℕ, zero, suc, ◌+◌, ◌-◌, ◌*◌, ◌<◌, ◌≤◌, inl, inr, true, false, ◌==◌, ◌^◌, Option, Some, None, is_some, if◌then◌else◌, ℤ, pos, negsuc, ◌+ℤ◌, ◌-ℤ◌, ◌*ℤ◌, unsigned_abs, to_z, of_z, w32, arith, refl, ap, ap₂, sym, ◌∙◌}
 use Rattle.std.specs.Prelude.{min, option_and_then, option_map}
 use Rattle.std.specs.Int.{int_div_euclid, int_rem_euclid}
 use Rattle.std.proofs.lemmas.Bool.{cases_lt}
 use Rattle.std.proofs.lemmas.Int.{ints}
+use Rattle.sgm_base.specs.Ranges.{Within}
 use Rattle.sgm_fine.specs.Samples.{between, has_rights}
 use Rattle.sgm_fine.proofs.PlaceSamples.{all_three}
 
@@ -122,3 +123,28 @@ three_there row u q f a b c s ea eb ec = elim (cases_lt f 8) [
   | inl lt ↦ all_three _ _ _ _ _ _ (after_is row u q f b c s eb ec) (here_sooner row u q f a b s lt ea eb) (before_is row u q f a b s ea eb)
   | inr ge ↦ all_three _ _ _ _ _ _ (after_is row u q f b c s eb ec) (here_later row u q f b c s ge eb ec) (before_is row u q f a b s ea eb)
 ]
+
+-- the pixel before a place, and how many sixteenths lie between
+unfoldable pub quotient : ℤ → ℤ
+quotient u = int_div_euclid (u -ℤ pos 8) (pos 16)
+
+unfoldable pub rest : ℤ → ℕ
+rest u = unsigned_abs (int_rem_euclid (u -ℤ pos 8) (pos 16))
+
+pub starts : (u : ℤ) → Starts u (quotient u) (rest u)
+unfolding quotient rest
+starts u =
+    let whole = parts (u -ℤ pos 8) in
+    let part = rest_pos (u -ℤ pos 8) in
+    (omega (arith, ints, whole, part), rest_small (u -ℤ pos 8))
+
+-- what the code computes of them
+pub started : (u : ℤ) → Within (2 ^ 24) u → to_z w32 (of_z w32 (to_z w32 (of_z w32 u) -ℤ pos 8)) ≡ u -ℤ pos 8
+started u h = omega (arith, ints, h.0, h.1)
+
+pub next_to : (u z : ℤ) → Within (2 ^ 24) u → z ≡ quotient u → to_z w32 (of_z w32 (z +ℤ pos 1)) ≡ quotient u +ℤ pos 1
+next_to u z h e = let s = starts u in omega (arith, ints, h.0, h.1, e, s.0, s.1)
+
+pub last_to : (u z : ℤ) (n f : ℕ) → Within (2 ^ 24) u → z ≡ quotient u → n ≡ min f 1
+    → to_z w32 (of_z w32 (to_z w32 (of_z w32 (z +ℤ pos 1)) +ℤ to_z w32 n)) ≡ (quotient u +ℤ pos 1) +ℤ pos (min f 1)
+last_to u z n f h e en = let s = starts u in omega (arith, ints, h.0, h.1, e, en, s.0, s.1)

@@ -1,5 +1,5 @@
 -- The samples of one place of a window, and where they lie.
-use Rattle.std.proofs.Common.{◌≡◌, ℕ, ◌^◌, true, false, ◌&&◌, Option, Some, None, is_some, ℤ, pos, ◌+ℤ◌, ◌-ℤ◌, ◌*ℤ◌, to_z, of_z, w32, arith, refl, ap, ap₂, sym, ◌∙◌}
+use Rattle.std.proofs.Common.{◌≡◌, ℕ, ◌^◌, true, false, ◌&&◌, Option, Some, None, is_some, ℤ, pos, ◌+ℤ◌, ◌-ℤ◌, ◌*ℤ◌, ◌≤ℤ◌, to_z, of_z, w32, arith, refl, ap, ap₂, sym, ◌∙◌}
 use Rattle.std.proofs.lemmas.Int.{ints}
 use Rattle.sgm_base.specs.Ranges.{Within}
 
@@ -21,6 +21,9 @@ place_same l l' a a' d d' el ea ed = ap₂ (λ (y z : ℤ). y -ℤ z) (ap₂ (λ
 pub no_rights : (a b c d : Option ℕ) (s : ℕ) → a ≡ Some s → (is_some b && is_some c && is_some d) ≡ false → false ≡ (is_some a && is_some b && is_some c && is_some d)
 no_rights a b c d s ea none = rw ea (sym none)
 
+pub no_left : (a b c d : Option ℕ) → a ≡ None → false ≡ (is_some a && is_some b && is_some c && is_some d)
+no_left a b c d ea = rw ea refl
+
 pub all_four : (a b c d : Option ℕ) (s t u v : ℕ) → a ≡ Some s → b ≡ Some t → c ≡ Some u → d ≡ Some v → true ≡ (is_some a && is_some b && is_some c && is_some d)
 all_four a b c d s t u v ea eb ec ed = rw (ea, eb, ec, ed) refl
 
@@ -30,3 +33,10 @@ all_three b c d t u v eb ec ed = rw (eb, ec, ed) refl
 
 pub lacks_first : (b c d : Option ℕ) → b ≡ None → false ≡ (is_some b && is_some c && is_some d)
 lacks_first b c d eb = rw eb refl
+
+-- what lies between two others lies no further
+pub apart_least : (m z a b x y : ℤ) → m ≤ℤ z → z ≡ a -ℤ b → a ≤ℤ x → y ≤ℤ b → m ≤ℤ (x -ℤ y)
+apart_least m z a b x y h e ha hb = omega (arith, ints, h, e, ha, hb)
+
+pub apart_most : (m z a b x y : ℤ) → z ≤ℤ m → z ≡ a -ℤ b → x ≤ℤ a → b ≤ℤ y → (x -ℤ y) ≤ℤ m
+apart_most m z a b x y h e ha hb = omega (arith, ints, h, e, ha, hb)

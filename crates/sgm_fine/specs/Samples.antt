@@ -1,12 +1,12 @@
 -- The samples of a window that lies along the surface: on the left, and at three offsets on the
 -- right.
-use Rattle.std.specs.Prelude.{◌≡◌, ℕ, ◌<◌, ◌^◌, All, ◌+◌, ◌-◌, ◌*◌, ◌/◌, ◌%◌, ◌==◌, ◌&&◌, Bool}
+use Rattle.std.specs.Prelude.{◌≡◌, ℕ, ◌<◌, ◌≤◌, ◌^◌, All, ◌+◌, ◌-◌, ◌*◌, ◌/◌, ◌%◌, ◌==◌, ◌&&◌, Bool}
 use Rattle.std.specs.Prelude.{if◌then◌else◌, List, map, Option, Some, is_some, option_and_then}
 use Rattle.std.specs.Prelude.{option_map, unwrap_or, unsigned_abs, ℤ, pos, neg_ℤ, ◌+ℤ◌, ◌-ℤ◌, ◌*ℤ◌}
 use Rattle.std.specs.Int.{int_div_euclid, int_rem_euclid}
 use Rattle.std.specs.List.{list_all, range_with_len}
 use Rattle.sgm_base.specs.Columns.{column_within}
-use Rattle.sgm_base.specs.Ranges.{Within}
+use Rattle.sgm_base.specs.Ranges.{IsFromTo, Within}
 use Rattle.sgm_base.specs.Values.{Values, value_at}
 use Rattle.sgm_fine.specs.Slopes.{rise, step_at}
 use Rattle.sgm_fine.specs.Windows.{column_of, number, row_of_place, value_around}
@@ -130,3 +130,15 @@ pub record IsWindow (window : Window) : Type 0 where
   pub after : All (λ v. v < 2 ^ 20) window.after
   pub here : All (λ v. v < 2 ^ 20) window.here
   pub before : All (λ v. v < 2 ^ 20) window.before
+
+-- where the window of a pixel has all its pixels on the left and all its rows on the right
+pub record IsInside (left right : Values) (x y : ℕ) : Type 0 where
+  pub columns : (2 ≤ x) × (x + 2 < left.width)
+  pub rows : (2 ≤ y) × (y + 2 < left.height)
+  pub right_rows : y + 2 < right.height
+
+-- and where all its places have the three columns that are needed
+abbrev pub LiesInside : Lie → ℕ → Type 0
+LiesInside lie width =
+    (i j : ℕ) → i < SIDE → j < SIDE → IsFromTo (pos 8) (pos (16 * width) -ℤ pos 25)
+    (number lie.columns i -ℤ number lie.rows j)

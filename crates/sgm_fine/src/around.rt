@@ -1,6 +1,6 @@
 //! The pixels around another one.
 
-ghost use Rattle.std.specs.Prelude.{◌≡◌, ℕ, ◌+◌, ◌*◌, ◌^◌, ◌<◌, ◌≤◌};
+ghost use Rattle.std.specs.Prelude.{◌≡◌, true, ℕ, ◌+◌, ◌*◌, ◌^◌, ◌<◌, ◌≤◌};
 ghost use Rattle.sgm_base.specs.Values.{value_at};
 ghost use Rattle.sgm_fine.specs.Windows.{HoldsWindow, value_around};
 
@@ -56,7 +56,7 @@ impl<'a> Field<'a> {
 
     /// The value of a pixel inside, none where it is void.
     #[inline]
-    fn inner(&self, x: usize, y: usize) -> Option<u16>
+    pub(crate) fn inner(&self, x: usize, y: usize) -> Option<u16>
         requires column { x < self.now.width }
         requires row { y < self.now.height }
         ensures { result ≡ value_at self.now x y }
@@ -89,6 +89,45 @@ impl<'a> Field<'a> {
         } else {
             None
         }
+    }
+
+    /// The same of the square that reaches two pixels, where that pixel lies inside.
+    #[inline]
+    pub(crate) fn around_inside(&self, x: usize, y: usize, i: usize, j: usize) -> Option<u16>
+        requires small { (x + i < 2 ^ 16) × (y + j < 2 ^ 16) }
+        requires column { (2 ≤ x + i) × (x + i < self.now.width + 2) }
+        requires row { (2 ≤ y + j) × (y + j < self.now.height + 2) }
+        ensures { result ≡ value_around self.now 2 x y i j }
+    {
+        self.inner(x + i - 2, y + j - 2)
+    }
+
+    /// Whether all of the window around a pixel lies inside.
+    #[inline]
+    pub(crate) fn has_window(&self, x: usize, y: usize) -> bool
+        requires pixel { (x < 2 ^ 15) × (y < 2 ^ 15) }
+        ensures columns { result ≡ true → (2 ≤ x) × (x + 2 < self.now.width) }
+        ensures rows { result ≡ true → (2 ≤ y) × (y + 2 < self.now.height) }
+    {
+        2 <= x && 2 <= y && x + 2 < self.width && y + 2 < self.height
+    }
+
+    /// Whether all rows of such a window lie inside.
+    #[inline]
+    pub(crate) fn has_rows(&self, y: usize) -> bool
+        requires pixel { y < 2 ^ 15 }
+        ensures { result ≡ true → (2 ≤ y) × (y + 2 < self.now.height) }
+    {
+        2 <= y && y + 2 < self.height
+    }
+
+    /// How many columns there are.
+    #[inline]
+    pub(crate) fn width(&self) -> usize
+        ensures value { result ≡ self.now.width }
+        ensures small { result < 2 ^ 16 }
+    {
+        self.width
     }
 
     /// The values of the window around a pixel, where all of it lies inside.
@@ -125,7 +164,7 @@ impl<'a> Field<'a> {
         requires pixel { (x < 2 ^ 15) × (y < 2 ^ 15) }
         ensures { HoldsWindow result self.now x y }
     {
-        if 2 <= x && 2 <= y && x + 2 < self.width && y + 2 < self.height {
+        if self.has_window(x, y) {
             self.window_inside(x, y)
         } else {
             self.window_across(x, y)

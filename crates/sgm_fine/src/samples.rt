@@ -1,8 +1,8 @@
 //! The samples of a window on the left, and those on the right at three offsets.
 
 ghost use Rattle.std.specs.Prelude.{◌≡◌, ℕ, ◌+◌, ◌-◌, ◌*◌, ◌/◌, ◌%◌, ◌^◌, ◌<◌, ◌≤◌, ℤ, pos, neg_ℤ};
-ghost use Rattle.std.specs.Prelude.{◌+ℤ◌, ◌-ℤ◌, ◌*ℤ◌, if◌then◌else◌, IfSome, is_some, length};
-ghost use Rattle.std.specs.Prelude.{slice_index, Some, None};
+ghost use Rattle.std.specs.Prelude.{◌+ℤ◌, ◌-ℤ◌, ◌*ℤ◌, ◌≤ℤ◌, ◌<ℤ◌, if◌then◌else◌, IfSome, is_some, length};
+ghost use Rattle.std.specs.Prelude.{slice_index, Some, None, true};
 ghost use Rattle.std.specs.Ordering.{int_eq};
 ghost use Rattle.sgm_base.specs.Disparities.{IsFirst};
 ghost use Rattle.sgm_base.specs.Ranges.{IsFromTo, Within};
@@ -10,8 +10,8 @@ ghost use Rattle.sgm_base.specs.Rounding.{rounded};
 ghost use Rattle.sgm_base.specs.Values.{Values, value_at};
 ghost use Rattle.sgm_fine.specs.Samples.{AreRights, Centre, HoldsLie, HoldsPlace, HoldsRights};
 ghost use Rattle.sgm_fine.specs.Samples.{HoldsSamples};
-ghost use Rattle.sgm_fine.specs.Samples.{IsLie, IsPlace, IsWindow, centre, has, has_all};
-ghost use Rattle.sgm_fine.specs.Samples.{has_rights, sample};
+ghost use Rattle.sgm_fine.specs.Samples.{IsInside, IsLie, IsPlace, IsWindow, LiesInside, centre, has};
+ghost use Rattle.sgm_fine.specs.Samples.{has_all, has_rights, sample};
 ghost use Rattle.sgm_fine.specs.Slopes.{HoldsSlopes, IsSlope, step_at};
 ghost use Rattle.sgm_fine.specs.Windows.{number};
 
@@ -109,6 +109,26 @@ fn half_later(first: u32, second: u32, third: u32, f: u32) -> u32
     }
 }
 
+/// The samples on the right between three pixels, `f` sixteenths from the first and the second.
+#[inline]
+fn rights_of(first: u32, second: u32, third: u32, f: u32) -> Rights
+    requires first { first < 2 ^ 16 }
+    requires second { second < 2 ^ 16 }
+    requires third { third < 2 ^ 16 }
+    requires part { f < 16 }
+    ensures after { result.after ≡ (16 - f) * second + f * third }
+    ensures sooner { f < 8 → result.here ≡ (8 - f) * first + (8 + f) * second }
+    ensures later { 8 ≤ f → result.here ≡ (24 - f) * second + (f - 8) * third }
+    ensures before { result.before ≡ (16 - f) * first + f * second }
+    ensures small { AreRights result }
+{
+    Rights {
+        after: mixed(second, third, f),
+        here: half_later(first, second, third, f),
+        before: mixed(first, second, f),
+    }
+}
+
 /// The samples around `u` sixteenths in the row `y`; none where a pixel that is needed is void or
 /// outside.
 #[inline]
@@ -124,11 +144,37 @@ fn rights_at(plane: &Field, y: usize, u: i32) -> Option<Rights>
     let second = sample_in(plane, y, q + 1)?;
     // The third one isn't needed where the places are those of pixels.
     let third = sample_in(plane, y, q + 1 + f.min(1) as i32)?;
-    Some(Rights {
-        after: mixed(second, third, f),
-        here: half_later(first, second, third, f),
-        before: mixed(first, second, f),
-    })
+    Some(rights_of(first, second, third, f))
+}
+
+/// The sample of the column `q` of the row `y`, which lies inside, none where it is void.
+#[inline]
+fn sample_inside(plane: &Field, y: usize, q: i32) -> Option<u32>
+    requires row { y < plane.now.height }
+    requires column { (pos 0 ≤ℤ q) × (q <ℤ pos plane.now.width) }
+    ensures value { result ≡ sample plane.now y q }
+    ensures small { IfSome result (λ v. v < 2 ^ 16) }
+{
+    Some(u32::from(plane.inner(q as usize, y)?))
+}
+
+/// The samples around `u` sixteenths in the row `y`, where all pixels that are needed lie inside.
+#[inline]
+fn rights_inside(plane: &Field, y: usize, u: i32) -> Option<Rights>
+    requires near { Within (2 ^ 24) u }
+    requires row { y < plane.now.height }
+    requires inside { IsFromTo (pos 8) (pos (16 * plane.now.width) -ℤ pos 25) u }
+    ensures none { is_some result ≡ has_rights (sample plane.now y) u }
+    ensures some { IfSome result (λ s. HoldsRights s (sample plane.now y) u) }
+    ensures small { IfSome result AreRights }
+{
+    let start = u - 8;
+    let (q, f) = (start.div_euclid(16), start.rem_euclid(16) as u32);
+    let first = sample_inside(plane, y, q)?;
+    let second = sample_inside(plane, y, q + 1)?;
+    // The third one isn't needed where the places are those of pixels.
+    let third = sample_inside(plane, y, q + 1 + f.min(1) as i32)?;
+    Some(rights_of(first, second, third, f))
 }
 
 /// How far the values rise from the middle of a window to each of its columns or rows, rounded.
@@ -218,6 +264,165 @@ fn place_at(left: &Field, right: &Field, at: Pixel, lie: &Lie, k: usize) -> Opti
     })
 }
 
+/// The samples of the pixel in the column `i` and the row `j` of a window that lies inside; none
+/// where one that is needed is void.
+#[inline]
+fn place_inside(
+    left: &Field,
+    right: &Field,
+    at: Pixel,
+    lie: &Lie,
+    i: usize,
+    j: usize,
+) -> Option<Place>
+    requires place { (i < SIDE) × (j < SIDE) }
+    requires pixel { (at.x < 2 ^ 15) × (at.y < 2 ^ 15) }
+    requires lie { IsLie lie.now }
+    requires inside { IsInside left.now right.now at.x at.y }
+    requires among { LiesInside lie.now right.now.width }
+    ensures none { (map : Values)
+        → HoldsLie lie.now (centre left.now right.now map at.first at.x at.y at.value)
+        → is_some result ≡ has (centre left.now right.now map at.first at.x at.y at.value)
+        (SIDE * j + i) }
+    ensures some { (map : Values)
+        → HoldsLie lie.now (centre left.now right.now map at.first at.x at.y at.value)
+        → IfSome result (λ s.
+        HoldsPlace s (centre left.now right.now map at.first at.x at.y at.value) (SIDE * j + i)) }
+    ensures small { IfSome result IsPlace }
+{
+    let sample = left.around_inside(at.x, at.y, i, j)?;
+    let u = lie.columns[i] - lie.rows[j];
+    let rights = rights_inside(right, at.y + j - 2, u)?;
+    Some(Place {
+        left: u32::from(sample),
+        after: rights.after,
+        here: rights.here,
+        before: rights.before,
+    })
+}
+
+/// The least of five places.
+#[inline]
+fn least_of(places: &[i32; SIDE]) -> i32
+    ensures { (n : ℕ) → n < SIDE → result ≤ℤ number places.now n }
+{
+    let mut least = places[0];
+    for n in 0..SIDE {
+        least = least.min(places[n]);
+    }
+    least
+}
+
+/// The greatest of five places.
+#[inline]
+fn greatest_of(places: &[i32; SIDE]) -> i32
+    ensures { (n : ℕ) → n < SIDE → number places.now n ≤ℤ result }
+{
+    let mut greatest = places[0];
+    for n in 0..SIDE {
+        greatest = greatest.max(places[n]);
+    }
+    greatest
+}
+
+/// How far a place lies after another one.
+#[inline]
+fn apart(place: i32, other: i32) -> i64
+    ensures value { result ≡ place -ℤ other }
+    ensures small { Within (2 ^ 32) result }
+{
+    i64::from(place) - i64::from(other)
+}
+
+/// Whether a right row of so many columns has all that is needed from one place to another.
+#[inline]
+fn spans(first: i64, last: i64, width: usize) -> bool
+    requires last { Within (2 ^ 32) last }
+    requires width { width < 2 ^ 16 }
+    ensures first { result ≡ true → pos 8 ≤ℤ first }
+    ensures last { result ≡ true → last ≤ℤ (pos (16 * width) -ℤ pos 25) }
+{
+    8 <= first && last + 24 < 16 * width as i64
+}
+
+/// Whether a window lies where a right row of so many columns has all that is needed of it.
+#[inline]
+fn lies_inside(lie: &Lie, width: usize) -> bool
+    requires { width < 2 ^ 16 }
+    ensures { result ≡ true → LiesInside lie.now width }
+{
+    let first = apart(least_of(&lie.columns), greatest_of(&lie.rows));
+    let last = apart(greatest_of(&lie.columns), least_of(&lie.rows));
+    spans(first, last, width)
+}
+
+/// The samples of a window that lies inside; none where a pixel that is needed is void.
+#[inline]
+fn samples_inside(left: &Field, right: &Field, at: Pixel, lie: &Lie) -> Option<Window>
+    requires pixel { (at.x < 2 ^ 15) × (at.y < 2 ^ 15) }
+    requires lie { IsLie lie.now }
+    requires inside { IsInside left.now right.now at.x at.y }
+    requires among { LiesInside lie.now right.now.width }
+    ensures none { (map : Values)
+        → HoldsLie lie.now (centre left.now right.now map at.first at.x at.y at.value)
+        → is_some result ≡ has_all (centre left.now right.now map at.first at.x at.y at.value) }
+    ensures some { (map : Values)
+        → HoldsLie lie.now (centre left.now right.now map at.first at.x at.y at.value)
+        → IfSome result
+        (λ w. HoldsSamples w (centre left.now right.now map at.first at.x at.y at.value)) }
+    ensures small { IfSome result IsWindow }
+{
+    let mut window = Window {
+        left: [0; PLACES],
+        after: [0; PLACES],
+        here: [0; PLACES],
+        before: [0; PLACES],
+    };
+    let (mut i, mut j) = (0, 0);
+    for k in 0..PLACES {
+        let place = place_inside(left, right, at, lie, i, j)?;
+        window.left[k] = place.left;
+        window.after[k] = place.after;
+        window.here[k] = place.here;
+        window.before[k] = place.before;
+        i += 1;
+        if i == SIDE {
+            (i, j) = (0, j + 1);
+        }
+    }
+    Some(window)
+}
+
+/// The samples of a window that may lie across an edge; none where a pixel that is needed is void
+/// or outside.
+fn samples_across(left: &Field, right: &Field, at: Pixel, lie: &Lie) -> Option<Window>
+    requires pixel { (at.x < 2 ^ 15) × (at.y < 2 ^ 15) }
+    requires lie { IsLie lie.now }
+    ensures none { (map : Values)
+        → HoldsLie lie.now (centre left.now right.now map at.first at.x at.y at.value)
+        → is_some result ≡ has_all (centre left.now right.now map at.first at.x at.y at.value) }
+    ensures some { (map : Values)
+        → HoldsLie lie.now (centre left.now right.now map at.first at.x at.y at.value)
+        → IfSome result
+        (λ w. HoldsSamples w (centre left.now right.now map at.first at.x at.y at.value)) }
+    ensures small { IfSome result IsWindow }
+{
+    let mut window = Window {
+        left: [0; PLACES],
+        after: [0; PLACES],
+        here: [0; PLACES],
+        before: [0; PLACES],
+    };
+    for k in 0..PLACES {
+        let place = place_at(left, right, at, lie, k)?;
+        window.left[k] = place.left;
+        window.after[k] = place.after;
+        window.here[k] = place.here;
+        window.before[k] = place.before;
+    }
+    Some(window)
+}
+
 /// The samples of a window; none where a pixel that is needed is void or outside.
 pub(crate) fn samples_at(left: &Field, right: &Field, at: Pixel, slopes: Slopes) -> Option<Window>
     requires pixel { (at.x < 2 ^ 15) × (at.y < 2 ^ 15) × IsFirst at.first }
@@ -230,18 +435,10 @@ pub(crate) fn samples_at(left: &Field, right: &Field, at: Pixel, slopes: Slopes)
     ensures small { IfSome result IsWindow }
 {
     let lie = lie_of(at, slopes);
-    let mut window = Window {
-        left: [0; PLACES],
-        after: [0; PLACES],
-        here: [0; PLACES],
-        before: [0; PLACES],
-    };
-    for k in 0..PLACES {
-        let place = place_at(left, right, at, &lie, k)?;
-        window.left[k] = place.left;
-        window.after[k] = place.after;
-        window.here[k] = place.here;
-        window.before[k] = place.before;
+    let inside = left.has_window(at.x, at.y) && right.has_rows(at.y);
+    if inside && lies_inside(&lie, right.width()) {
+        samples_inside(left, right, at, &lie)
+    } else {
+        samples_across(left, right, at, &lie)
     }
-    Some(window)
 }

@@ -1,38 +1,11 @@
-use Rattle.std.proofs.Common.{◌≡◌, ◌^◌, Some, is_some, ℕ, ℤ, pos, ◌+ℤ◌, ◌-ℤ◌, unsigned_abs, inl, inr, to_z, of_z, w32, arith, ap, subst, sym, ◌∙◌}
+use Rattle.std.proofs.Common.{◌≡◌, Some, is_some, pos, ◌+ℤ◌, unsigned_abs, inl, inr, to_z, of_z, w32, arith, ap, subst, sym, ◌∙◌}
 use Rattle.std.specs.Int.{int_div_euclid, int_rem_euclid}
-use Rattle.std.specs.Prelude.{min}
 use Rattle.std.proofs.lemmas.Bool.{cases_lt}
 use Rattle.std.proofs.lemmas.Int.{ints}
-use Rattle.sgm_base.specs.Ranges.{Within}
 use Rattle.sgm_fine.specs.Samples.{sample}
-use Rattle.sgm_fine.proofs.Between.{Starts, after_is, before_is, here_later, here_sooner, no_third, parts, rest_pos, rest_small, three_there, third_is}
+use Rattle.sgm_fine.proofs.Between.{Starts, after_is, before_is, here_later, here_sooner, no_third, last_to, next_to, quotient, rest, started, starts, three_there, third_is}
 use Rattle.sgm_fine.proofs.PlaceSamples.{lacks_first}
 use Rattle.sgm_fine.proofs.samples.rights_at.Goals as goal
-
--- the pixel before a place, and how many sixteenths lie between
-quotient : ℤ → ℤ
-quotient u = int_div_euclid (u -ℤ pos 8) (pos 16)
-
-rest : ℤ → ℕ
-rest u = unsigned_abs (int_rem_euclid (u -ℤ pos 8) (pos 16))
-
-starts : (u : ℤ) → Starts u (quotient u) (rest u)
-unfolding quotient rest
-starts u =
-    let whole = parts (u -ℤ pos 8) in
-    let part = rest_pos (u -ℤ pos 8) in
-    (omega (arith, ints, whole, part), rest_small (u -ℤ pos 8))
-
--- what the code computes of them
-started : (u : ℤ) → Within (2 ^ 24) u → to_z w32 (of_z w32 (to_z w32 (of_z w32 u) -ℤ pos 8)) ≡ u -ℤ pos 8
-started u h = omega (arith, ints, h.0, h.1)
-
-next_to : (u z : ℤ) → Within (2 ^ 24) u → z ≡ quotient u → to_z w32 (of_z w32 (z +ℤ pos 1)) ≡ quotient u +ℤ pos 1
-next_to u z h e = let s = starts u in omega (arith, ints, h.0, h.1, e, s.0, s.1)
-
-last_to : (u z : ℤ) (n f : ℕ) → Within (2 ^ 24) u → z ≡ quotient u → n ≡ min f 1
-    → to_z w32 (of_z w32 (to_z w32 (of_z w32 (z +ℤ pos 1)) +ℤ to_z w32 n)) ≡ (quotient u +ℤ pos 1) +ℤ pos (min f 1)
-last_to u z n f h e en = let s = starts u in omega (arith, ints, h.0, h.1, e, en, s.0, s.1)
 
 pub returns-in_err-third-clause-none : goal.returns-in_err-third-clause-none
 unfolding quotient rest
@@ -90,10 +63,10 @@ returns-clause-some c =
     let last = last_to u _ c.min.result f near at c.min.ensures in
     let third = third_is row q _ f c.in_ok-third.third last (sym c.sample_in-3.ensures.value ∙ c.in_ok-third.was) in
     record {
-      after = after_is row u q f _ _ s second third ∙ ap (λ n. Some n) (sym c.mixed.ensures.value);
+      after = after_is row u q f _ _ s second third ∙ ap (λ n. Some n) (sym c.rights_of.ensures.after);
       here = elim (cases_lt f 8) [
-        | inl lt ↦ here_sooner row u q f _ _ s lt first second ∙ ap (λ n. Some n) (sym (c.half_later.ensures.sooner lt))
-        | inr ge ↦ here_later row u q f _ _ s ge second third ∙ ap (λ n. Some n) (sym (c.half_later.ensures.later ge))
+        | inl lt ↦ here_sooner row u q f _ _ s lt first second ∙ ap (λ n. Some n) (sym (c.rights_of.ensures.sooner lt))
+        | inr ge ↦ here_later row u q f _ _ s ge second third ∙ ap (λ n. Some n) (sym (c.rights_of.ensures.later ge))
       ];
-      before = before_is row u q f _ _ s first second ∙ ap (λ n. Some n) (sym c.mixed-2.ensures.value);
+      before = before_is row u q f _ _ s first second ∙ ap (λ n. Some n) (sym c.rights_of.ensures.before);
     }

@@ -1,12 +1,14 @@
-use Rattle.std.proofs.Common.{◌≡◌, ◌≤◌, length}
+use Rattle.std.proofs.Common.{◌≡◌, ◌+◌, ◌*◌, ◌<◌, ◌≤◌, length}
 use Rattle.sgm_base.specs.Values.{Values}
 use Rattle.sgm_fine.specs.Samples.{HoldsLie, IsWindow, centre}
 use Rattle.sgm_fine.proofs.WindowSamples.{HoldsBelow}
-use Rattle.sgm_fine.proofs.samples.samples_at.Given as goal
+use Rattle.sgm_fine.proofs.samples.samples_inside.Given as goal
 
 abbrev pub invariant-loop-k : goal.invariant-loop-k
 invariant-loop-k l = record {
   few : l.k ≤ 25;
+  column : l.i < 5;
+  place : 5 * l.j + l.i ≡ l.k;
   long_left : length l.window.left ≡ 25;
   long_after : length l.window.after ≡ 25;
   long_here : length l.window.here ≡ 25;
