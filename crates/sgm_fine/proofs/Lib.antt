@@ -5,6 +5,7 @@ pub mod FinerBounds
 pub mod Halvings
 pub mod Nearby
 pub mod Numbers
+pub mod Parts
 pub mod PixelSums
 pub mod PlaceSamples
 pub mod PlaceTests

@@ -2,13 +2,13 @@
 use Rattle.std.proofs.Common.{◌≡◌, ℕ, ◌-◌, ◌*◌, ◌<◌, ◌≤◌, ◌≤ℤ◌, zero, suc, refl, Bool, true, false, List, ◌++◌, ◌&&◌, ℤ, pos, negsuc, neg_ℤ, to_z, of_z, w32, ◌+ℤ◌, ◌-ℤ◌, ◌*ℤ◌, int_lt, if◌then◌else◌, unsigned_abs, arith, ap, ap₂, subst, sym, ◌∙◌}
 use Rattle.std.proofs.lemmas.Int.{ints}
 use Rattle.sgm_base.specs.Ranges.{IsFromTo, Within}
-use Rattle.sgm_fine.specs.Finer.{ArePixelSums, best, by_itself, finer_value, left_alone, right_numbers, tells, with_left}
+use Rattle.sgm_fine.specs.Finer.{ArePixelParts, best, by_itself, finer_value, left_alone, right_numbers, tells, with_left}
 use Rattle.sgm_fine.specs.Samples.{Centre, HoldsSamples, half, has_all}
-use Rattle.sgm_fine.specs.Scores.{HoldsSums, IsFitOf, blended, covariance, numbers_at}
+use Rattle.sgm_fine.specs.Scores.{HoldsParts, IsFitOf, blended, covariance, numbers_at}
 use Rattle.sgm_fine.specs.Small.{HoldsSmall, IsSmall, small, small_left, small_right}
 use Rattle.sgm_fine.specs.Windows.{number, sum_below}
 use Rattle.sgm_fine.specs.declared.scores.Fit.{Fit}
-use Rattle.sgm_fine.specs.declared.scores.WindowSums.{WindowSums}
+use Rattle.sgm_fine.specs.declared.scores.Parts.{Parts}
 use Rattle.sgm_fine.specs.declared.samples.Window.{Window}
 use Rattle.sgm_fine.specs.declared.small.SmallWindow.{SmallWindow}
 use Rattle.sgm_fine.proofs.Totals.{covaries, covaries_more, covaries_within, pairs, product_from_to, products_same, sum_same}
@@ -74,28 +74,28 @@ same_side : (b : Bool) (f g : ℕ → ℤ) (p : Centre) (k : ℕ) → f k ≡ sm
 same_side true f g p k hf hg = hf
 same_side false f g p k hf hg = hg
 
-numbers_same : (sums : WindowSums) (p : Centre) (h : ArePixelSums sums p) (c : ℤ) (k : ℕ) → k < 25 → numbers_at h.window c k ≡ right_numbers p c k
-numbers_same sums p h c k lt =
+numbers_same : (parts : Parts) (p : Centre) (h : ArePixelParts parts p) (c : ℤ) (k : ℕ) → k < 25 → numbers_at h.window c k ≡ right_numbers p c k
+numbers_same parts p h c k lt =
     ap₂ (λ (y z : ℤ). (pos (8 - unsigned_abs c) *ℤ y) +ℤ (pos (unsigned_abs c) *ℤ z)) (h.here k lt)
     (same_side (int_lt c (pos 0)) (number h.window.after) (number h.window.before) p k (h.after k lt) (h.before k lt))
 
-pub with_left_is : (sums : WindowSums) (p : Centre) (h : ArePixelSums sums p) (c : ℤ) (fit : Fit) → IsFitOf fit h.window c → fit.together ≡ with_left p c
-with_left_is sums p h c fit is =
-    is.together ∙ covariance_same (number h.window.left) (numbers_at h.window c) (small_left p) (right_numbers p c) h.left (numbers_same sums p h c)
+pub with_left_is : (parts : Parts) (p : Centre) (h : ArePixelParts parts p) (c : ℤ) (fit : Fit) → IsFitOf fit h.window c → fit.together ≡ with_left p c
+with_left_is parts p h c fit is =
+    is.together ∙ covariance_same (number h.window.left) (numbers_at h.window c) (small_left p) (right_numbers p c) h.left (numbers_same parts p h c)
 
-pub by_itself_is : (sums : WindowSums) (p : Centre) (h : ArePixelSums sums p) (c : ℤ) (fit : Fit) → IsFitOf fit h.window c → fit.right ≡ by_itself p c
-by_itself_is sums p h c fit is =
-    is.right ∙ covariance_same (numbers_at h.window c) (numbers_at h.window c) (right_numbers p c) (right_numbers p c) (numbers_same sums p h c) (numbers_same sums p h c)
+pub by_itself_is : (parts : Parts) (p : Centre) (h : ArePixelParts parts p) (c : ℤ) (fit : Fit) → IsFitOf fit h.window c → fit.right ≡ by_itself p c
+by_itself_is parts p h c fit is =
+    is.right ∙ covariance_same (numbers_at h.window c) (numbers_at h.window c) (right_numbers p c) (right_numbers p c) (numbers_same parts p h c) (numbers_same parts p h c)
 
-pub left_alone_is : (sums : WindowSums) (p : Centre) (h : ArePixelSums sums p) → covariance (number h.window.left) (number h.window.left) ≡ left_alone p
-left_alone_is sums p h = covariance_same (number h.window.left) (number h.window.left) (small_left p) (small_left p) h.left h.left
+pub left_alone_is : (parts : Parts) (p : Centre) (h : ArePixelParts parts p) → covariance (number h.window.left) (number h.window.left) ≡ left_alone p
+left_alone_is parts p h = covariance_same (number h.window.left) (number h.window.left) (small_left p) (small_left p) h.left h.left
 
 -- the samples of a pixel's window made small
 same_small : (a h b x p q r y : List ℕ) (k : ℕ) → a ≡ p → h ≡ q → b ≡ r → x ≡ y → small 4096 (a ++ h ++ b) x k ≡ small 4096 (p ++ q ++ r) y k
 same_small a h b x p q r y k ea eh eb ex = λ i. small 4096 (ea i ++ eh i ++ eb i) (ex i) k
 
-pub pixel_sums : (sums : WindowSums) (found : SmallWindow) (window : Window) (p : Centre) → HoldsSums sums found → HoldsSmall found window → HoldsSamples window p → ArePixelSums sums p
-pixel_sums sums found window p holds made is = record {
+pub pixel_parts : (parts : Parts) (found : SmallWindow) (window : Window) (p : Centre) → HoldsParts parts found → HoldsSmall found window → HoldsSamples window p → ArePixelParts parts p
+pixel_parts parts found window p holds made is = record {
   window = found;
   holds = holds;
   left = λ k lt. made.left k lt ∙ ap (λ xs. small 256 xs xs k) is.left;

@@ -22,16 +22,16 @@ eighths_within a n m h s e p q =
     (omega (arith, ints, whole, x.0, y.0), omega (arith, ints, whole, x.1, y.1))
 
 -- their sum, as the code computes it
-pub eighths_fit : (a n : ℕ) (h s y z : ℤ) → a + n ≡ 8 → Within 34359738368 h → Within 34359738368 s → y ≡ pos a *ℤ h → z ≡ pos n *ℤ s
+pub eighths_fit : (a n : ℕ) (h s y z : ℤ) → a + n ≡ 8 → Within 36028797018963968 h → Within 36028797018963968 s → y ≡ pos a *ℤ h → z ≡ pos n *ℤ s
     → FitsSigned w64 (y +ℤ z)
 eighths_fit a n h s y z e p q ey ez =
-    let w = eighths_within a n 34359738368 h s e p q in
+    let w = eighths_within a n 36028797018963968 h s e p q in
     omega (arith, ints, ey, ez, w.0, w.1)
 
-pub eighths_kept : (a n : ℕ) (h s y z : ℤ) → a + n ≡ 8 → Within 34359738368 h → Within 34359738368 s → y ≡ pos a *ℤ h → z ≡ pos n *ℤ s
+pub eighths_kept : (a n : ℕ) (h s y z : ℤ) → a + n ≡ 8 → Within 36028797018963968 h → Within 36028797018963968 s → y ≡ pos a *ℤ h → z ≡ pos n *ℤ s
     → to_z w64 (of_z w64 (y +ℤ z)) ≡ (pos a *ℤ h) +ℤ (pos n *ℤ s)
 eighths_kept a n h s y z e p q ey ez =
-    let w = eighths_within a n 34359738368 h s e p q in
+    let w = eighths_within a n 36028797018963968 h s e p q in
     omega (arith, ints, ey, ez, w.0, w.1)
 
 -- a covariance, as the code computes it of y and z
@@ -45,6 +45,11 @@ pub covariance_kept : (t a b y z : ℤ) → Within 2199023255552 t → Within 10
 covariance_kept t a b y z h p q ey ez =
     let w = product_within 1048576 1048576 a b p q in
     omega (arith, ints, ey, ez, h.0, h.1, w.0, w.1)
+
+pub covariance_small : (t a b z : ℤ) → Within 2199023255552 t → Within 1048576 a → Within 1048576 b → z ≡ (pos 25 *ℤ t) -ℤ (a *ℤ b) → Within 70368744177664 z
+covariance_small t a b z h p q e =
+    let w = product_within 1048576 1048576 a b p q in
+    (omega (arith, ints, e, h.0, h.1, w.0, w.1), omega (arith, ints, e, h.0, h.1, w.0, w.1))
 
 -- numbers from 0 to 4095 lie within 4096
 pub near_zero : (f : ℕ → ℤ) → ((k : ℕ) → k < 25 → IsFromTo (pos 0) (pos 4095) (f k)) → (k : ℕ) → k < 25 → Within 4096 (f k)

@@ -7,10 +7,10 @@ use Rattle.std.specs.List.{best_of, flat_map, range_with_len}
 use Rattle.sgm_base.specs.Disparities.{Disparities}
 use Rattle.sgm_base.specs.Values.{Values, row_by_row, value_at, values_of}
 use Rattle.sgm_fine.specs.Samples.{Centre, half, has_all}
-use Rattle.sgm_fine.specs.Scores.{HoldsSums, blended, covariance, score}
+use Rattle.sgm_fine.specs.Scores.{HoldsParts, blended, covariance, score}
 use Rattle.sgm_fine.specs.Small.{IsSmall, small_left, small_right}
 use Rattle.sgm_fine.specs.Windows.{number}
-use Rattle.sgm_fine.specs.declared.scores.WindowSums.{WindowSums}
+use Rattle.sgm_fine.specs.declared.scores.Parts.{Parts}
 use Rattle.sgm_fine.specs.declared.small.SmallWindow.{SmallWindow}
 use Rattle.sgm_fine.specs.declared.sums.TheConstants.{PLACES}
 
@@ -84,16 +84,16 @@ finer left right map span =
     }))
     (value_at map x y)))
 
--- what the code holds: the sums of some small window
-pub record AreSmallSums (sums : WindowSums) : Type 0 where
+-- what the code holds: how the numbers of some small window vary
+pub record AreSmallParts (parts : Parts) : Type 0 where
   pub window : SmallWindow
-  pub holds : HoldsSums sums window
+  pub holds : HoldsParts parts window
   pub small : IsSmall window
 
 -- and those of a pixel's
-pub record ArePixelSums (sums : WindowSums) (p : Centre) : Type 0 where
+pub record ArePixelParts (parts : Parts) (p : Centre) : Type 0 where
   pub window : SmallWindow
-  pub holds : HoldsSums sums window
+  pub holds : HoldsParts parts window
   pub left : (k : ℕ) → k < PLACES → number window.left k ≡ small_left p k
   pub after : (k : ℕ) → k < PLACES → number window.after k ≡ small_right p half k
   pub here : (k : ℕ) → k < PLACES → number window.here k ≡ small_right p (pos 0) k

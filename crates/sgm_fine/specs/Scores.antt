@@ -1,9 +1,11 @@
 -- How well the right window explains the left one.
-use Rattle.std.specs.Prelude.{◌≡◌, ℕ, ◌≤◌, ◌⊎◌, ◌-◌, ◌*◌, ◌/◌, ◌&&◌, if◌then◌else◌, unsigned_abs, ℤ}
+use Rattle.std.specs.Prelude.{◌≡◌, ℕ, ◌≤◌, ◌⊎◌, ◌-◌, ◌*◌, ◌/◌, ◌^◌, ◌&&◌, if◌then◌else◌, unsigned_abs, ℤ}
 use Rattle.std.specs.Prelude.{pos, ◌+ℤ◌, ◌-ℤ◌, ◌*ℤ◌, int_lt, int_le}
-use Rattle.sgm_base.specs.Ranges.{IsFromTo}
+use Rattle.sgm_base.specs.Ranges.{IsFromTo, Within}
 use Rattle.sgm_fine.specs.Windows.{number, over, products}
 use Rattle.sgm_fine.specs.declared.scores.Fit.{Fit}
+use Rattle.sgm_fine.specs.declared.scores.Part.{Part}
+use Rattle.sgm_fine.specs.declared.scores.Parts.{Parts}
 use Rattle.sgm_fine.specs.declared.scores.Sums.{Sums}
 use Rattle.sgm_fine.specs.declared.scores.WindowSums.{WindowSums}
 use Rattle.sgm_fine.specs.declared.small.SmallWindow.{SmallWindow}
@@ -51,6 +53,32 @@ pub record IsSums (sums : WindowSums) : Type 0 where
   pub after : IsFromTo (pos 0) (pos 102375) sums.after.sum
   pub here : IsFromTo (pos 0) (pos 102375) sums.here.sum
   pub before : IsFromTo (pos 0) (pos 102375) sums.before.sum
+
+-- what the code holds of how one offset's numbers s vary, beside the left ones l and those of no
+-- offset h
+pub record HoldsPart (part : Part) (l h s : ℕ → ℤ) : Type 0 where
+  pub left : part.left ≡ covariance l s
+  pub cross : part.cross ≡ covariance h s
+  pub own : part.own ≡ covariance s s
+
+-- and of how those of a window vary
+pub record VaryAs (parts : Parts) (w : SmallWindow) : Type 0 where
+  pub alone : parts.alone ≡ covariance (number w.left) (number w.left)
+  pub here : HoldsPart parts.here (number w.left) (number w.here) (number w.here)
+  pub after : HoldsPart parts.after (number w.left) (number w.here) (number w.after)
+  pub before : HoldsPart parts.before (number w.left) (number w.here) (number w.before)
+
+unfoldable pub HoldsParts : Parts → SmallWindow → Type 0
+HoldsParts parts w = VaryAs parts w
+
+-- their ranges
+pub record IsPart (part : Part) : Type 0 where
+  pub left : Within (2 ^ 46) part.left
+  pub cross : Within (2 ^ 46) part.cross
+  pub own : Within (2 ^ 46) part.own
+
+unfoldable pub AreParts : Parts → Type 0
+AreParts parts = IsPart parts.here × IsPart parts.after × IsPart parts.before
 
 -- the right numbers of a window at the place c
 abbrev pub numbers_at : SmallWindow → ℤ → ℕ → ℤ

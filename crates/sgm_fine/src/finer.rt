@@ -6,14 +6,14 @@ ghost use Rattle.std.specs.Prelude.{slice_index_or, None, IfSome, EachIndex};
 ghost use Rattle.sgm_base.specs.Disparities.{IsFirst};
 ghost use Rattle.sgm_base.specs.Ranges.{IsFromTo, Within};
 ghost use Rattle.sgm_base.specs.Values.{AtMost, value_at};
-ghost use Rattle.sgm_fine.specs.Finer.{ArePixelSums, AreSmallSums, best, finer_value, fits};
+ghost use Rattle.sgm_fine.specs.Finer.{ArePixelParts, AreSmallParts, best, finer_value, fits};
 ghost use Rattle.sgm_fine.specs.Finer.{place_score, tells};
 ghost use Rattle.sgm_fine.specs.Samples.{Centre, centre};
-ghost use Rattle.sgm_fine.specs.Scores.{IsAbove, IsSums};
+ghost use Rattle.sgm_fine.specs.Scores.{IsAbove, AreParts};
 
 use crate::around::Field;
 use crate::samples::{Pixel, samples_at};
-use crate::scores::{WindowSums, fit_at, left_part, score_above, score_of, window_sums};
+use crate::scores::{Parts, fit_at, parts_of, score_above, score_of, window_sums};
 use crate::slopes::slopes_at;
 use crate::small::small_window;
 use sgm_base::{DispMap, Plane, Span};
@@ -24,11 +24,11 @@ pub(crate) const ORDER: [i32; 17] = [0, -1, 1, -2, 2, -3, 3, -4, 4, -5, 5, -6, 6
 /// The score of the place `c`, or 0 where its value isn't one from 0 to `most` or the score isn't
 /// greater than `least`.
 #[inline]
-fn score_at(sums: &WindowSums, m: u16, most: u16, c: i32, least: u64) -> u64
-    requires sums { IsSums sums.now }
-    requires small { AreSmallSums sums.now }
+fn score_at(parts: &Parts, m: u16, most: u16, c: i32, least: u64) -> u64
+    requires parts { AreParts parts.now }
+    requires small { AreSmallParts parts.now }
     requires place { Within 8 c }
-    ensures value { (p : Centre) → ArePixelSums sums.now p
+    ensures value { (p : Centre) → ArePixelParts parts.now p
         → IsAbove result least (if fits most m c then place_score p c else 0) }
     ensures within { 0 < result → IsFromTo (pos 0) (pos most) (pos m +ℤ c) }
 {
@@ -36,7 +36,7 @@ fn score_at(sums: &WindowSums, m: u16, most: u16, c: i32, least: u64) -> u64
     if value < 0 || i32::from(most) < value {
         return 0;
     }
-    score_above(fit_at(sums, c), least)
+    score_above(fit_at(parts, c), least)
 }
 
 /// One of the places that are tried.
@@ -50,20 +50,20 @@ fn tried(k: usize) -> i32
 }
 
 /// The place of the greatest score. `most` is the greatest value that there can be.
-fn best(sums: &WindowSums, m: u16, most: u16) -> i32
-    requires sums { IsSums sums.now }
-    requires small { AreSmallSums sums.now }
-    ensures value { (p : Centre) (count : ℕ) → ArePixelSums sums.now p → p.value ≡ m
+fn best(parts: &Parts, m: u16, most: u16) -> i32
+    requires parts { AreParts parts.now }
+    requires small { AreSmallParts parts.now }
+    ensures value { (p : Centre) (count : ℕ) → ArePixelParts parts.now p → p.value ≡ m
         → most ≡ 16 * (count - 1) → result ≡ best count p }
     ensures place { Within 8 result }
     ensures small { IsFromTo (pos 0) (pos 65535) (pos m +ℤ result) }
     ensures bound { m ≤ most → (pos m +ℤ result) ≤ℤ pos most }
 {
     let mut best = 0;
-    let mut score = score_of(fit_at(sums, 0));
+    let mut score = score_of(fit_at(parts, 0));
     for k in 1..17 {
         let c = tried(k);
-        let other = score_at(sums, m, most, c, score);
+        let other = score_at(parts, m, most, c, score);
         if score < other {
             best = c;
             score = other;
@@ -93,31 +93,31 @@ fn third(left: i64, right: i64) -> i64
 
 /// Whether the place `c` tells something: it has a score, and explains a third of the left window
 /// or more.
-fn tells(sums: &WindowSums, c: i32) -> bool
-    requires sums { IsSums sums.now }
-    requires small { AreSmallSums sums.now }
+fn tells(parts: &Parts, c: i32) -> bool
+    requires parts { AreParts parts.now }
+    requires small { AreSmallParts parts.now }
     requires place { Within 8 c }
-    ensures { (p : Centre) → ArePixelSums sums.now p → result ≡ tells p c }
+    ensures { (p : Centre) → ArePixelParts parts.now p → result ≡ tells p c }
 {
-    let fit = fit_at(sums, c);
+    let fit = fit_at(parts, c);
     if score_of(fit) == 0 {
         return false;
     }
     // Three times the square may be too great.
-    third(left_part(sums), fit.right) <= square(fit.together)
+    third(parts.alone, fit.right) <= square(fit.together)
 }
 
-/// The value `m` made finer by a window's sums.
-fn refined(sums: &WindowSums, m: u16, most: u16) -> u16
-    requires sums { IsSums sums.now }
-    requires small { AreSmallSums sums.now }
-    ensures value { (p : Centre) (count : ℕ) → ArePixelSums sums.now p → p.value ≡ m
+/// The value `m` made finer by how a window's numbers vary.
+fn refined(parts: &Parts, m: u16, most: u16) -> u16
+    requires parts { AreParts parts.now }
+    requires small { AreSmallParts parts.now }
+    ensures value { (p : Centre) (count : ℕ) → ArePixelParts parts.now p → p.value ≡ m
         → most ≡ 16 * (count - 1)
         → result ≡ (if tells p (best count p) then unsigned_abs (pos m +ℤ best count p) else m) }
     ensures bound { m ≤ most → result ≤ most }
 {
-    let c = best(sums, m, most);
-    if tells(sums, c) {
+    let c = best(parts, m, most);
+    if tells(parts, c) {
         (i32::from(m) + c) as u16
     } else {
         m
@@ -152,7 +152,11 @@ fn finer_at(ground: &Ground, x: usize, y: usize, m: u16) -> u16
     };
     match samples_at(&ground.left, &ground.right, at, slopes) {
         None => m,
-        Some(window) => refined(&window_sums(&small_window(&window)), m, ground.most),
+        Some(window) => refined(
+            &parts_of(&window_sums(&small_window(&window))),
+            m,
+            ground.most,
+        ),
     }
 }
 

@@ -1,7 +1,8 @@
 //! The samples of a window on the left, and those on the right at three offsets.
 
 ghost use Rattle.std.specs.Prelude.{◌≡◌, ℕ, ◌+◌, ◌-◌, ◌*◌, ◌/◌, ◌%◌, ◌^◌, ◌<◌, ◌≤◌, ℤ, pos, neg_ℤ};
-ghost use Rattle.std.specs.Prelude.{◌+ℤ◌, ◌-ℤ◌, ◌*ℤ◌, ◌≤ℤ◌, ◌<ℤ◌, if◌then◌else◌, IfSome, is_some, length};
+ghost use Rattle.std.specs.Prelude.{◌+ℤ◌, ◌-ℤ◌, ◌*ℤ◌, ◌≤ℤ◌, ◌<ℤ◌, if◌then◌else◌, IfSome, is_some};
+ghost use Rattle.std.specs.Prelude.{length};
 ghost use Rattle.std.specs.Prelude.{slice_index, Some, None, true};
 ghost use Rattle.std.specs.Ordering.{int_eq};
 ghost use Rattle.sgm_base.specs.Disparities.{IsFirst};
@@ -10,7 +11,8 @@ ghost use Rattle.sgm_base.specs.Rounding.{rounded};
 ghost use Rattle.sgm_base.specs.Values.{Values, value_at};
 ghost use Rattle.sgm_fine.specs.Samples.{AreRights, Centre, HoldsLie, HoldsPlace, HoldsRights};
 ghost use Rattle.sgm_fine.specs.Samples.{HoldsSamples};
-ghost use Rattle.sgm_fine.specs.Samples.{IsInside, IsLie, IsPlace, IsWindow, LiesInside, centre, has};
+ghost use Rattle.sgm_fine.specs.Samples.{IsInside, IsLie, IsPlace, IsWindow, LiesInside, centre};
+ghost use Rattle.sgm_fine.specs.Samples.{has};
 ghost use Rattle.sgm_fine.specs.Samples.{has_all, has_rights, sample};
 ghost use Rattle.sgm_fine.specs.Slopes.{HoldsSlopes, IsSlope, step_at};
 ghost use Rattle.sgm_fine.specs.Windows.{number};

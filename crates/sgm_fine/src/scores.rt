@@ -1,10 +1,10 @@
 //! How well the right window explains the left one at each of seventeen places.
 
-ghost use Rattle.std.specs.Prelude.{◌≡◌, ℕ, ◌<◌, ◌≤◌, ◌-◌, ◌^◌, ℤ, pos, ◌+ℤ◌, ◌-ℤ◌, ◌*ℤ◌, ◌≤ℤ◌};
+ghost use Rattle.std.specs.Prelude.{◌≡◌, ℕ, ◌<◌, ◌≤◌, ◌-◌, ◌*◌, ◌^◌, ℤ, pos, ◌+ℤ◌, ◌-ℤ◌, ◌*ℤ◌, ◌≤ℤ◌};
 ghost use Rattle.std.specs.Prelude.{false, unsigned_abs, if◌then◌else◌, int_lt};
 ghost use Rattle.sgm_base.specs.Ranges.{IsFromTo, Within};
-ghost use Rattle.sgm_fine.specs.Scores.{HoldsSide, HoldsSums, IsAbove, IsFitOf, IsSums, blended};
-ghost use Rattle.sgm_fine.specs.Scores.{covariance, score};
+ghost use Rattle.sgm_fine.specs.Scores.{AreParts, HoldsPart, HoldsParts, HoldsSide, HoldsSums, IsAbove};
+ghost use Rattle.sgm_fine.specs.Scores.{IsFitOf, IsPart, IsSums, blended, covariance, score};
 ghost use Rattle.sgm_fine.specs.Small.{IsSmall};
 ghost use Rattle.sgm_fine.specs.Windows.{number, over, products};
 
@@ -30,6 +30,25 @@ pub(crate) struct WindowSums {
     pub(crate) before: Sums,
     pub(crate) with_after: i32,
     pub(crate) with_before: i32,
+}
+
+/// How one offset's numbers vary together with those on the left and with those of no offset, and
+/// by themselves.
+#[derive(Clone, Copy)]
+pub(crate) struct Part {
+    pub(crate) left: i64,
+    pub(crate) cross: i64,
+    pub(crate) own: i64,
+}
+
+/// How the numbers of a window vary, from which the scores at all places follow: those on the left
+/// by themselves, and those of no offset, after and before.
+#[derive(Clone, Copy)]
+pub(crate) struct Parts {
+    pub(crate) alone: i64,
+    pub(crate) here: Part,
+    pub(crate) after: Part,
+    pub(crate) before: Part,
 }
 
 /// How the left numbers and the right ones vary together, and the right ones by themselves.
@@ -71,18 +90,6 @@ pub(crate) fn window_sums(window: &SmallWindow) -> WindowSums
     }
 }
 
-/// `n` eighths of the way from one sum to another, eight times as great.
-#[inline]
-fn blend(n: u32, here: i64, side: i64) -> i64
-    requires eighths { n ≤ 8 }
-    requires here { Within (2 ^ 35) here }
-    requires side { Within (2 ^ 35) side }
-    ensures value { result ≡ (pos (8 - n) *ℤ here) +ℤ (pos n *ℤ side) }
-    ensures small { Within (2 ^ 38) result }
-{
-    i64::from(8 - n) * here + i64::from(n) * side
-}
-
 /// A covariance: so many times the sum of products as there are places, less the product of the
 /// sums.
 #[inline]
@@ -90,101 +97,102 @@ fn covariance_of(products: i64, a: i64, b: i64) -> i64
     requires products { Within (2 ^ 41) products }
     requires a { Within (2 ^ 20) a }
     requires b { Within (2 ^ 20) b }
-    ensures { result ≡ (pos PLACES *ℤ products) -ℤ (a *ℤ b) }
+    ensures value { result ≡ (pos PLACES *ℤ products) -ℤ (a *ℤ b) }
+    ensures small { Within (2 ^ 46) result }
 {
     PLACES as i64 * products - a * b
 }
 
-/// How the left numbers vary by themselves.
-pub(crate) fn left_part(sums: &WindowSums) -> i64
-    requires { IsSums sums.now }
-    ensures { (w : SmallWindow) → HoldsSums sums.now w
-        → result ≡ covariance (number w.left) (number w.left) }
+/// The covariance of numbers from the sums of their products and of both.
+#[inline]
+fn covariance_from(products: i32, a: i32, b: i32) -> i64
+    requires a { IsFromTo (pos 0) (pos 102375) a }
+    requires b { IsFromTo (pos 0) (pos 102375) b }
+    ensures value { result ≡ (pos PLACES *ℤ products) -ℤ (a *ℤ b) }
+    ensures small { Within (2 ^ 46) result }
 {
-    let left = i64::from(sums.left);
-    covariance_of(i64::from(sums.square), left, left)
+    covariance_of(i64::from(products), i64::from(a), i64::from(b))
 }
 
-/// The sums of the offset on whose side the place `c` lies, and those of its products with the
-/// numbers of no offset.
+/// How the numbers of one offset vary.
 #[inline]
-fn side_of(sums: &WindowSums, c: i32) -> (Sums, i32)
-    ensures { result
-        ≡ (if int_lt c (pos 0) then (sums.now.after, sums.now.with_after)
-        else (sums.now.before, sums.now.with_before)) }
+fn part_of(left: i32, here: i32, side: Sums, cross: i32) -> Part
+    requires left { IsFromTo (pos 0) (pos 6375) left }
+    requires here { IsFromTo (pos 0) (pos 102375) here }
+    requires side { IsFromTo (pos 0) (pos 102375) side.sum }
+    ensures holds { (l h s : ℕ → ℤ) → left ≡ over l → here ≡ over h → HoldsSide side l s
+        → cross ≡ products h s → HoldsPart result l h s }
+    ensures kept { IsPart result }
 {
-    if c < 0 {
-        (sums.after, sums.with_after)
-    } else {
-        (sums.before, sums.with_before)
+    Part {
+        left: covariance_from(side.left, left, side.sum),
+        cross: covariance_from(cross, here, side.sum),
+        own: covariance_from(side.square, side.sum, side.sum),
     }
 }
 
-/// The sum of the numbers that lie `n` eighths of the way from those of no offset to those of
-/// another one.
+/// How the numbers of a window vary.
+pub(crate) fn parts_of(sums: &WindowSums) -> Parts
+    requires { IsSums sums.now }
+    ensures holds { (w : SmallWindow) → HoldsSums sums.now w → HoldsParts result w }
+    ensures kept { AreParts result }
+{
+    let here = sums.here.sum;
+    Parts {
+        alone: covariance_from(sums.square, sums.left, sums.left),
+        here: part_of(sums.left, here, sums.here, sums.here.square),
+        after: part_of(sums.left, here, sums.after, sums.with_after),
+        before: part_of(sums.left, here, sums.before, sums.with_before),
+    }
+}
+
+/// `n` eighths of the way from one covariance to another, eight times as great.
 #[inline]
-fn sum_between(here: i32, side: i32, n: u32) -> i64
+fn blend(n: u32, here: i64, side: i64) -> i64
     requires eighths { n ≤ 8 }
-    requires here { IsFromTo (pos 0) (pos 102375) here }
-    requires side { IsFromTo (pos 0) (pos 102375) side }
+    requires here { Within (2 ^ 55) here }
+    requires side { Within (2 ^ 55) side }
     ensures value { result ≡ (pos (8 - n) *ℤ here) +ℤ (pos n *ℤ side) }
-    ensures small { IsFromTo (pos 0) (pos 819000) result }
+    ensures small { (m : ℕ) → Within m here → Within m side → Within (8 * m) result }
 {
-    blend(n, i64::from(here), i64::from(side))
+    i64::from(8 - n) * here + i64::from(n) * side
 }
 
-/// The same of sums of products.
+/// How the numbers of the offset vary on whose side the place `c` lies.
 #[inline]
-fn products_between(here: i32, side: i32, n: u32) -> i64
-    requires eighths { n ≤ 8 }
-    ensures value { result ≡ (pos (8 - n) *ℤ here) +ℤ (pos n *ℤ side) }
-    ensures small { Within (2 ^ 34) result }
+fn side_of(parts: &Parts, c: i32) -> Part
+    ensures { result ≡ (if int_lt c (pos 0) then parts.now.after else parts.now.before) }
 {
-    blend(n, i64::from(here), i64::from(side))
+    if c < 0 { parts.after } else { parts.before }
 }
 
-/// The sum of their squares.
+/// The fit of numbers that lie `n` eighths of the way from those of no offset to those of another
+/// one.
 #[inline]
-fn squares_between(here: i32, cross: i32, side: i32, n: u32) -> i64
+fn fit_between(here: Part, side: Part, n: u32) -> Fit
     requires eighths { n ≤ 8 }
-    ensures value { result ≡ (pos (8 - n) *ℤ ((pos (8 - n) *ℤ here) +ℤ (pos n *ℤ cross)))
-        +ℤ (pos n *ℤ ((pos (8 - n) *ℤ cross) +ℤ (pos n *ℤ side))) }
-    ensures small { Within (2 ^ 38) result }
-{
-    let nearer = products_between(here, cross, n);
-    let further = products_between(cross, side, n);
-    blend(n, nearer, further)
-}
-
-/// The fit of sums that lie `n` eighths of the way from those of no offset to those of another one.
-#[inline]
-fn fit_between(left: i32, here: Sums, side: Sums, cross: i32, n: u32) -> Fit
-    requires eighths { n ≤ 8 }
-    requires left { IsFromTo (pos 0) (pos 6375) left }
-    requires here { IsFromTo (pos 0) (pos 102375) here.sum }
-    requires side { IsFromTo (pos 0) (pos 102375) side.sum }
-    ensures { (l h s : ℕ → ℤ) → left ≡ over l → HoldsSide here l h → HoldsSide side l s
-        → cross ≡ products h s → (result.together ≡ covariance l (blended h s n))
+    requires here { IsPart here }
+    requires side { IsPart side }
+    ensures { (l h s : ℕ → ℤ) → HoldsPart here l h h → HoldsPart side l h s
+        → (result.together ≡ covariance l (blended h s n))
         × (result.right ≡ covariance (blended h s n) (blended h s n)) }
 {
-    let sum = sum_between(here.sum, side.sum, n);
-    let products = products_between(here.left, side.left, n);
-    let squares = squares_between(here.square, cross, side.square, n);
+    let nearer = blend(n, here.own, side.cross);
+    let further = blend(n, side.cross, side.own);
     Fit {
-        together: covariance_of(products, i64::from(left), sum),
-        right: covariance_of(squares, sum, sum),
+        together: blend(n, here.left, side.left),
+        right: blend(n, nearer, further),
     }
 }
 
 /// The fit at the place `c` from -8 to 8.
 #[inline]
-pub(crate) fn fit_at(sums: &WindowSums, c: i32) -> Fit
-    requires sums { IsSums sums.now }
+pub(crate) fn fit_at(parts: &Parts, c: i32) -> Fit
+    requires parts { AreParts parts.now }
     requires place { Within 8 c }
-    ensures { (w : SmallWindow) → HoldsSums sums.now w → IsFitOf result w c }
+    ensures { (w : SmallWindow) → HoldsParts parts.now w → IsFitOf result w c }
 {
-    let (side, cross) = side_of(sums, c);
-    fit_between(sums.left, sums.here, side, cross, c.unsigned_abs())
+    fit_between(parts.here, side_of(parts, c), c.unsigned_abs())
 }
 
 /// The score of a place.

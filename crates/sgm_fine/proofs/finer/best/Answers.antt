@@ -26,7 +26,7 @@ loop-k-init c = record {
   held = λ p h.
       let is = c.fit_at.ensures h.window h.holds in (
         sym (best_first (fits c.args.most c.args.m) (place_score p)),
-        c.score_of-score.ensures ∙ ap₂ score (with_left_is c.args.sums.now p h (pos 0) c.fit_at.result is) (by_itself_is c.args.sums.now p h (pos 0) c.fit_at.result is),
+        c.score_of-score.ensures ∙ ap₂ score (with_left_is c.args.parts.now p h (pos 0) c.fit_at.result is) (by_itself_is c.args.parts.now p h (pos 0) c.fit_at.result is),
       );
 }
 

@@ -1,6 +1,6 @@
 use Rattle.std.proofs.Common.{◌≡◌, ◌≤◌, ◌≤ℤ◌, pos, ◌+ℤ◌}
 use Rattle.sgm_base.specs.Ranges.{Within}
-use Rattle.sgm_fine.specs.Finer.{ArePixelSums, fits, place_score}
+use Rattle.sgm_fine.specs.Finer.{ArePixelParts, fits, place_score}
 use Rattle.sgm_fine.specs.Samples.{Centre}
 use Rattle.sgm_fine.specs.declared.finer.TheConstants.{ORDER}
 use Rattle.sgm_fine.proofs.PlaceTests.{best_below}
@@ -15,5 +15,5 @@ invariant-loop-k l = record {
   low : pos 0 ≤ℤ (pos l.m +ℤ l.best);
   high : (pos l.m +ℤ l.best) ≤ℤ pos 65535;
   bound : l.m ≤ l.most → (pos l.m +ℤ l.best) ≤ℤ pos l.most;
-  held : (p : Centre) → ArePixelSums l.sums p → (l.best ≡ best_below (fits l.most l.m) (place_score p) ORDER l.k) × (l.score ≡ place_score p l.best);
+  held : (p : Centre) → ArePixelParts l.parts p → (l.best ≡ best_below (fits l.most l.m) (place_score p) ORDER l.k) × (l.score ≡ place_score p l.best);
 }

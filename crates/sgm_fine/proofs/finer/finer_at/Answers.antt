@@ -1,7 +1,7 @@
 use Rattle.std.proofs.Common.{◌≡◌, ℤ, is_some, to_z, of_z, w32, arith, refl, subst, sym, ap, ◌∙◌}
 use Rattle.std.proofs.lemmas.Int.{ints}
 use Rattle.sgm_fine.specs.Samples.{Centre, HoldsSamples, centre, has_all}
-use Rattle.sgm_fine.proofs.PixelSums.{is_finer, not_finer, pixel_sums}
+use Rattle.sgm_fine.proofs.PixelSums.{is_finer, not_finer, pixel_parts}
 use Rattle.sgm_fine.proofs.finer.finer_at.Goals as goal
 
 pub returns-in-None-clause-value : goal.returns-in-None-clause-value
@@ -20,5 +20,12 @@ returns-in-Some-clause-value c = λ count e.
     let holds = c.slopes_at-slopes.ensures.holds in
     let all = sym (c.samples_at.ensures.none c.args.ground.now.map holds) ∙ ap is_some c.in-Some.is in
     let is = subst (λ z. HoldsSamples c.in-Some.window (at z)) same (c.in-Some.ensures.some c.args.ground.now.map holds) in
-    let sums = pixel_sums c.window_sums.result c.small_window.result c.in-Some.window (at c.args.ground.now.first) c.window_sums.ensures.holds c.small_window.ensures.holds is in
-    c.refined.ensures.value (at c.args.ground.now.first) count sums refl e ∙ is_finer count (at c.args.ground.now.first) (ap (λ z. has_all (at z)) (sym same) ∙ all)
+    let parts = pixel_parts c.parts_of.result c.small_window.result c.in-Some.window (at c.args.ground.now.first) (c.parts_of.ensures.holds _ c.window_sums.ensures.holds) c.small_window.ensures.holds is in
+    c.refined.ensures.value (at c.args.ground.now.first) count parts refl e ∙ is_finer count (at c.args.ground.now.first) (ap (λ z. has_all (at z)) (sym same) ∙ all)
+
+pub refined-requires-clause-small : goal.refined-requires-clause-small
+refined-requires-clause-small c = record {
+  window = c.small_window.result;
+  holds = c.parts_of.ensures.holds c.small_window.result c.window_sums.ensures.holds;
+  small = c.small_window.ensures.kept;
+}

@@ -42,6 +42,6 @@ returns-clause-value c = λ p h.
     let is = fit_kept c.fit_at.result h.window place near (c.fit_at.ensures h.window h.holds) in
     let fit : fits most m place ≡ _ =
     place_fits most m place (omega (arith, ints, c.if-value-lt0.false, from, near.0, near.1)) (omega (arith, ints, c.if-from-value.false, c.from-else-value-lt0.ensures, from, near.0, near.1)) in
-    let same = ap₂ score (with_left_is c.args.sums.now p h place c.fit_at.result is) (by_itself_is c.args.sums.now p h place c.fit_at.result is)
+    let same = ap₂ score (with_left_is c.args.parts.now p h place c.fit_at.result is) (by_itself_is c.args.parts.now p h place c.fit_at.result is)
     ∙ sym (cond-true (fits most m place) (place_score p place) 0 fit) in
     subst (IsAbove c.score_above.result c.args.least) same c.score_above.ensures

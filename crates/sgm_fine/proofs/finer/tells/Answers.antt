@@ -2,7 +2,7 @@ use Rattle.std.proofs.Common.{◌≡◌, ◌*◌, ◌+◌, ◌/◌, ◌==◌, �
 use Rattle.std.proofs.lemmas.Int.{ints}
 use Rattle.sgm_base.specs.Ranges.{IsFromTo, Within}
 use Rattle.sgm_fine.specs.Finer.{by_itself, explains, left_alone, place_score, with_left}
-use Rattle.sgm_fine.specs.Scores.{score}
+use Rattle.sgm_fine.specs.Scores.{HoldsParts, score}
 use Rattle.sgm_fine.proofs.PixelSums.{by_itself_is, fit_kept, left_alone_is, left_from_to, right_from_to, together_within, with_left_is}
 use Rattle.sgm_fine.proofs.PlaceTests.{explained, scored}
 use Rattle.sgm_fine.proofs.finer.tells.Goals as goal
@@ -18,13 +18,14 @@ returns-then-score_of-eq0 c = λ p h.
     let place = c.args.c in
     let is = fit_kept c.fit_at-fit.result h.window c.args.c c.requires.place (c.fit_at-fit.ensures h.window h.holds) in
     let e : 0 ≡ place_score p place =
-    sym c.if-score_of-eq0.true ∙ c.score_of.ensures ∙ ap₂ score (with_left_is c.args.sums.now p h place c.fit_at-fit.result is) (by_itself_is c.args.sums.now p h place c.fit_at-fit.result is) in
+    sym c.if-score_of-eq0.true ∙ c.score_of.ensures ∙ ap₂ score (with_left_is c.args.parts.now p h place c.fit_at-fit.result is) (by_itself_is c.args.parts.now p h place c.fit_at-fit.result is) in
     ap (λ n. not (n == 0) && explains (with_left p place) (left_alone p) (by_itself p place)) e
 
 pub third-requires-clause-left : goal.third-requires-clause-left
+unfolding HoldsParts
 third-requires-clause-left c =
     let s = c.requires.small in
-    let r = subst (IsFromTo (pos 0) (pos 19507500)) (sym (c.left_part.ensures s.window s.holds)) (left_from_to s.window s.small) in
+    let r = subst (IsFromTo (pos 0) (pos 19507500)) (sym s.holds.alone) (left_from_to s.window s.small) in
     (omega (arith, ints, r.0, r.1), omega (arith, ints, r.0, r.1))
 
 pub third-requires-clause-right : goal.third-requires-clause-right
@@ -42,19 +43,20 @@ square-requires c =
     (omega (arith, ints, r.0, r.1), omega (arith, ints, r.0, r.1))
 
 pub returns : goal.returns
+unfolding HoldsParts
 returns c = λ p h.
     let place = c.args.c in
     let s = c.requires.small in
     let near = c.requires.place in
     let mine = fit_kept c.fit_at-fit.result s.window c.args.c c.requires.place (c.fit_at-fit.ensures s.window s.holds) in
     let is = fit_kept c.fit_at-fit.result h.window c.args.c c.requires.place (c.fit_at-fit.ensures h.window h.holds) in
-    let t = with_left_is c.args.sums.now p h place c.fit_at-fit.result is in
-    let r = by_itself_is c.args.sums.now p h place c.fit_at-fit.result is in
-    let l = c.left_part.ensures h.window h.holds ∙ left_alone_is c.args.sums.now p h in
-    let lr = subst (IsFromTo (pos 0) (pos 19507500)) (sym (c.left_part.ensures s.window s.holds)) (left_from_to s.window s.small) in
+    let t = with_left_is c.args.parts.now p h place c.fit_at-fit.result is in
+    let r = by_itself_is c.args.parts.now p h place c.fit_at-fit.result is in
+    let l = h.holds.alone ∙ left_alone_is c.args.parts.now p h in
+    let lr = subst (IsFromTo (pos 0) (pos 19507500)) (sym s.holds.alone) (left_from_to s.window s.small) in
     let rr = subst (IsFromTo (pos 0) (pos 321965280000)) (sym mine.right) (right_from_to s.window place s.small near) in
     let tr = subst (Within 2506140000) (sym mine.together) (together_within s.window place s.small near) in
-    let left : to_z w64 (of_z w64 c.left_part.result) ≡ c.left_part.result = omega (arith, ints, lr.0, lr.1) in
+    let left : to_z w64 (of_z w64 c.args.parts.now.alone) ≡ c.args.parts.now.alone = omega (arith, ints, lr.0, lr.1) in
     let right : to_z w64 (of_z w64 c.fit_at-fit.result.right) ≡ c.fit_at-fit.result.right = omega (arith, ints, rr.0, rr.1) in
     let together : to_z w64 (of_z w64 c.fit_at-fit.result.together) ≡ c.fit_at-fit.result.together = omega (arith, ints, tr.0, tr.1) in
     let third : to_z w64 (of_z w64 c.third.result) ≡ c.third.result = omega (arith, ints, c.third.type_inv) in

@@ -1,7 +1,7 @@
 use Rattle.std.proofs.Common.{◌≡◌, ℤ, pos, ◌*ℤ◌, to_z, of_z, w64, arith}
 use Rattle.std.proofs.lemmas.Int.{ints}
 use Rattle.sgm_base.specs.Ranges.{Within}
-use Rattle.sgm_fine.proofs.SideSums.{covariance_fits, covariance_kept, wide_product}
+use Rattle.sgm_fine.proofs.SideSums.{covariance_fits, covariance_kept, covariance_small, wide_product}
 use Rattle.sgm_fine.proofs.scores.covariance_of.Goals as goal
 
 many : (t : ℤ) → Within 2199023255552 t → to_z w64 (of_z w64 (pos 25 *ℤ to_z w64 (of_z w64 t))) ≡ pos 25 *ℤ t
@@ -16,7 +16,13 @@ overflow_sub-result c =
     covariance_fits c.args.products c.args.a c.args.b _ _ c.requires.products c.requires.a c.requires.b (many c.args.products c.requires.products)
     (kept c.args.a c.args.b c.requires.a c.requires.b)
 
-pub returns : goal.returns
-returns c =
+pub returns-clause-value : goal.returns-clause-value
+returns-clause-value c =
     covariance_kept c.args.products c.args.a c.args.b _ _ c.requires.products c.requires.a c.requires.b (many c.args.products c.requires.products)
     (kept c.args.a c.args.b c.requires.a c.requires.b)
+
+pub returns-clause-small : goal.returns-clause-small
+returns-clause-small c =
+    covariance_small c.args.products c.args.a c.args.b _ c.requires.products c.requires.a c.requires.b
+    (covariance_kept c.args.products c.args.a c.args.b _ _ c.requires.products c.requires.a c.requires.b (many c.args.products c.requires.products)
+    (kept c.args.a c.args.b c.requires.a c.requires.b))
