@@ -1,5 +1,6 @@
 -- How well the right window explains the left one.
-use Rattle.std.specs.Prelude.{◌≡◌, ℕ, ◌≤◌, ◌⊎◌, ◌-◌, ◌*◌, ◌/◌, ◌^◌, ◌&&◌, if◌then◌else◌, unsigned_abs, ℤ}
+use Rattle.std.specs.Prelude.{◌≡◌, ℕ, ◌≤◌, ◌⊎◌, ◌-◌, ◌*◌, ◌/◌, ◌^◌, ◌&&◌, if◌then◌else◌}
+use Rattle.std.specs.Prelude.{unsigned_abs, ℤ}
 use Rattle.std.specs.Prelude.{pos, ◌+ℤ◌, ◌-ℤ◌, ◌*ℤ◌, int_lt, int_le}
 use Rattle.sgm_base.specs.Ranges.{IsFromTo, Within}
 use Rattle.sgm_fine.specs.Windows.{number, over, products}

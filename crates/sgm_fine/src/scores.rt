@@ -1,9 +1,11 @@
 //! How well the right window explains the left one at each of seventeen places.
 
-ghost use Rattle.std.specs.Prelude.{◌≡◌, ℕ, ◌<◌, ◌≤◌, ◌-◌, ◌*◌, ◌^◌, ℤ, pos, ◌+ℤ◌, ◌-ℤ◌, ◌*ℤ◌, ◌≤ℤ◌};
+ghost use Rattle.std.specs.Prelude.{◌≡◌, ℕ, ◌<◌, ◌≤◌, ◌-◌, ◌*◌, ◌^◌, ℤ, pos, ◌+ℤ◌, ◌-ℤ◌, ◌*ℤ◌};
+ghost use Rattle.std.specs.Prelude.{◌≤ℤ◌};
 ghost use Rattle.std.specs.Prelude.{false, unsigned_abs, if◌then◌else◌, int_lt};
 ghost use Rattle.sgm_base.specs.Ranges.{IsFromTo, Within};
-ghost use Rattle.sgm_fine.specs.Scores.{AreParts, HoldsPart, HoldsParts, HoldsSide, HoldsSums, IsAbove};
+ghost use Rattle.sgm_fine.specs.Scores.{AreParts, HoldsPart, HoldsParts, HoldsSide, HoldsSums};
+ghost use Rattle.sgm_fine.specs.Scores.{IsAbove};
 ghost use Rattle.sgm_fine.specs.Scores.{IsFitOf, IsPart, IsSums, blended, covariance, score};
 ghost use Rattle.sgm_fine.specs.Small.{IsSmall};
 ghost use Rattle.sgm_fine.specs.Windows.{number, over, products};
