@@ -68,3 +68,13 @@ unread_pipe() {
     exec {pipe}> >(:)
     wait "$!"
 }
+
+# Sets program to the program itself, as the launcher is a script; ends the script where there is none.
+need_built() {
+    need_program
+    program=$SGM
+    [ "$program" = "$top/sgm" ] && program=$top/crates/sgm_cli/out/sgm_cli
+    head -c 4 "$program" | grep -q ELF && return
+    echo "$name: skipped: $program is no built program"
+    exit 0
+}

@@ -18,14 +18,7 @@ set -u
 # shellcheck source-path=SCRIPTDIR source=common.sh
 . "$(dirname "$0")/common.sh"
 has gcc || skip gcc gcc
-need_program
-# The program itself, since the launcher is a script, which takes memory too.
-program=$SGM
-[ "$program" = "$top/sgm" ] && program=$top/crates/sgm_cli/out/sgm_cli
-if ! head -c 4 "$program" | grep -q ELF; then
-    echo "refused_allocations: skipped: $program is no built program"
-    exit 0
-fi
+need_built
 most=100000 failed=0 line='sgm: no memory'
 inputs=(l.pgm r.pgm c.json e.asc l.asc m.txt)
 

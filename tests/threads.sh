@@ -16,13 +16,7 @@ set -u
 # shellcheck source-path=SCRIPTDIR source=common.sh
 . "$(dirname "$0")/common.sh"
 has gcc || skip gcc gcc
-need_program
-program=$SGM
-[ "$program" = "$top/sgm" ] && program=$top/crates/sgm_cli/out/sgm_cli
-if ! head -c 4 "$program" | grep -q ELF; then
-    echo "threads: skipped: $program is no built program"
-    exit 0
-fi
+need_built
 
 cat >"$work/count.c" <<'C'
 #define _GNU_SOURCE
