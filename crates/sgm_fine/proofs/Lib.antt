@@ -10,6 +10,7 @@ pub mod PixelSums
 pub mod PlaceSamples
 pub mod PlaceTests
 pub mod Products
+pub mod Quotients
 pub mod SideSums
 pub mod Squares
 pub mod StepLaws

@@ -1,16 +1,13 @@
 -- Which places are tried, and the best one of those that are tried so far.
-use Rattle.std.proofs.Common.{◌≡◌, ℕ, zero, suc, ◌+◌, ◌-◌, ◌*◌, ◌/◌, ◌<◌, ◌≤◌, ◌≤ℤ◌, ◌<ℤ◌, Bool, true, false, ◌&&◌, not, ◌==◌, nat_lt, List, [], ◌∷◌, ◌++◌, filter, get_or, length, if◌then◌else◌, ℤ, pos, ◌+ℤ◌, int_le, int_lt, unsigned_abs, subst, inl, inr, refl, arith, ap, ap₂, sym, ◌∙◌}
+use Rattle.std.proofs.Common.{◌≡◌, ℕ, ◌+◌, ◌-◌, ◌*◌, ◌/◌, ◌<◌, ◌≤◌, ◌≤ℤ◌, ◌<ℤ◌, Bool, true, false, nat_lt, List, [], ◌∷◌, ◌++◌, filter, get_or, length, if◌then◌else◌, ℤ, pos, ◌+ℤ◌, int_le, unsigned_abs, refl, arith, ap, ap₂, sym, ◌∙◌}
 use Rattle.std.specs.List.{best_of}
-use Rattle.std.proofs.lemmas.Bool.{cond_both}
 use Rattle.std.proofs.lemmas.Int.{ints}
-use Rattle.std.proofs.lemmas.Nat.{div_below}
 use Rattle.std.proofs.lemmas.List.{take_more}
 use Rattle.std.proofs.lemmas.List.Elements.{filter-append}
 use Rattle.std.proofs.lemmas.List.Sums.{fold-append}
 use lib.ListN.{take}
 use Rattle.sgm_fine.specs.Finer.{best, explains, fits, place_score}
 use Rattle.sgm_fine.specs.Samples.{Centre}
-use Rattle.sgm_fine.specs.Scores.{IsAbove, score}
 use Rattle.sgm_fine.specs.declared.finer.TheConstants.{ORDER}
 
 pub place_below : (most m : ℕ) (c : ℤ) → (pos m +ℤ c) <ℤ pos 0 → fits most m c ≡ false
@@ -46,9 +43,6 @@ best_more q f xs k c lt e =
 pub explained : (t l r : ℤ) (a b : ℕ) → pos 0 ≤ℤ l → pos 0 ≤ℤ r → a ≡ (unsigned_abs l * unsigned_abs r + 2) / 3 → b ≡ unsigned_abs t * unsigned_abs t
     → int_le (pos a) (pos b) ≡ explains t l r
 explained t l r a b hl hr ea eb = grind (arith, ints, hl, hr, ea, eb)
-
-pub scored : (n : ℕ) (b : Bool) → (n ≡ 0 → ⊥) → (not (n == 0) && b) ≡ b
-scored n b h = let e : (n == 0) ≡ false = grind (arith, h) in ap (λ t. not t && b) e
 
 pub best_first : (q : ℤ → Bool) (f : ℤ → ℕ) → best_below q f ORDER 1 ≡ pos 0
 unfolding best_below
@@ -88,22 +82,3 @@ best_keeps q f k c b score other lt ec eb es eo less =
     let test : nat_lt (f (best_below q f ORDER k)) (if q c then f c else 0) ≡ false =
     sym (ap₂ nat_lt (es ∙ ap f eb) eo) ∙ ge-ltb score other less in
     eb ∙ sym (best_more q f ORDER k c lt ec ∙ ap (λ t. if t then c else best_below q f ORDER k) test)
-
--- a score that is told only where it is greater
-pub above_takes : (found least n : ℕ) → IsAbove found least n → least < found → found ≡ n
-above_takes found least n (inl same) lt = same
-above_takes found least n (inr none) lt = absurd (omega (arith, none.0, lt))
-
-pub above_keeps : (found least n : ℕ) → IsAbove found least n → found ≤ least → n ≤ least
-above_keeps found least n (inl same) le = omega (arith, same, le)
-above_keeps found least n (inr none) le = none.1
-
--- a score that is no greater than that
-pub score_low : (a b : ℤ) (least square part : ℕ) → square ≡ unsigned_abs a * unsigned_abs a → part ≡ unsigned_abs b / 256 → square < least * part → score a b ≤ least
-score_low a b least square part es ep lt =
-    cond_both (int_lt (pos 0) a && int_le (pos 256) b) ((unsigned_abs a * unsigned_abs a) / (unsigned_abs b / 256)) 0 (λ n. n ≤ least)
-    (λ _. subst (λ n. n ≤ least) (ap₂ (λ (m n : ℕ). m / n) es ep) (divided square part lt)) (λ _. omega arith)
-  where
-    divided : (n k : ℕ) → n < least * k → n / k ≤ least
-    divided n zero lt = absurd (omega (arith, lt))
-    divided n (suc k) lt = let below : n / suc k < least = div_below n (suc k) least (omega arith) lt in omega (arith, below)

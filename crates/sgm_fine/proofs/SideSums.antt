@@ -21,19 +21,6 @@ eighths_within a n m h s e p q =
     let y = product_within n m (pos n) s others q in
     (omega (arith, ints, whole, x.0, y.0), omega (arith, ints, whole, x.1, y.1))
 
--- their sum, as the code computes it
-pub eighths_fit : (a n : ℕ) (h s y z : ℤ) → a + n ≡ 8 → Within 36028797018963968 h → Within 36028797018963968 s → y ≡ pos a *ℤ h → z ≡ pos n *ℤ s
-    → FitsSigned w64 (y +ℤ z)
-eighths_fit a n h s y z e p q ey ez =
-    let w = eighths_within a n 36028797018963968 h s e p q in
-    omega (arith, ints, ey, ez, w.0, w.1)
-
-pub eighths_kept : (a n : ℕ) (h s y z : ℤ) → a + n ≡ 8 → Within 36028797018963968 h → Within 36028797018963968 s → y ≡ pos a *ℤ h → z ≡ pos n *ℤ s
-    → to_z w64 (of_z w64 (y +ℤ z)) ≡ (pos a *ℤ h) +ℤ (pos n *ℤ s)
-eighths_kept a n h s y z e p q ey ez =
-    let w = eighths_within a n 36028797018963968 h s e p q in
-    omega (arith, ints, ey, ez, w.0, w.1)
-
 -- a covariance, as the code computes it of y and z
 pub covariance_fits : (t a b y z : ℤ) → Within 2199023255552 t → Within 1048576 a → Within 1048576 b → y ≡ pos 25 *ℤ t → z ≡ a *ℤ b → FitsSigned w64 (y -ℤ z)
 covariance_fits t a b y z h p q ey ez =

@@ -1,5 +1,5 @@
 -- How well the right window explains the left one.
-use Rattle.std.specs.Prelude.{◌≡◌, ℕ, ◌≤◌, ◌⊎◌, ◌-◌, ◌*◌, ◌/◌, ◌^◌, ◌&&◌, if◌then◌else◌}
+use Rattle.std.specs.Prelude.{◌≡◌, ℕ, ◌-◌, ◌*◌, ◌/◌, ◌^◌, ◌&&◌, if◌then◌else◌}
 use Rattle.std.specs.Prelude.{unsigned_abs, ℤ}
 use Rattle.std.specs.Prelude.{pos, ◌+ℤ◌, ◌-ℤ◌, ◌*ℤ◌, int_lt, int_le}
 use Rattle.sgm_base.specs.Ranges.{IsFromTo, Within}
@@ -7,6 +7,7 @@ use Rattle.sgm_fine.specs.Windows.{number, over, products}
 use Rattle.sgm_fine.specs.declared.scores.Fit.{Fit}
 use Rattle.sgm_fine.specs.declared.scores.Part.{Part}
 use Rattle.sgm_fine.specs.declared.scores.Parts.{Parts}
+use Rattle.sgm_fine.specs.declared.scores.Score.{Score}
 use Rattle.sgm_fine.specs.declared.scores.Sums.{Sums}
 use Rattle.sgm_fine.specs.declared.scores.WindowSums.{WindowSums}
 use Rattle.sgm_fine.specs.declared.small.SmallWindow.{SmallWindow}
@@ -28,9 +29,9 @@ score a b =
     if int_lt (pos 0) a && int_le (pos 256) b
     then (unsigned_abs a * unsigned_abs a) / (unsigned_abs b / 256) else 0
 
--- a score, or 0 where it isn't greater than that
-abbrev pub IsAbove : ℕ → ℕ → ℕ → Type 0
-IsAbove found least n = (found ≡ n) ⊎ ((found ≡ 0) × (n ≤ least))
+-- a score that the code holds, divided out
+abbrev pub divided : Score → ℕ
+divided held = held.square / held.part
 
 -- what the code holds of one offset's numbers r beside the left ones l
 pub record HoldsSide (sums : Sums) (l r : ℕ → ℤ) : Type 0 where

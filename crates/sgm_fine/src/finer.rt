@@ -9,11 +9,13 @@ ghost use Rattle.sgm_base.specs.Values.{AtMost, value_at};
 ghost use Rattle.sgm_fine.specs.Finer.{ArePixelParts, AreSmallParts, best, finer_value, fits};
 ghost use Rattle.sgm_fine.specs.Finer.{place_score, tells};
 ghost use Rattle.sgm_fine.specs.Samples.{Centre, centre};
-ghost use Rattle.sgm_fine.specs.Scores.{IsAbove, AreParts};
+ghost use Rattle.sgm_fine.specs.Scores.{AreParts, divided};
 
 use crate::around::Field;
 use crate::samples::{Pixel, samples_at};
-use crate::scores::{Parts, fit_at, parts_of, score_above, score_of, window_sums};
+use crate::scores::{
+    Parts, Score, fit_at, is_greater, is_none, no_score, parts_of, score_of, window_sums,
+};
 use crate::slopes::slopes_at;
 use crate::small::small_window;
 use sgm_base::{DispMap, Plane, Span};
@@ -21,22 +23,29 @@ use sgm_base::{DispMap, Plane, Span};
 /// The places that are tried, in the order in which the first of equal ones is taken.
 pub(crate) const ORDER: [i32; 17] = [0, -1, 1, -2, 2, -3, 3, -4, 4, -5, 5, -6, 6, -7, 7, -8, 8];
 
-/// The score of the place `c`, or 0 where its value isn't one from 0 to `most` or the score isn't
-/// greater than `least`.
+/// A place and its score.
+#[derive(Clone, Copy)]
+struct Choice {
+    place: i32,
+    score: Score,
+}
+
+/// The score of the place `c`, 0 where its value isn't one from 0 to `most`.
 #[inline]
-fn score_at(parts: &Parts, m: u16, most: u16, c: i32, least: u64) -> u64
+fn score_at(parts: &Parts, m: u16, most: u16, c: i32) -> Score
     requires parts { AreParts parts.now }
     requires small { AreSmallParts parts.now }
     requires place { Within 8 c }
     ensures value { (p : Centre) → ArePixelParts parts.now p
-        → IsAbove result least (if fits most m c then place_score p c else 0) }
-    ensures within { 0 < result → IsFromTo (pos 0) (pos most) (pos m +ℤ c) }
+        → divided result ≡ (if fits most m c then place_score p c else 0) }
+    ensures some { 0 < result.part }
+    ensures within { 0 < divided result → IsFromTo (pos 0) (pos most) (pos m +ℤ c) }
 {
     let value = i32::from(m) + c;
     if value < 0 || i32::from(most) < value {
-        return 0;
+        return no_score();
     }
-    score_above(fit_at(parts, c), least)
+    score_of(fit_at(parts, c))
 }
 
 /// One of the places that are tried.
@@ -50,23 +59,27 @@ fn tried(k: usize) -> i32
 }
 
 /// The place of the greatest score. `most` is the greatest value that there can be.
-fn best(parts: &Parts, m: u16, most: u16) -> i32
+fn best(parts: &Parts, m: u16, most: u16) -> Choice
     requires parts { AreParts parts.now }
     requires small { AreSmallParts parts.now }
     ensures value { (p : Centre) (count : ℕ) → ArePixelParts parts.now p → p.value ≡ m
-        → most ≡ 16 * (count - 1) → result ≡ best count p }
-    ensures place { Within 8 result }
-    ensures small { IsFromTo (pos 0) (pos 65535) (pos m +ℤ result) }
-    ensures bound { m ≤ most → (pos m +ℤ result) ≤ℤ pos most }
+        → most ≡ 16 * (count - 1) → result.place ≡ best count p }
+    ensures score { (p : Centre) → ArePixelParts parts.now p
+        → divided result.score ≡ place_score p result.place }
+    ensures some { 0 < result.score.part }
+    ensures place { Within 8 result.place }
+    ensures small { IsFromTo (pos 0) (pos 65535) (pos m +ℤ result.place) }
+    ensures bound { m ≤ most → (pos m +ℤ result.place) ≤ℤ pos most }
 {
-    let mut best = 0;
-    let mut score = score_of(fit_at(parts, 0));
+    let mut best = Choice {
+        place: 0,
+        score: score_of(fit_at(parts, 0)),
+    };
     for k in 1..17 {
-        let c = tried(k);
-        let other = score_at(parts, m, most, c, score);
-        if score < other {
-            best = c;
-            score = other;
+        let place = tried(k);
+        let score = score_at(parts, m, most, place);
+        if is_greater(score, best.score) {
+            best = Choice { place, score };
         }
     }
     best
@@ -91,18 +104,20 @@ fn third(left: i64, right: i64) -> i64
     (left * right + 2) / 3
 }
 
-/// Whether the place `c` tells something: it has a score, and explains a third of the left window
-/// or more.
-fn tells(parts: &Parts, c: i32) -> bool
+/// Whether a place tells something: it has a score, and explains a third of the left window or
+/// more.
+fn tells(parts: &Parts, best: Choice) -> bool
     requires parts { AreParts parts.now }
     requires small { AreSmallParts parts.now }
-    requires place { Within 8 c }
-    ensures { (p : Centre) → ArePixelParts parts.now p → result ≡ tells p c }
+    requires place { Within 8 best.place }
+    requires some { 0 < best.score.part }
+    ensures { (p : Centre) → ArePixelParts parts.now p
+        → divided best.score ≡ place_score p best.place → result ≡ tells p best.place }
 {
-    let fit = fit_at(parts, c);
-    if score_of(fit) == 0 {
+    if is_none(best.score) {
         return false;
     }
+    let fit = fit_at(parts, best.place);
     // Three times the square may be too great.
     third(parts.alone, fit.right) <= square(fit.together)
 }
@@ -116,9 +131,9 @@ fn refined(parts: &Parts, m: u16, most: u16) -> u16
         → result ≡ (if tells p (best count p) then unsigned_abs (pos m +ℤ best count p) else m) }
     ensures bound { m ≤ most → result ≤ most }
 {
-    let c = best(parts, m, most);
-    if tells(parts, c) {
-        (i32::from(m) + c) as u16
+    let best = best(parts, m, most);
+    if tells(parts, best) {
+        (i32::from(m) + best.place) as u16
     } else {
         m
     }

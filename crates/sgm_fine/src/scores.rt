@@ -2,11 +2,11 @@
 
 ghost use Rattle.std.specs.Prelude.{◌≡◌, ℕ, ◌<◌, ◌≤◌, ◌-◌, ◌*◌, ◌^◌, ℤ, pos, ◌+ℤ◌, ◌-ℤ◌, ◌*ℤ◌};
 ghost use Rattle.std.specs.Prelude.{◌≤ℤ◌};
-ghost use Rattle.std.specs.Prelude.{false, unsigned_abs, if◌then◌else◌, int_lt};
+ghost use Rattle.std.specs.Prelude.{◌==◌, nat_lt, if◌then◌else◌, int_lt};
 ghost use Rattle.sgm_base.specs.Ranges.{IsFromTo, Within};
 ghost use Rattle.sgm_fine.specs.Scores.{AreParts, HoldsPart, HoldsParts, HoldsSide, HoldsSums};
-ghost use Rattle.sgm_fine.specs.Scores.{IsAbove};
-ghost use Rattle.sgm_fine.specs.Scores.{IsFitOf, IsPart, IsSums, blended, covariance, score};
+ghost use Rattle.sgm_fine.specs.Scores.{IsFitOf, IsPart, IsSums, blended, covariance, divided};
+ghost use Rattle.sgm_fine.specs.Scores.{score};
 ghost use Rattle.sgm_fine.specs.Small.{IsSmall};
 ghost use Rattle.sgm_fine.specs.Windows.{number, over, products};
 
@@ -58,6 +58,23 @@ pub(crate) struct Parts {
 pub(crate) struct Fit {
     pub(crate) together: i64,
     pub(crate) right: i64,
+}
+
+/// The score of a place before it is divided out: the square of how both vary together, over the
+/// 256th part of how the right ones vary; 0 / 1 where there is none.
+#[derive(Clone, Copy)]
+pub(crate) struct Score {
+    pub(crate) square: u64,
+    pub(crate) part: u64,
+}
+
+/// The score 0.
+#[inline]
+pub(crate) fn no_score() -> Score
+    ensures value { divided result ≡ 0 }
+    ensures some { 0 < result.part }
+{
+    Score { square: 0, part: 1 }
 }
 
 /// Sums over the numbers of one offset.
@@ -157,7 +174,7 @@ fn blend(n: u32, here: i64, side: i64) -> i64
     ensures value { result ≡ (pos (8 - n) *ℤ here) +ℤ (pos n *ℤ side) }
     ensures small { (m : ℕ) → Within m here → Within m side → Within (8 * m) result }
 {
-    i64::from(8 - n) * here + i64::from(n) * side
+    8 * here + i64::from(n) * (side - here)
 }
 
 /// How the numbers of the offset vary on whose side the place `c` lies.
@@ -199,37 +216,51 @@ pub(crate) fn fit_at(parts: &Parts, c: i32) -> Fit
 
 /// The score of a place.
 #[inline]
-pub(crate) fn score_of(fit: Fit) -> u64
+pub(crate) fn score_of(fit: Fit) -> Score
     requires { Within 2506140000 fit.together }
-    ensures { result ≡ score fit.together fit.right }
+    ensures value { divided result ≡ score fit.together fit.right }
+    ensures some { 0 < result.part }
 {
     if fit.together <= 0 || fit.right < 256 {
-        return 0;
+        return no_score();
     }
     let together = fit.together as u64;
-    together * together / (fit.right as u64 / 256)
+    Score {
+        square: together * together,
+        part: fit.right as u64 / 256,
+    }
 }
 
-/// Whether the score of a place can be greater than that: else it needn't be divided out.
+/// Whether a score is 0.
 #[inline]
-fn pays(fit: Fit, least: u64) -> bool
-    requires together { Within 2506140000 fit.together }
-    requires right { pos 0 ≤ℤ fit.right }
-    ensures { result ≡ false → score fit.together fit.right ≤ least }
+pub(crate) fn is_none(score: Score) -> bool
+    requires { 0 < score.part }
+    ensures { result ≡ (divided score == 0) }
 {
-    if fit.together <= 0 {
+    score.square < score.part
+}
+
+/// The product of two numbers.
+#[inline]
+fn wide(a: u64, b: u64) -> u128
+    ensures { result ≡ a * b }
+{
+    u128::from(a) * u128::from(b)
+}
+
+/// Whether a score is greater than another one. Nearly always products tell, and nothing is divided.
+#[inline]
+pub(crate) fn is_greater(score: Score, other: Score) -> bool
+    requires parts { (0 < score.part) × (0 < other.part) }
+    ensures { result ≡ nat_lt (divided other) (divided score) }
+{
+    let mine = wide(score.square, other.part);
+    let others = wide(other.square, score.part);
+    if mine <= others {
         return false;
     }
-    let size = fit.together as u64;
-    u128::from(least) * u128::from(fit.right as u64 / 256) <= u128::from(size * size)
-}
-
-/// The score of a place, or 0 where it isn't greater than that.
-#[inline]
-pub(crate) fn score_above(fit: Fit, least: u64) -> u64
-    requires together { Within 2506140000 fit.together }
-    requires right { pos 0 ≤ℤ fit.right }
-    ensures { IsAbove result least (score fit.together fit.right) }
-{
-    if pays(fit, least) { score_of(fit) } else { 0 }
+    if wide(score.part, other.part) <= mine - others {
+        return true;
+    }
+    other.square / other.part < score.square / score.part
 }

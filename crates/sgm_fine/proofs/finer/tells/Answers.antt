@@ -1,25 +1,17 @@
-use Rattle.std.proofs.Common.{◌≡◌, ◌*◌, ◌+◌, ◌/◌, ◌==◌, ◌&&◌, not, pos, int_le, ◌≤ℤ◌, unsigned_abs, to_z, of_z, w64, arith, refl, subst, sym, ap, ap₂, ◌∙◌}
+use Rattle.std.proofs.Common.{◌≡◌, ◌*◌, ◌+◌, ◌/◌, ◌==◌, ◌&&◌, not, true, false, pos, int_le, ◌≤ℤ◌, unsigned_abs, to_z, of_z, w64, arith, refl, subst, sym, ap, ap₂, ◌∙◌}
 use Rattle.std.proofs.lemmas.Int.{ints}
 use Rattle.sgm_base.specs.Ranges.{IsFromTo, Within}
 use Rattle.sgm_fine.specs.Finer.{by_itself, explains, left_alone, place_score, with_left}
-use Rattle.sgm_fine.specs.Scores.{HoldsParts, score}
+use Rattle.sgm_fine.specs.Scores.{HoldsParts}
 use Rattle.sgm_fine.proofs.PixelSums.{by_itself_is, fit_kept, left_alone_is, left_from_to, right_from_to, together_within, with_left_is}
-use Rattle.sgm_fine.proofs.PlaceTests.{explained, scored}
+use Rattle.sgm_fine.proofs.PlaceTests.{explained}
 use Rattle.sgm_fine.proofs.finer.tells.Goals as goal
 
-pub score_of-requires : goal.score_of-requires
-score_of-requires c =
-    let s = c.requires.small in
-    let is = fit_kept c.fit_at-fit.result s.window c.args.c c.requires.place (c.fit_at-fit.ensures s.window s.holds) in
-    subst (Within 2506140000) (sym is.together) (together_within s.window c.args.c s.small c.requires.place)
-
-pub returns-then-score_of-eq0 : goal.returns-then-score_of-eq0
-returns-then-score_of-eq0 c = λ p h.
-    let place = c.args.c in
-    let is = fit_kept c.fit_at-fit.result h.window c.args.c c.requires.place (c.fit_at-fit.ensures h.window h.holds) in
-    let e : 0 ≡ place_score p place =
-    sym c.if-score_of-eq0.true ∙ c.score_of.ensures ∙ ap₂ score (with_left_is c.args.parts.now p h place c.fit_at-fit.result is) (by_itself_is c.args.parts.now p h place c.fit_at-fit.result is) in
-    ap (λ n. not (n == 0) && explains (with_left p place) (left_alone p) (by_itself p place)) e
+pub returns-then-is_none : goal.returns-then-is_none
+returns-then-is_none c = λ p h held.
+    let place = c.args.best.place in
+    let none : true ≡ (place_score p place == 0) = sym c.if-is_none.true ∙ c.is_none.ensures ∙ ap (λ n. n == 0) held in
+    ap (λ b. not b && explains (with_left p place) (left_alone p) (by_itself p place)) none
 
 pub third-requires-clause-left : goal.third-requires-clause-left
 unfolding HoldsParts
@@ -31,25 +23,25 @@ third-requires-clause-left c =
 pub third-requires-clause-right : goal.third-requires-clause-right
 third-requires-clause-right c =
     let s = c.requires.small in
-    let is = fit_kept c.fit_at-fit.result s.window c.args.c c.requires.place (c.fit_at-fit.ensures s.window s.holds) in
-    let r = subst (IsFromTo (pos 0) (pos 321965280000)) (sym is.right) (right_from_to s.window c.args.c s.small c.requires.place) in
+    let is = fit_kept c.fit_at-fit.result s.window c.args.best.place c.requires.place (c.fit_at-fit.ensures s.window s.holds) in
+    let r = subst (IsFromTo (pos 0) (pos 321965280000)) (sym is.right) (right_from_to s.window c.args.best.place s.small c.requires.place) in
     (omega (arith, ints, r.0, r.1), omega (arith, ints, r.0, r.1))
 
 pub square-requires : goal.square-requires
 square-requires c =
     let s = c.requires.small in
-    let is = fit_kept c.fit_at-fit.result s.window c.args.c c.requires.place (c.fit_at-fit.ensures s.window s.holds) in
-    let r = subst (Within 2506140000) (sym is.together) (together_within s.window c.args.c s.small c.requires.place) in
+    let is = fit_kept c.fit_at-fit.result s.window c.args.best.place c.requires.place (c.fit_at-fit.ensures s.window s.holds) in
+    let r = subst (Within 2506140000) (sym is.together) (together_within s.window c.args.best.place s.small c.requires.place) in
     (omega (arith, ints, r.0, r.1), omega (arith, ints, r.0, r.1))
 
 pub returns : goal.returns
 unfolding HoldsParts
-returns c = λ p h.
-    let place = c.args.c in
+returns c = λ p h held.
+    let place = c.args.best.place in
     let s = c.requires.small in
     let near = c.requires.place in
-    let mine = fit_kept c.fit_at-fit.result s.window c.args.c c.requires.place (c.fit_at-fit.ensures s.window s.holds) in
-    let is = fit_kept c.fit_at-fit.result h.window c.args.c c.requires.place (c.fit_at-fit.ensures h.window h.holds) in
+    let mine = fit_kept c.fit_at-fit.result s.window c.args.best.place c.requires.place (c.fit_at-fit.ensures s.window s.holds) in
+    let is = fit_kept c.fit_at-fit.result h.window c.args.best.place c.requires.place (c.fit_at-fit.ensures h.window h.holds) in
     let t = with_left_is c.args.parts.now p h place c.fit_at-fit.result is in
     let r = by_itself_is c.args.parts.now p h place c.fit_at-fit.result is in
     let l = h.holds.alone ∙ left_alone_is c.args.parts.now p h in
@@ -63,7 +55,7 @@ returns c = λ p h.
     let square : to_z w64 (of_z w64 c.square.result) ≡ c.square.result = omega (arith, ints, c.square.type_inv) in
     let a = third ∙ c.third.ensures ∙ ap₂ (λ y z. pos ((unsigned_abs y * unsigned_abs z + 2) / 3)) (left ∙ l) (right ∙ r) in
     let b = square ∙ c.square.ensures ∙ ap (λ z. pos (unsigned_abs z * unsigned_abs z)) (together ∙ t) in
-    let score_is : c.score_of.result ≡ place_score p place = c.score_of.ensures ∙ ap₂ score t r in
+    let some : (place_score p place == 0) ≡ false = sym (c.is_none.ensures ∙ ap (λ n. n == 0) held) ∙ c.if-is_none.false in
     ap₂ int_le a b
     ∙ explained (with_left p place) (left_alone p) (by_itself p place) _ _ (subst (λ z. pos 0 ≤ℤ z) l lr.0) (subst (λ z. pos 0 ≤ℤ z) r rr.0) refl refl
-    ∙ sym (scored (place_score p place) (explains (with_left p place) (left_alone p) (by_itself p place)) (λ e. c.if-score_of-eq0.false (score_is ∙ e)))
+    ∙ sym (ap (λ n. not n && explains (with_left p place) (left_alone p) (by_itself p place)) some)

@@ -1,33 +1,59 @@
-use Rattle.std.proofs.Common.{◌≡◌, ℕ, ◌+◌, ◌-◌, ◌*◌, ◌≤◌, ℤ, pos, ◌*ℤ◌, to_z, of_z, w64, arith, subst, sym}
+use Rattle.std.proofs.Common.{◌≡◌, ℕ, ◌-◌, ◌*◌, ◌≤◌, ℤ, pos, ◌+ℤ◌, ◌-ℤ◌, ◌*ℤ◌, FitsSigned, to_z, of_z, w64, arith, ap, ap₂, subst, sym, ◌∙◌}
+use Rattle.std.proofs.Math.IntN.{*ℤ_comm}
 use Rattle.std.proofs.lemmas.Int.{ints}
 use Rattle.sgm_base.specs.Ranges.{Within}
-use Rattle.sgm_fine.proofs.SideSums.{eighths_fit, eighths_kept, eighths_within, wide_product}
+use Rattle.sgm_fine.proofs.Products.{times_difference}
+use Rattle.sgm_fine.proofs.SideSums.{eighths_within, of_eight, wide_product}
 use Rattle.sgm_fine.proofs.scores.blend.Goals as goal
 
--- at most eight times a number, as the code computes it
-some : (n : ℕ) (r z : ℤ) → n ≤ 8 → r ≡ pos n → Within 36028797018963968 z → to_z w64 (of_z w64 (to_z w64 (of_z w64 r) *ℤ to_z w64 (of_z w64 z))) ≡ pos n *ℤ z
-some n r z few e h =
-    wide_product 8 36028797018963968 (pos n) z (to_z w64 (of_z w64 r)) (to_z w64 (of_z w64 z)) (omega arith) (omega (arith, ints, few, e)) (omega (arith, ints, h.0, h.1))
-    (omega (arith, ints, few), omega (arith, ints, few)) h
+-- so many eighths of the way from one number to another
+stepped : (n : ℕ) (h s : ℤ) → n ≤ 8 → (pos 8 *ℤ h) +ℤ (pos n *ℤ (s -ℤ h)) ≡ (pos (8 - n) *ℤ h) +ℤ (pos n *ℤ s)
+stepped n h s few =
+    let g : pos 8 -ℤ pos n ≡ pos (8 - n) = omega (arith, ints, few) in
+    let rest : (pos 8 *ℤ h) -ℤ (pos n *ℤ h) ≡ pos (8 - n) *ℤ h =
+    ap₂ (λ (y z : ℤ). y -ℤ z) (*ℤ_comm (pos 8) h) (*ℤ_comm (pos n) h) ∙ sym (times_difference h (pos 8) (pos n)) ∙ ap (λ z. h *ℤ z) g ∙ *ℤ_comm h (pos (8 - n)) in
+    omega (arith, ints, times_difference (pos n) s h, rest)
 
-eight : (n : ℕ) → n ≤ 8 → (8 - n) + n ≡ 8
-eight n few = omega (arith, few)
+-- the way between two numbers, and so many times that, as the code computes them
+wide : (h s : ℤ) → Within 36028797018963968 h → Within 36028797018963968 s → Within 72057594037927936 (s -ℤ h)
+wide h s p q = (omega (arith, ints, p.0, q.0, p.1, q.1), omega (arith, ints, p.0, q.0, p.1, q.1))
+
+times : (n : ℕ) (r h s : ℤ) → n ≤ 8 → r ≡ pos n → Within 36028797018963968 h → Within 36028797018963968 s
+    → to_z w64 (of_z w64 (to_z w64 (of_z w64 r) *ℤ to_z w64 (of_z w64 (to_z w64 (of_z w64 s) -ℤ to_z w64 (of_z w64 h))))) ≡ pos n *ℤ (s -ℤ h)
+times n r h s few e p q =
+    let w = wide h s p q in
+    wide_product 8 72057594037927936 (pos n) (s -ℤ h) (to_z w64 (of_z w64 r)) (to_z w64 (of_z w64 (to_z w64 (of_z w64 s) -ℤ to_z w64 (of_z w64 h)))) (omega arith)
+    (omega (arith, ints, few, e)) (omega (arith, ints, p.0, p.1, q.0, q.1)) (omega (arith, ints, few), omega (arith, ints, few)) w
+
+eight : (h : ℤ) → Within 36028797018963968 h → to_z w64 (of_z w64 (pos 8 *ℤ to_z w64 (of_z w64 h))) ≡ pos 8 *ℤ h
+eight h p = omega (arith, ints, p.0, p.1)
+
+fits : (n : ℕ) (h s y z : ℤ) → n ≤ 8 → Within 36028797018963968 h → Within 36028797018963968 s → y ≡ pos 8 *ℤ h → z ≡ pos n *ℤ (s -ℤ h) → FitsSigned w64 (y +ℤ z)
+fits n h s y z few p q ey ez =
+    let w = eighths_within (8 - n) n 36028797018963968 h s (of_eight n few) p q in
+    omega (arith, ints, ey, ez, stepped n h s few, w.0, w.1)
+
+kept : (n : ℕ) (h s y z : ℤ) → n ≤ 8 → Within 36028797018963968 h → Within 36028797018963968 s → y ≡ pos 8 *ℤ h → z ≡ pos n *ℤ (s -ℤ h)
+    → to_z w64 (of_z w64 (y +ℤ z)) ≡ (pos (8 - n) *ℤ h) +ℤ (pos n *ℤ s)
+kept n h s y z few p q ey ez =
+    let w = eighths_within (8 - n) n 36028797018963968 h s (of_eight n few) p q in
+    omega (arith, ints, ey, ez, stepped n h s few, w.0, w.1)
 
 pub overflow_add-result : goal.overflow_add-result
 overflow_add-result c =
-    eighths_fit (8 - c.args.n) c.args.n c.args.here c.args.side _ _ (eight c.args.n c.requires.eighths) c.requires.here c.requires.side
-    (some (8 - c.args.n) c.from.result c.args.here (omega arith) c.from.ensures c.requires.here)
-    (some c.args.n c.from-2.result c.args.side c.requires.eighths c.from-2.ensures c.requires.side)
+    let r = c.requires in
+    fits c.args.n c.args.here c.args.side _ _ r.eighths r.here r.side (eight c.args.here r.here)
+    (times c.args.n c.from.result c.args.here c.args.side r.eighths c.from.ensures r.here r.side)
 
 pub returns-clause-value : goal.returns-clause-value
 returns-clause-value c =
-    eighths_kept (8 - c.args.n) c.args.n c.args.here c.args.side _ _ (eight c.args.n c.requires.eighths) c.requires.here c.requires.side
-    (some (8 - c.args.n) c.from.result c.args.here (omega arith) c.from.ensures c.requires.here)
-    (some c.args.n c.from-2.result c.args.side c.requires.eighths c.from-2.ensures c.requires.side)
+    let r = c.requires in
+    kept c.args.n c.args.here c.args.side _ _ r.eighths r.here r.side (eight c.args.here r.here)
+    (times c.args.n c.from.result c.args.here c.args.side r.eighths c.from.ensures r.here r.side)
 
 pub returns-clause-small : goal.returns-clause-small
 returns-clause-small c = λ m p q.
-    let value = eighths_kept (8 - c.args.n) c.args.n c.args.here c.args.side _ _ (eight c.args.n c.requires.eighths) c.requires.here c.requires.side
-    (some (8 - c.args.n) c.from.result c.args.here (omega arith) c.from.ensures c.requires.here)
-    (some c.args.n c.from-2.result c.args.side c.requires.eighths c.from-2.ensures c.requires.side) in
-    subst (Within (8 * m)) (sym value) (eighths_within (8 - c.args.n) c.args.n m c.args.here c.args.side (eight c.args.n c.requires.eighths) p q)
+    let r = c.requires in
+    let value = kept c.args.n c.args.here c.args.side _ _ r.eighths r.here r.side (eight c.args.here r.here)
+    (times c.args.n c.from.result c.args.here c.args.side r.eighths c.from.ensures r.here r.side) in
+    subst (Within (8 * m)) (sym value) (eighths_within (8 - c.args.n) c.args.n m c.args.here c.args.side (of_eight c.args.n r.eighths) p q)
