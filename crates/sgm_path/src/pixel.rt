@@ -190,8 +190,7 @@ pub(crate) fn from_itself<const ADD: bool>(
     let (_, back) = values.split_at_mut(at);
     let (here, _) = back.split_at_mut(row.count);
     let (made, _) = spare.split_at_mut(row.count);
-    // Not from a copy into its place: a step reads across the chunks that such a copy has just
-    // written, and the processor would have to wait until they have left its store buffer.
+    // Made beside and copied back: that took less time than the step made in place from a copy.
     follow::<ADD>(row, far, here, at, made, sums);
     here.copy_from_slice(made);
 }

@@ -71,8 +71,8 @@ fn beside(near: i64, left: i64, b: i64) -> i64 {
     near.wrapping_add(i64::from(b <= left) - i64::from(left < 0))
 }
 
-/// floor(a / b), for a positive `b`. Where it is at most one from `near`, nothing is divided, which
-/// would take longer than all else that is done for a pixel.
+/// floor(a / b), for a positive `b`. Where it is at most one from `near`, two products show it and
+/// nothing is divided.
 #[inline]
 fn floor_near(a: i64, b: i64, near: i64) -> i64
     requires { pos 0 <ℤ b }
