@@ -11,6 +11,7 @@ pub mod PlaceSamples
 pub mod PlaceTests
 pub mod Products
 pub mod Quotients
+pub mod Rises
 pub mod SideSums
 pub mod Squares
 pub mod StepLaws

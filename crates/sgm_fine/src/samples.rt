@@ -18,7 +18,7 @@ ghost use Rattle.sgm_fine.specs.Slopes.{HoldsSlopes, IsSlope, step_at};
 ghost use Rattle.sgm_fine.specs.Windows.{number};
 
 use crate::around::Field;
-use crate::slopes::{Slope, Slopes, rise_over};
+use crate::slopes::{Slopes, rises};
 use crate::sums::{PLACES, SIDE};
 
 /// A sample for each pixel of a window.
@@ -177,21 +177,6 @@ fn rights_inside(plane: &Field, y: usize, u: i32) -> Option<Rights>
     // The third one isn't needed where the places are those of pixels.
     let third = sample_inside(plane, y, q + 1 + f.min(1) as i32)?;
     Some(rights_of(first, second, third, f))
-}
-
-/// How far the values rise from the middle of a window to each of its columns or rows, rounded.
-#[inline]
-fn rises(slope: Slope) -> [i32; SIDE]
-    requires slope { IsSlope slope }
-    ensures each { (n : ℕ) → n < SIDE → number result n ≡ (if int_eq slope.spread (pos 0) then pos 0
-        else rounded ((pos n -ℤ pos 2) *ℤ slope.moment) slope.spread) }
-    ensures small { (n : ℕ) → n < SIDE → Within 6600 (number result n) }
-{
-    let mut rises = [0; SIDE];
-    for n in 0..SIDE {
-        rises[n] = rise_over(slope, n as i32 - 2);
-    }
-    rises
 }
 
 /// The place in the right row of the column `i` of a window, in sixteenths, where the surface is

@@ -1,6 +1,6 @@
 //! How the values of a map rise around a pixel.
 
-ghost use Rattle.std.specs.Prelude.{◌≡◌, ℕ, ◌+◌, ◌*◌, ◌^◌, ◌<◌, ◌≤◌, ℤ, pos, ◌*ℤ◌, ◌≤ℤ◌, IfSome};
+ghost use Rattle.std.specs.Prelude.{◌≡◌, ℕ, ◌+◌, ◌*◌, ◌^◌, ◌<◌, ◌≤◌, ℤ, pos, neg_ℤ, ◌-ℤ◌, ◌*ℤ◌, ◌≤ℤ◌, IfSome};
 ghost use Rattle.std.specs.Prelude.{unwrap_or, is_some, if◌then◌else◌};
 ghost use Rattle.std.specs.Ordering.{int_eq};
 ghost use Rattle.sgm_base.specs.Ranges.{IsFromTo, Within};
@@ -9,7 +9,7 @@ ghost use Rattle.sgm_fine.specs.Slopes.{HoldsSlopes, IsSlope, moment, spread, st
 ghost use Rattle.sgm_fine.specs.Windows.{column_of, number, products, row_of_place};
 
 use crate::around::Field;
-use crate::sums::{Numbers, PLACES, products_of};
+use crate::sums::{Numbers, PLACES, SIDE, products_of};
 
 /// The greatest step from a pixel's value to one that still belongs to its surface, in sixteenths.
 pub(crate) const REACH: u16 = 32;
@@ -142,39 +142,44 @@ pub(crate) fn slopes_at(map: &Field, x: usize, y: usize, m: u16) -> Slopes
     }
 }
 
-/// A distance times a moment.
-#[inline]
-fn times(distance: i32, moment: i32) -> i32
-    requires distance { Within 2 distance }
-    requires moment { Within 1600 moment }
-    ensures value { result ≡ distance *ℤ moment }
-    ensures small { Within 3200 result }
-{
-    distance * moment
+/// How far values rise over a distance, and over the same backwards.
+#[derive(Clone, Copy)]
+struct Rise {
+    ahead: i32,
+    behind: i32,
 }
 
-/// `a / b` rounded to the nearest whole number, halves upwards: floor((2a + b) / (2b)).
+/// `a / b` and `-a / b`, each rounded to the nearest whole number, halves upwards:
+/// floor((2a + b) / (2b)). The second one follows from the first.
 #[inline]
-fn quotient(a: i32, b: i32) -> i32
+fn quotients(a: i32, b: i32) -> Rise
     requires a { Within 3200 a }
     requires b { IsFromTo (pos 1) (pos 100) b }
-    ensures value { result ≡ rounded a b }
-    ensures small { Within 6600 result }
+    ensures ahead { result.ahead ≡ rounded a b }
+    ensures behind { result.behind ≡ rounded (neg_ℤ a) b }
+    ensures small { Within 6600 result.ahead × Within 6600 result.behind }
 {
-    (2 * a + b).div_euclid(2 * b)
+    let (above, below) = (2 * a + b, 2 * b);
+    let ahead = above.div_euclid(below);
+    Rise {
+        ahead,
+        behind: i32::from(ahead * below == above) - ahead,
+    }
 }
 
-/// How far the values rise over such a distance, rounded; 0 where nothing tells.
+/// How far the values rise from the middle of a window to each of its columns or rows, rounded; 0
+/// where nothing tells.
 #[inline]
-pub(crate) fn rise_over(slope: Slope, distance: i32) -> i32
+pub(crate) fn rises(slope: Slope) -> [i32; SIDE]
     requires slope { IsSlope slope }
-    requires distance { Within 2 distance }
-    ensures value { result ≡ (if int_eq slope.spread (pos 0) then pos 0
-        else rounded (distance *ℤ slope.moment) slope.spread) }
-    ensures small { Within 6600 result }
+    ensures each { (n : ℕ) → n < SIDE → number result n ≡ (if int_eq slope.spread (pos 0) then pos 0
+        else rounded ((pos n -ℤ pos 2) *ℤ slope.moment) slope.spread) }
+    ensures small { (n : ℕ) → n < SIDE → Within 6600 (number result n) }
 {
     if slope.spread == 0 {
-        return 0;
+        return [0; SIDE];
     }
-    quotient(times(distance, slope.moment), slope.spread)
+    let near = quotients(slope.moment, slope.spread);
+    let far = quotients(2 * slope.moment, slope.spread);
+    [far.behind, near.behind, 0, near.ahead, far.ahead]
 }
