@@ -11,6 +11,7 @@ pub mod PlaceSamples
 pub mod PlaceTests
 pub mod Products
 pub mod Quotients
+pub mod Rights
 pub mod Rises
 pub mod SideSums
 pub mod Squares

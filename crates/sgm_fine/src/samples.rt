@@ -80,43 +80,35 @@ fn sample_in(plane: &Field, y: usize, q: i32) -> Option<u32>
     Some(u32::from(plane.at(q as usize, y)?))
 }
 
-/// The sample `f` sixteenths of the way from one to the next, sixteen times as great.
+/// Sixteen times a sample, and `f` times the step from it to the next one.
 #[inline]
-fn mixed(here: u32, next: u32, f: u32) -> u32
-    requires here { here < 2 ^ 16 }
-    requires next { next < 2 ^ 16 }
-    requires part { f < 16 }
-    ensures value { result ≡ (16 - f) * here + f * next }
-    ensures small { result < 2 ^ 20 }
+fn mixed(here: i32, step: i32, f: i32) -> i32
+    requires here { IsFromTo (pos 0) (pos 65535) here }
+    requires step { Within 65535 step }
+    requires part { IsFromTo (pos 0) (pos 15) f }
+    ensures value { result ≡ (pos 16 *ℤ here) +ℤ (f *ℤ step) }
+    ensures small { Within (2 ^ 22) result }
 {
-    (16 - f) * here + f * next
+    16 * here + f * step
 }
 
-/// The sample that lies half a pixel after `f` sixteenths of the way from the first of three to the
-/// second.
+/// Half a step on from one number, or half the next step back from another one, whichever is nearer
+/// after `f` sixteenths. Both are worked out, so that nothing branches.
 #[inline]
-fn half_later(first: u32, second: u32, third: u32, f: u32) -> u32
-    requires first { first < 2 ^ 16 }
-    requires second { second < 2 ^ 16 }
-    requires third { third < 2 ^ 16 }
-    requires part { f < 16 }
-    ensures sooner { f < 8 → result ≡ (8 - f) * first + (8 + f) * second }
-    ensures later { 8 ≤ f → result ≡ (24 - f) * second + (f - 8) * third }
-    ensures small { result < 2 ^ 20 }
+fn halfway(before: i32, step: i32, after: i32, next: i32, f: u32) -> i32
+    requires numbers { Within (2 ^ 22) before × Within (2 ^ 22) after }
+    requires steps { Within 65535 step × Within 65535 next }
+    ensures sooner { f < 8 → result ≡ before +ℤ (pos 8 *ℤ step) }
+    ensures later { 8 ≤ f → result ≡ after -ℤ (pos 8 *ℤ next) }
 {
-    if f < 8 {
-        mixed(first, second, f + 8)
-    } else {
-        mixed(second, third, f - 8)
-    }
+    let (sooner, later) = (before + 8 * step, after - 8 * next);
+    if f < 8 { sooner } else { later }
 }
 
 /// The samples on the right between three pixels, `f` sixteenths from the first and the second.
 #[inline]
 fn rights_of(first: u32, second: u32, third: u32, f: u32) -> Rights
-    requires first { first < 2 ^ 16 }
-    requires second { second < 2 ^ 16 }
-    requires third { third < 2 ^ 16 }
+    requires samples { (first < 2 ^ 16) × (second < 2 ^ 16) × (third < 2 ^ 16) }
     requires part { f < 16 }
     ensures after { result.after ≡ (16 - f) * second + f * third }
     ensures sooner { f < 8 → result.here ≡ (8 - f) * first + (8 + f) * second }
@@ -124,10 +116,13 @@ fn rights_of(first: u32, second: u32, third: u32, f: u32) -> Rights
     ensures before { result.before ≡ (16 - f) * first + f * second }
     ensures small { AreRights result }
 {
+    let (step, next) = (second as i32 - first as i32, third as i32 - second as i32);
+    let before = mixed(first as i32, step, f as i32);
+    let after = mixed(second as i32, next, f as i32);
     Rights {
-        after: mixed(second, third, f),
-        here: half_later(first, second, third, f),
-        before: mixed(first, second, f),
+        after: after as u32,
+        here: halfway(before, step, after, next, f) as u32,
+        before: before as u32,
     }
 }
 
