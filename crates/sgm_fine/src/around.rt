@@ -139,8 +139,10 @@ impl<'a> Field<'a> {
         ensures { HoldsWindow result self.now x y }
     {
         let mut window = [None; PLACES];
-        for k in 0..PLACES {
-            window[k] = self.inner(x + k % SIDE - 2, y + k / SIDE - 2);
+        for j in 0..SIDE {
+            for i in 0..SIDE {
+                window[SIDE * j + i] = self.inner(x + i - 2, y + j - 2);
+            }
         }
         window
     }

@@ -1,11 +1,20 @@
-use Rattle.std.proofs.Common.{◌≡◌, ℕ, ◌<◌, ◌≤◌, ◌%◌, ◌/◌, None, length, slice_index_or}
+use Rattle.std.proofs.Common.{◌≡◌, ℕ, ◌+◌, ◌*◌, ◌<◌, ◌≤◌, ◌%◌, ◌/◌, None, length, slice_index_or}
 use Rattle.sgm_fine.specs.Windows.{value_around}
 use Rattle.sgm_fine.proofs.around.Field.window_inside.Given as goal
 
--- the values before this one are gathered
-abbrev pub invariant-loop-k : goal.invariant-loop-k
-invariant-loop-k l = record {
+-- the values of the rows before this one are gathered
+abbrev pub invariant-loop-j : goal.invariant-loop-j
+invariant-loop-j l = record {
   len : length l.window ≡ 25;
-  few : l.k ≤ 25;
-  each : (j : ℕ) → j < l.k → slice_index_or l.window j None ≡ value_around l.self 2 l.x l.y (j % 5) (j / 5);
+  few : l.j ≤ 5;
+  each : (k : ℕ) → k < 5 * l.j → slice_index_or l.window k None ≡ value_around l.self 2 l.x l.y (k % 5) (k / 5);
+}
+
+-- and those of this one in the columns before
+abbrev pub invariant-loop-i : goal.invariant-loop-i
+invariant-loop-i l = record {
+  len : length l.window ≡ 25;
+  row : l.j < 5;
+  few : l.i ≤ 5;
+  each : (k : ℕ) → k < 5 * l.j + l.i → slice_index_or l.window k None ≡ value_around l.self 2 l.x l.y (k % 5) (k / 5);
 }
