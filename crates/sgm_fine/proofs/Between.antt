@@ -1,12 +1,13 @@
 -- The sample of a row between two pixels, from those of the pixels.
-use Rattle.std.proofs.Common.{◌≡◌, ◌≢◌, ℕ, zero, suc, ◌+◌, ◌-◌, ◌*◌, ◌<◌, ◌≤◌, inl, inr, true, false, ◌==◌, ◌^◌, Option, Some, None, is_some, if◌then◌else◌, ℤ, pos, negsuc, ◌+ℤ◌, ◌-ℤ◌, ◌*ℤ◌, unsigned_abs, to_z, of_z, w32, arith, refl, ap, ap₂, sym, ◌∙◌}
+use Rattle.std.proofs.Common.{◌≡◌, ◌≢◌, ℕ, zero, suc, ◌+◌, ◌-◌, ◌*◌, ◌<◌, ◌≤◌, inl, inr, true, false, ◌==◌, ◌^◌, Option, Some, None, is_some, ◌&&◌, if◌then◌else◌, ℤ, pos, negsuc, ◌+ℤ◌, ◌-ℤ◌, ◌*ℤ◌, unsigned_abs, to_z, of_z, w32, arith, refl, ap, ap₂, subst, sym, ◌∙◌}
 use Rattle.std.specs.Prelude.{min, option_and_then, option_map}
 use Rattle.std.specs.Int.{int_div_euclid, int_rem_euclid}
 use Rattle.std.proofs.lemmas.Bool.{cases_lt}
 use Rattle.std.proofs.lemmas.Int.{ints}
 use Rattle.sgm_base.specs.Ranges.{Within}
-use Rattle.sgm_fine.specs.Samples.{between, has_rights}
-use Rattle.sgm_fine.proofs.PlaceSamples.{all_three}
+use Rattle.sgm_fine.specs.Samples.{HoldsThree, between, has_rights, quotient, rest}
+use Rattle.sgm_fine.specs.declared.samples.Three.{Three}
+use Rattle.sgm_fine.proofs.PlaceSamples.{all_three, lacks_first, lacks_last, not_three}
 
 quotient_at : (u q : ℤ) (f : ℕ) → u ≡ (pos 16 *ℤ q) +ℤ pos f → f < 16 → int_div_euclid u (pos 16) ≡ q
 quotient_at (pos a) q f e lt = omega (arith, ints, e, lt)
@@ -124,13 +125,6 @@ three_there row u q f a b c s ea eb ec = elim (cases_lt f 8) [
   | inr ge ↦ all_three _ _ _ _ _ _ (after_is row u q f b c s eb ec) (here_later row u q f b c s ge eb ec) (before_is row u q f a b s ea eb)
 ]
 
--- the pixel before a place, and how many sixteenths lie between
-unfoldable pub quotient : ℤ → ℤ
-quotient u = int_div_euclid (u -ℤ pos 8) (pos 16)
-
-unfoldable pub rest : ℤ → ℕ
-rest u = unsigned_abs (int_rem_euclid (u -ℤ pos 8) (pos 16))
-
 pub starts : (u : ℤ) → Starts u (quotient u) (rest u)
 unfolding quotient rest
 starts u =
@@ -148,3 +142,24 @@ next_to u z h e = let s = starts u in omega (arith, ints, h.0, h.1, e, s.0, s.1)
 pub last_to : (u z : ℤ) (n f : ℕ) → Within (2 ^ 24) u → z ≡ quotient u → n ≡ min f 1
     → to_z w32 (of_z w32 (to_z w32 (of_z w32 (z +ℤ pos 1)) +ℤ to_z w32 n)) ≡ (quotient u +ℤ pos 1) +ℤ pos (min f 1)
 last_to u z n f h e en = let s = starts u in omega (arith, ints, h.0, h.1, e, en, s.0, s.1)
+
+-- what the pixels around a place say of the samples there
+pub three_starts : (three : Three) (row : ℤ → Option ℕ) (u : ℤ) → HoldsThree three row u → Starts u (quotient u) three.part
+three_starts three row u h = subst (Starts u (quotient u)) (sym h.part) (starts u)
+
+pub three_third : (three : Three) (row : ℤ → Option ℕ) (u : ℤ) (c : ℕ) → HoldsThree three row u → three.third ≡ Some c → three.part ≢ 0 → row ((quotient u +ℤ pos 1) +ℤ pos 1) ≡ Some c
+three_third three row u c h e = third_is row (quotient u) _ three.part c refl (sym h.third ∙ e)
+
+pub three_have : (three : Three) (row : ℤ → Option ℕ) (u : ℤ) (a b c : ℕ) → HoldsThree three row u → three.first ≡ Some a → three.second ≡ Some b → three.third ≡ Some c → true ≡ has_rights row u
+three_have three row u a b c h ea eb ec =
+    three_there row u (quotient u) three.part a b c (three_starts three row u h) (sym h.first ∙ ea) (sym h.second ∙ eb) (three_third three row u c h ec)
+
+pub three_lack : (three : Three) (row : ℤ → Option ℕ) (u : ℤ) → HoldsThree three row u → (is_some three.first && is_some three.second && is_some three.third) ≡ false → false ≡ has_rights row u
+three_lack three row u h lacks =
+    let q = quotient u in
+    let f = three.part in
+    let s = three_starts three row u h in
+    not_three three.first three.second three.third (has_rights row u) lacks
+    (λ none. lacks_last _ _ _ (no_here row (u +ℤ negsuc 7) q f (omega (arith, ints, s.0)) s.1 (sym h.first ∙ none)))
+    (λ none. lacks_first _ _ _ (no_here row (u +ℤ pos 8) (q +ℤ pos 1) f (omega (arith, ints, s.0)) s.1 (sym h.second ∙ none)))
+    (λ b some none. lacks_first _ _ _ (no_third row u q _ f b s refl (sym h.third ∙ none) (sym h.second ∙ some)))

@@ -1,5 +1,5 @@
 -- The samples of a window, as they are gathered place by place.
-use Rattle.std.proofs.Common.{◌≡◌, ℕ, zero, suc, ◌+◌, ◌<◌, Bool, true, false, ◌&&◌, List, length, get_or, map, Option, Some, unwrap_or, pos, neg_ℤ, arith, refl, ap, ap₂, sym, ◌∙◌}
+use Rattle.std.proofs.Common.{◌≡◌, ℕ, zero, suc, ◌+◌, ◌<◌, Bool, true, false, ◌&&◌, List, length, get_or, map, Option, Some, unwrap_or, pos, neg_ℤ, arith, refl, ap, ap₂, subst, sym, ◌∙◌}
 use Rattle.std.specs.List.{list_all, range_with_len}
 use Rattle.std.proofs.lemmas.List.{get_or-set_other, get_or-set_same}
 use Rattle.std.proofs.lemmas.List.Folds.{list_all_at}
@@ -38,6 +38,10 @@ none_below window p = record {
   here = λ j lt. absurd (omega arith);
   before = λ j lt. absurd (omega arith);
 }
+
+-- the same of another name of k
+pub renamed_below : (a b : ℕ) (window : Window) (p : Centre) → a ≡ b → HoldsBelow a window p → HoldsBelow b window p
+renamed_below a b window p e h = subst (λ n. HoldsBelow n window p) e h
 
 pub has_below : (k : ℕ) (window : Window) (p : Centre) → HoldsBelow k window p → (j : ℕ) → j < k → has p j ≡ true
 has_below k window p h j lt =

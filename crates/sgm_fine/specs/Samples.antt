@@ -1,7 +1,7 @@
 -- The samples of a window that lies along the surface: on the left, and at three offsets on the
 -- right.
 use Rattle.std.specs.Prelude.{◌≡◌, ℕ, ◌<◌, ◌≤◌, ◌^◌, All, ◌+◌, ◌-◌, ◌*◌, ◌/◌, ◌%◌, ◌==◌, ◌&&◌, Bool}
-use Rattle.std.specs.Prelude.{if◌then◌else◌, List, map, Option, Some, is_some, option_and_then}
+use Rattle.std.specs.Prelude.{if◌then◌else◌, List, map, min, Option, Some, is_some, option_and_then}
 use Rattle.std.specs.Prelude.{option_map, unwrap_or, unsigned_abs, ℤ, pos, neg_ℤ, ◌+ℤ◌, ◌-ℤ◌, ◌*ℤ◌}
 use Rattle.std.specs.Int.{int_div_euclid, int_rem_euclid}
 use Rattle.std.specs.List.{list_all, range_with_len}
@@ -13,6 +13,7 @@ use Rattle.sgm_fine.specs.Windows.{column_of, number, row_of_place, value_around
 use Rattle.sgm_fine.specs.declared.samples.Lie.{Lie}
 use Rattle.sgm_fine.specs.declared.samples.Place.{Place}
 use Rattle.sgm_fine.specs.declared.samples.Rights.{Rights}
+use Rattle.sgm_fine.specs.declared.samples.Three.{Three}
 use Rattle.sgm_fine.specs.declared.samples.Window.{Window}
 use Rattle.sgm_fine.specs.declared.sums.TheConstants.{PLACES, SIDE}
 
@@ -83,12 +84,29 @@ has_rights row u =
     is_some (between row (u +ℤ half)) && is_some (between row (u +ℤ pos 0))
     && is_some (between row (u +ℤ neg_ℤ half))
 
--- what the code holds of them, and what they keep
-pub record HoldsRights (rights : Rights) (row : ℤ → Option ℕ) (u : ℤ) : Type 0 where
-  pub after : between row (u +ℤ half) ≡ Some rights.after
-  pub here : between row (u +ℤ pos 0) ≡ Some rights.here
-  pub before : between row (u +ℤ neg_ℤ half) ≡ Some rights.before
+-- the pixel before the place half a pixel before u, and how many sixteenths lie between
+unfoldable pub quotient : ℤ → ℤ
+quotient u = int_div_euclid (u -ℤ pos 8) (pos 16)
 
+unfoldable pub rest : ℤ → ℕ
+rest u = unsigned_abs (int_rem_euclid (u -ℤ pos 8) (pos 16))
+
+-- what the code holds of the pixels of a row around u: the third one is the second one where that
+-- place is a pixel's own
+pub record HoldsThree (three : Three) (row : ℤ → Option ℕ) (u : ℤ) : Type 0 where
+  pub part : three.part ≡ rest u
+  pub first : three.first ≡ row (quotient u)
+  pub second : three.second ≡ row (quotient u +ℤ pos 1)
+  pub third : three.third ≡ row ((quotient u +ℤ pos 1) +ℤ pos (min three.part 1))
+
+-- and of the samples at a place of that row, beside a left one
+pub record HoldsSides (place : Place) (one : Option ℕ) (row : ℤ → Option ℕ) (u : ℤ) : Type 0 where
+  pub left : one ≡ Some place.left
+  pub after : between row (u +ℤ half) ≡ Some place.after
+  pub here : between row (u +ℤ pos 0) ≡ Some place.here
+  pub before : between row (u +ℤ neg_ℤ half) ≡ Some place.before
+
+-- what the samples on the right keep
 pub record AreRights (rights : Rights) : Type 0 where
   pub after : rights.after < 2 ^ 20
   pub here : rights.here < 2 ^ 20

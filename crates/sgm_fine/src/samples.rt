@@ -1,19 +1,16 @@
 //! The samples of a window on the left, and those on the right at three offsets.
 
 ghost use Rattle.std.specs.Prelude.{◌≡◌, ℕ, ◌+◌, ◌-◌, ◌*◌, ◌/◌, ◌%◌, ◌^◌, ◌<◌, ◌≤◌, ℤ, pos, neg_ℤ};
-ghost use Rattle.std.specs.Prelude.{◌+ℤ◌, ◌-ℤ◌, ◌*ℤ◌, ◌≤ℤ◌, ◌<ℤ◌, if◌then◌else◌, IfSome, is_some};
-ghost use Rattle.std.specs.Prelude.{length};
-ghost use Rattle.std.specs.Prelude.{slice_index, Some, None, true};
+ghost use Rattle.std.specs.Prelude.{◌+ℤ◌, ◌-ℤ◌, ◌*ℤ◌, ◌≤ℤ◌, ◌<ℤ◌, ◌&&◌, true, if◌then◌else◌, length};
+ghost use Rattle.std.specs.Prelude.{slice_index, Option, Some, None, is_some, unwrap_or, IfSome};
 ghost use Rattle.std.specs.Ordering.{int_eq};
 ghost use Rattle.sgm_base.specs.Disparities.{IsFirst};
 ghost use Rattle.sgm_base.specs.Ranges.{IsFromTo, Within};
 ghost use Rattle.sgm_base.specs.Rounding.{rounded};
 ghost use Rattle.sgm_base.specs.Values.{Values, value_at};
-ghost use Rattle.sgm_fine.specs.Samples.{AreRights, Centre, HoldsLie, HoldsPlace, HoldsRights};
-ghost use Rattle.sgm_fine.specs.Samples.{HoldsSamples};
-ghost use Rattle.sgm_fine.specs.Samples.{IsInside, IsLie, IsPlace, IsWindow, LiesInside, centre};
-ghost use Rattle.sgm_fine.specs.Samples.{has};
-ghost use Rattle.sgm_fine.specs.Samples.{has_all, has_rights, sample};
+ghost use Rattle.sgm_fine.specs.Samples.{AreRights, Centre, HoldsLie, HoldsPlace, HoldsSamples};
+ghost use Rattle.sgm_fine.specs.Samples.{HoldsSides, HoldsThree, IsInside, IsLie, IsPlace, IsWindow};
+ghost use Rattle.sgm_fine.specs.Samples.{LiesInside, centre, has, has_all, has_rights, sample};
 ghost use Rattle.sgm_fine.specs.Slopes.{HoldsSlopes, IsSlope, step_at};
 ghost use Rattle.sgm_fine.specs.Windows.{number};
 
@@ -68,16 +65,25 @@ pub(crate) struct Rights {
     pub(crate) before: u32,
 }
 
+/// The pixels of a row around a place: the first of three and the two after it, none for each that
+/// is void or outside, and how many sixteenths the place lies after the middle of the first two.
+#[derive(Clone, Copy)]
+struct Three {
+    first: Option<u16>,
+    second: Option<u16>,
+    third: Option<u16>,
+    part: u32,
+}
+
 /// The sample of the column `q` of the row `y`, none where it is void or outside.
 #[inline]
-fn sample_in(plane: &Field, y: usize, q: i32) -> Option<u32>
-    ensures value { result ≡ sample plane.now y q }
-    ensures small { IfSome result (λ v. v < 2 ^ 16) }
+fn sample_in(plane: &Field, y: usize, q: i32) -> Option<u16>
+    ensures { result ≡ sample plane.now y q }
 {
     if q < 0 {
         return None;
     }
-    Some(u32::from(plane.at(q as usize, y)?))
+    plane.at(q as usize, y)
 }
 
 /// Sixteen times a sample, and `f` times the step from it to the next one.
@@ -126,52 +132,96 @@ fn rights_of(first: u32, second: u32, third: u32, f: u32) -> Rights
     }
 }
 
-/// The samples around `u` sixteenths in the row `y`; none where a pixel that is needed is void or
-/// outside.
+/// The pixels around `u` sixteenths in the row `y`.
 #[inline]
-fn rights_at(plane: &Field, y: usize, u: i32) -> Option<Rights>
+fn three_at(plane: &Field, y: usize, u: i32) -> Three
     requires near { Within (2 ^ 24) u }
-    ensures none { is_some result ≡ has_rights (sample plane.now y) u }
-    ensures some { IfSome result (λ s. HoldsRights s (sample plane.now y) u) }
-    ensures small { IfSome result AreRights }
+    ensures holds { HoldsThree result (sample plane.now y) u }
+    ensures part { result.part < 16 }
 {
     let start = u - 8;
-    let (q, f) = (start.div_euclid(16), start.rem_euclid(16) as u32);
-    let first = sample_in(plane, y, q)?;
-    let second = sample_in(plane, y, q + 1)?;
-    // The third one isn't needed where the places are those of pixels.
-    let third = sample_in(plane, y, q + 1 + f.min(1) as i32)?;
-    Some(rights_of(first, second, third, f))
+    let (q, part) = (start.div_euclid(16), start.rem_euclid(16) as u32);
+    Three {
+        first: sample_in(plane, y, q),
+        second: sample_in(plane, y, q + 1),
+        // The third one isn't needed where the places are those of pixels.
+        third: sample_in(plane, y, q + 1 + part.min(1) as i32),
+        part,
+    }
 }
 
 /// The sample of the column `q` of the row `y`, which lies inside, none where it is void.
 #[inline]
-fn sample_inside(plane: &Field, y: usize, q: i32) -> Option<u32>
+fn sample_inside(plane: &Field, y: usize, q: i32) -> Option<u16>
     requires row { y < plane.now.height }
     requires column { (pos 0 ≤ℤ q) × (q <ℤ pos plane.now.width) }
-    ensures value { result ≡ sample plane.now y q }
-    ensures small { IfSome result (λ v. v < 2 ^ 16) }
+    ensures { result ≡ sample plane.now y q }
 {
-    Some(u32::from(plane.inner(q as usize, y)?))
+    plane.inner(q as usize, y)
 }
 
-/// The samples around `u` sixteenths in the row `y`, where all pixels that are needed lie inside.
+/// The pixels around `u` sixteenths in the row `y`, where all that are needed lie inside.
 #[inline]
-fn rights_inside(plane: &Field, y: usize, u: i32) -> Option<Rights>
+fn three_inside(plane: &Field, y: usize, u: i32) -> Three
     requires near { Within (2 ^ 24) u }
     requires row { y < plane.now.height }
     requires inside { IsFromTo (pos 8) (pos (16 * plane.now.width) -ℤ pos 25) u }
-    ensures none { is_some result ≡ has_rights (sample plane.now y) u }
-    ensures some { IfSome result (λ s. HoldsRights s (sample plane.now y) u) }
-    ensures small { IfSome result AreRights }
+    ensures holds { HoldsThree result (sample plane.now y) u }
+    ensures part { result.part < 16 }
 {
     let start = u - 8;
-    let (q, f) = (start.div_euclid(16), start.rem_euclid(16) as u32);
-    let first = sample_inside(plane, y, q)?;
-    let second = sample_inside(plane, y, q + 1)?;
-    // The third one isn't needed where the places are those of pixels.
-    let third = sample_inside(plane, y, q + 1 + f.min(1) as i32)?;
-    Some(rights_of(first, second, third, f))
+    let (q, part) = (start.div_euclid(16), start.rem_euclid(16) as u32);
+    Three {
+        first: sample_inside(plane, y, q),
+        second: sample_inside(plane, y, q + 1),
+        // The third one isn't needed where the places are those of pixels.
+        third: sample_inside(plane, y, q + 1 + part.min(1) as i32),
+        part,
+    }
+}
+
+/// Whether a sample on the left and three on the right are there. All are looked at, so that there
+/// is one branch and not four.
+#[inline]
+fn are_there(left: Option<u16>, three: Three) -> bool
+    ensures { result ≡ (is_some left && is_some three.first && is_some three.second
+        && is_some three.third) }
+{
+    left.is_some() & three.first.is_some() & three.second.is_some() & three.third.is_some()
+}
+
+/// A sample that is there.
+#[inline]
+fn known(sample: Option<u16>) -> u32
+    ensures value { result ≡ unwrap_or sample 0 }
+    ensures small { result < 2 ^ 16 }
+{
+    u32::from(sample.unwrap_or(0))
+}
+
+/// The samples of a place from the left one and the pixels around it on the right; none where one
+/// of them isn't there.
+#[inline]
+fn place_of(left: Option<u16>, three: Three) -> Option<Place>
+    requires { three.part < 16 }
+    ensures none { (row : ℤ → Option ℕ) (u : ℤ) → HoldsThree three row u
+        → is_some result ≡ (is_some left && has_rights row u) }
+    ensures some { (row : ℤ → Option ℕ) (u : ℤ) → HoldsThree three row u
+        → IfSome result (λ place. HoldsSides place left row u) }
+    ensures small { IfSome result IsPlace }
+{
+    if !are_there(left, three) {
+        return None;
+    }
+    let first = known(three.first);
+    let second = known(three.second);
+    let rights = rights_of(first, second, known(three.third), three.part);
+    Some(Place {
+        left: known(left),
+        after: rights.after,
+        here: rights.here,
+        before: rights.before,
+    })
 }
 
 /// The place in the right row of the column `i` of a window, in sixteenths, where the surface is
@@ -237,13 +287,7 @@ fn place_at(left: &Field, right: &Field, at: Pixel, lie: &Lie, k: usize) -> Opti
 {
     let sample = left.around(2, at.x, at.y, k % SIDE, k / SIDE)?;
     let u = lie.columns[k % SIDE] - lie.rows[k / SIDE];
-    let rights = rights_at(right, at.y + k / SIDE - 2, u)?;
-    Some(Place {
-        left: u32::from(sample),
-        after: rights.after,
-        here: rights.here,
-        before: rights.before,
-    })
+    place_of(Some(sample), three_at(right, at.y + k / SIDE - 2, u))
 }
 
 /// The samples of the pixel in the column `i` and the row `j` of a window that lies inside; none
@@ -272,15 +316,9 @@ fn place_inside(
         HoldsPlace s (centre left.now right.now map at.first at.x at.y at.value) (SIDE * j + i)) }
     ensures small { IfSome result IsPlace }
 {
-    let sample = left.around_inside(at.x, at.y, i, j)?;
+    let sample = left.around_inside(at.x, at.y, i, j);
     let u = lie.columns[i] - lie.rows[j];
-    let rights = rights_inside(right, at.y + j - 2, u)?;
-    Some(Place {
-        left: u32::from(sample),
-        after: rights.after,
-        here: rights.here,
-        before: rights.before,
-    })
+    place_of(sample, three_inside(right, at.y + j - 2, u))
 }
 
 /// The least of five places.
@@ -360,16 +398,14 @@ fn samples_inside(left: &Field, right: &Field, at: Pixel, lie: &Lie) -> Option<W
         here: [0; PLACES],
         before: [0; PLACES],
     };
-    let (mut i, mut j) = (0, 0);
-    for k in 0..PLACES {
-        let place = place_inside(left, right, at, lie, i, j)?;
-        window.left[k] = place.left;
-        window.after[k] = place.after;
-        window.here[k] = place.here;
-        window.before[k] = place.before;
-        i += 1;
-        if i == SIDE {
-            (i, j) = (0, j + 1);
+    for j in 0..SIDE {
+        for i in 0..SIDE {
+            let place = place_inside(left, right, at, lie, i, j)?;
+            let k = SIDE * j + i;
+            window.left[k] = place.left;
+            window.after[k] = place.after;
+            window.here[k] = place.here;
+            window.before[k] = place.before;
         }
     }
     Some(window)

@@ -1,73 +1,102 @@
-use Rattle.std.proofs.Common.{◌≡◌, ◌^◌, ◌<◌, false, is_some, pos, neg_ℤ, ap, sym, ◌∙◌, arith, length-set, subst}
+use Rattle.std.proofs.Common.{◌≡◌, ◌+◌, ◌*◌, ◌^◌, ◌<◌, false, is_some, pos, neg_ℤ, ap, sym, ◌∙◌, arith, length-set}
 use Rattle.std.proofs.lemmas.List.Elements.{All-set}
-use Rattle.sgm_fine.specs.Samples.{Centre, HoldsPlace, centre, half, has, left_at, right_at}
-use Rattle.sgm_fine.proofs.WindowSamples.{all_pass, has_below, list_all_places, list_more, one_fails}
+use Rattle.sgm_fine.specs.Samples.{Centre, centre, half, has, left_at, right_at}
+use Rattle.sgm_fine.proofs.WindowSamples.{all_pass, has_below, list_all_places, list_more, one_fails, renamed_below}
 use Rattle.sgm_fine.proofs.samples.samples_inside.Goals as goal
-use Rattle.sgm_fine.proofs.samples.samples_inside.Goals.{then-i-eq-SIDE, else-i-eq-SIDE}
 
-pub loop-k-preserved : goal.loop-k-preserved
-loop-k-preserved c =
-    let k = c.loop-k.k in
-    let w = c.loop-k.window in
-    let i = c.loop-k.invariant in
+pub loop-i-init : goal.loop-i-init
+loop-i-init c =
+    let j = c.loop-j.j in
+    let before = c.loop-j.invariant in
+    record {
+      row = c.loop-j-test.true;
+      few = omega arith;
+      long_left = before.long_left;
+      long_after = before.long_after;
+      long_here = before.long_here;
+      long_before = before.long_before;
+      kept = before.kept;
+      held = λ map h. renamed_below (5 * j) (5 * j + 0) _ _ (omega arith) (before.held map h);
+    }
+
+pub loop-i-preserved : goal.loop-i-preserved
+loop-i-preserved c =
+    let j = c.loop-j.j in
+    let i = c.loop-i.i in
+    let k = 5 * j + i in
+    let w = c.loop-i.window in
+    let before = c.loop-i.invariant in
     let s = c.in_ok-place.place in
     let small = c.in_ok-place.ensures.small in
-    let lt = c.loop-k-test.true in
+    let lt : k < 25 = omega (arith, before.row, c.loop-i-test.true) in
     record {
-      few = omega (arith, lt);
-      column = elim c.if-i-eq-SIDE.branch [ then-i-eq-SIDE w ↦ omega (arith, w.i-is) | else-i-eq-SIDE w ↦ omega (arith, w.i-is, w.if-i-eq-SIDE.false, i.column) ];
-      place = elim c.if-i-eq-SIDE.branch [
-        | then-i-eq-SIDE w ↦ omega (arith, w.i-is, w.j-is, w.if-i-eq-SIDE.true, i.place)
-        | else-i-eq-SIDE w ↦ omega (arith, w.i-is, w.j-is, w.if-i-eq-SIDE.false, i.place)
-      ];
-      long_left = length-set w.left k s.left ∙ i.long_left;
-      long_after = length-set w.after k s.after ∙ i.long_after;
-      long_here = length-set w.here k s.here ∙ i.long_here;
-      long_before = length-set w.before k s.before ∙ i.long_before;
+      row = before.row;
+      few = omega (arith, c.loop-i-test.true);
+      long_left = length-set w.left k s.left ∙ before.long_left;
+      long_after = length-set w.after k s.after ∙ before.long_after;
+      long_here = length-set w.here k s.here ∙ before.long_here;
+      long_before = length-set w.before k s.before ∙ before.long_before;
       kept = record {
-        left = All-set (λ v. v < 2 ^ 16) w.left k s.left small.left i.kept.left;
-        after = All-set (λ v. v < 2 ^ 20) w.after k s.after small.after i.kept.after;
-        here = All-set (λ v. v < 2 ^ 20) w.here k s.here small.here i.kept.here;
-        before = All-set (λ v. v < 2 ^ 20) w.before k s.before small.before i.kept.before;
+        left = All-set (λ v. v < 2 ^ 16) w.left k s.left small.left before.kept.left;
+        after = All-set (λ v. v < 2 ^ 20) w.after k s.after small.after before.kept.after;
+        here = All-set (λ v. v < 2 ^ 20) w.here k s.here small.here before.kept.here;
+        before = All-set (λ v. v < 2 ^ 20) w.before k s.before small.before before.kept.before;
       };
       held = λ map h.
           let p : Centre = centre c.args.left.now c.args.right.now map c.args.at.first c.args.at.x c.args.at.y c.args.at.value in
-          let below = i.held map h in
-          let more = subst (HoldsPlace s p) i.place (c.in_ok-place.ensures.some map h) in
-          record {
-            left = list_more (left_at p) w.left k s.left (omega (arith, lt, i.long_left)) below.left more.left;
-            after = list_more (right_at p half) w.after k s.after (omega (arith, lt, i.long_after)) below.after more.after;
-            here = list_more (right_at p (pos 0)) w.here k s.here (omega (arith, lt, i.long_here)) below.here more.here;
-            before = list_more (right_at p (neg_ℤ half)) w.before k s.before (omega (arith, lt, i.long_before)) below.before more.before;
-          };
+          let below = before.held map h in
+          let more = c.in_ok-place.ensures.some map h in
+          renamed_below (k + 1) (5 * j + (i + 1)) _ p (omega arith) (record {
+            left = list_more (left_at p) w.left k s.left (omega (arith, lt, before.long_left)) below.left more.left;
+            after = list_more (right_at p half) w.after k s.after (omega (arith, lt, before.long_after)) below.after more.after;
+            here = list_more (right_at p (pos 0)) w.here k s.here (omega (arith, lt, before.long_here)) below.here more.here;
+            before = list_more (right_at p (neg_ℤ half)) w.before k s.before (omega (arith, lt, before.long_before)) below.before more.before;
+          });
+    }
+
+pub loop-j-preserved : goal.loop-j-preserved
+loop-j-preserved c =
+    let j = c.loop-j.j in
+    let i = c.loop-i.i in
+    let before = c.loop-i.invariant in
+    let end : i ≡ 5 = omega (arith, before.few, c.loop-i-test.false) in
+    record {
+      few = omega (arith, before.row);
+      long_left = before.long_left;
+      long_after = before.long_after;
+      long_here = before.long_here;
+      long_before = before.long_before;
+      kept = before.kept;
+      held = λ map h. renamed_below (5 * j + i) (5 * (j + 1)) _ _ (omega (arith, end)) (before.held map h);
     }
 
 pub returns-in_err-place-clause-none : goal.returns-in_err-place-clause-none
 returns-in_err-place-clause-none c = λ map h.
     let p : Centre = centre c.args.left.now c.args.right.now map c.args.at.first c.args.at.x c.args.at.y c.args.at.value in
-    let k = c.loop-k.k in
-    let fails : has p k ≡ false = sym (ap (has p) c.loop-k.invariant.place) ∙ sym (c.place_inside.ensures.none map h) ∙ ap is_some c.in_err-place.was in
-    ap is_some c.from_residual.ensures ∙ sym (one_fails (has p) 25 k c.loop-k-test.true fails)
+    let k = 5 * c.loop-j.j + c.loop-i.i in
+    let lt : k < 25 = omega (arith, c.loop-j-test.true, c.loop-i-test.true) in
+    let fails : has p k ≡ false = sym (c.place_inside.ensures.none map h) ∙ ap is_some c.in_err-place.was in
+    ap is_some c.from_residual.ensures ∙ sym (one_fails (has p) 25 k lt fails)
 
 pub returns-clause-none : goal.returns-clause-none
 returns-clause-none c = λ map h.
     let p : Centre = centre c.args.left.now c.args.right.now map c.args.at.first c.args.at.x c.args.at.y c.args.at.value in
-    let k = c.loop-k.k in
-    let i = c.loop-k.invariant in
-    let end : k ≡ 25 = omega (arith, i.few, c.loop-k-test.false) in
-    sym (all_pass (has p) 0 25 (λ j lt. has_below k c.loop-k.window p (i.held map h) j (omega (arith, lt, end))))
+    let k = 5 * c.loop-j.j in
+    let before = c.loop-j.invariant in
+    let end : k ≡ 25 = omega (arith, before.few, c.loop-j-test.false) in
+    sym (all_pass (has p) 0 25 (λ n lt. has_below k c.loop-j.window p (before.held map h) n (omega (arith, lt, end))))
 
 pub returns-clause-some : goal.returns-clause-some
 returns-clause-some c = λ map h.
     let p : Centre = centre c.args.left.now c.args.right.now map c.args.at.first c.args.at.x c.args.at.y c.args.at.value in
-    let k = c.loop-k.k in
-    let w = c.loop-k.window in
-    let i = c.loop-k.invariant in
-    let all = i.held map h in
-    let end : k ≡ 25 = omega (arith, i.few, c.loop-k-test.false) in
+    let k = 5 * c.loop-j.j in
+    let w = c.loop-j.window in
+    let before = c.loop-j.invariant in
+    let all = before.held map h in
+    let end : k ≡ 25 = omega (arith, before.few, c.loop-j-test.false) in
     record {
-      left = list_all_places (left_at p) w.left 25 k i.long_left end all.left;
-      after = list_all_places (right_at p half) w.after 25 k i.long_after end all.after;
-      here = list_all_places (right_at p (pos 0)) w.here 25 k i.long_here end all.here;
-      before = list_all_places (right_at p (neg_ℤ half)) w.before 25 k i.long_before end all.before;
+      left = list_all_places (left_at p) w.left 25 k before.long_left end all.left;
+      after = list_all_places (right_at p half) w.after 25 k before.long_after end all.after;
+      here = list_all_places (right_at p (pos 0)) w.here 25 k before.long_here end all.here;
+      before = list_all_places (right_at p (neg_ℤ half)) w.before 25 k before.long_before end all.before;
     }
