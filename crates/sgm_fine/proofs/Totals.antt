@@ -5,7 +5,7 @@ use Rattle.std.proofs.lemmas.Nat.{mul-le}
 use Rattle.std.proofs.Math.IntN.{*ℤ_comm, suc_ℤ-*ℤ}
 use Rattle.sgm_fine.proofs.Products.{times_apart, times_more, times_sum}
 use Rattle.sgm_base.specs.Ranges.{IsFromTo, Within}
-use Rattle.sgm_fine.specs.Windows.{number, products, sum_below}
+use Rattle.sgm_fine.specs.Windows.{IsPadded, number, over, products, sum_below}
 
 pub sum_none : (f : ℕ → ℤ) → sum_below 0 f ≡ pos 0
 unfolding sum_below
@@ -27,9 +27,23 @@ pub products_more : (n : ℕ) (a b : List ℤ) → products_below (n + 1) a b �
 unfolding products_below
 products_more n a b = sum_more n (λ k. number a k *ℤ number b k)
 
-pub products_all : (a b : List ℤ) → products_below 25 a b ≡ products (number a) (number b)
+-- lanes of 0 add nothing
+pub sum_padded : (m n : ℕ) (f : ℕ → ℤ) → ((k : ℕ) → n ≤ k → f k ≡ pos 0) → sum_below (m + n) f ≡ sum_below n f
+sum_padded zero n f h = let none : 0 + n ≡ n = omega arith in ap (λ k. sum_below k f) none
+sum_padded (suc m) n f h =
+    let next : suc m + n ≡ (m + n) + 1 = omega arith in
+    let before = sum_padded m n f h in
+    ap (λ k. sum_below k f) next ∙ sum_more (m + n) f ∙ omega (arith, ints, before, h (m + n) (omega arith))
+
+no_times : (y z : ℤ) → y ≡ pos 0 → y *ℤ z ≡ pos 0
+no_times y z e = ap (λ (x : ℤ). x *ℤ z) e ∙ omega (arith, ints)
+
+pub products_padded : (a b : List ℤ) → IsPadded a → products_below 32 a b ≡ products (number a) (number b)
 unfolding products_below
-products_all a b = refl
+products_padded a b h = sum_padded 7 25 (λ k. number a k *ℤ number b k) (λ k le. no_times (number a k) (number b k) (h k le))
+
+pub over_padded : (a : List ℤ) → IsPadded a → sum_below 32 (number a) ≡ over (number a)
+over_padded a h = sum_padded 7 25 (number a) h
 
 pub sum_same : (n : ℕ) (f g : ℕ → ℤ) → ((k : ℕ) → k < n → f k ≡ g k) → sum_below n f ≡ sum_below n g
 unfolding sum_below

@@ -4,7 +4,7 @@ use Rattle.std.specs.Prelude.{slice_index, ℤ, pos, neg_ℤ}
 use Rattle.std.specs.List.{All, Contains, find, list_all, range_with_len, reduce}
 use Rattle.sgm_base.specs.Ranges.{IsFromTo}
 use Rattle.sgm_fine.specs.Samples.{Centre, half, lefts, rights}
-use Rattle.sgm_fine.specs.Windows.{number}
+use Rattle.sgm_fine.specs.Windows.{IsPadded, number}
 use Rattle.sgm_fine.specs.declared.samples.Window.{Window}
 use Rattle.sgm_fine.specs.declared.small.SmallWindow.{SmallWindow}
 use Rattle.sgm_fine.specs.declared.sums.TheConstants.{PLACES}
@@ -63,3 +63,7 @@ pub record IsSmall (found : SmallWindow) : Type 0 where
   pub after : (k : ℕ) → k < PLACES → IsFromTo (pos 0) (pos 4095) (number found.after k)
   pub here : (k : ℕ) → k < PLACES → IsFromTo (pos 0) (pos 4095) (number found.here k)
   pub before : (k : ℕ) → k < PLACES → IsFromTo (pos 0) (pos 4095) (number found.before k)
+  pub padded_left : IsPadded found.left
+  pub padded_after : IsPadded found.after
+  pub padded_here : IsPadded found.here
+  pub padded_before : IsPadded found.before

@@ -1,5 +1,5 @@
 -- The pixels around another one, and sums over them.
-use Rattle.std.specs.Prelude.{◌≡◌, ◌<◌, ℕ, ◌+◌, ◌-◌, ◌/◌, ◌%◌, ◌&&◌, nat_le, if◌then◌else◌, zero}
+use Rattle.std.specs.Prelude.{◌≡◌, ◌<◌, ◌≤◌, ℕ, ◌+◌, ◌-◌, ◌/◌, ◌%◌, ◌&&◌, nat_le, if◌then◌else◌, zero}
 use Rattle.std.specs.Prelude.{suc, List, slice_index_or, Option, None, ℤ, pos, ◌+ℤ◌, ◌-ℤ◌, ◌*ℤ◌}
 use Rattle.sgm_base.specs.Values.{Values, value_at}
 use Rattle.sgm_fine.specs.declared.sums.TheConstants.{PLACES, SIDE}
@@ -27,6 +27,10 @@ row_of_place k = pos (k / 5) -ℤ pos 2
 -- the number of the place k
 abbrev pub number : List ℤ → ℕ → ℤ
 number numbers k = slice_index_or numbers k (pos 0)
+
+-- numbers that are 0 behind the places of a window
+abbrev pub IsPadded : List ℤ → Type 0
+IsPadded numbers = (k : ℕ) → PLACES ≤ k → number numbers k ≡ pos 0
 
 -- the sum of what f gives for the first n places
 unfoldable pub sum_below : ℕ → (ℕ → ℤ) → ℤ

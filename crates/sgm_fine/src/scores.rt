@@ -8,7 +8,7 @@ ghost use Rattle.sgm_fine.specs.Scores.{AreParts, HoldsPart, HoldsParts, HoldsSi
 ghost use Rattle.sgm_fine.specs.Scores.{IsFitOf, IsPart, IsSums, blended, covariance, divided};
 ghost use Rattle.sgm_fine.specs.Scores.{score};
 ghost use Rattle.sgm_fine.specs.Small.{IsSmall};
-ghost use Rattle.sgm_fine.specs.Windows.{number, over, products};
+ghost use Rattle.sgm_fine.specs.Windows.{IsPadded, number, over, products};
 
 use crate::small::SmallWindow;
 use crate::sums::{Numbers, PLACES, products_of, total_of};
@@ -82,6 +82,7 @@ pub(crate) fn no_score() -> Score
 fn sums_of(left: &Numbers, right: &Numbers) -> Sums
     requires left { (k : ℕ) → k < PLACES → IsFromTo (pos 0) (pos 255) (number left.now k) }
     requires right { (k : ℕ) → k < PLACES → IsFromTo (pos 0) (pos 4095) (number right.now k) }
+    requires padded { IsPadded left.now × IsPadded right.now }
     ensures holds { HoldsSide result (number left.now) (number right.now) }
     ensures kept { IsFromTo (pos 0) (pos 102375) result.sum }
 {

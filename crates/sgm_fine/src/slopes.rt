@@ -6,10 +6,10 @@ ghost use Rattle.std.specs.Ordering.{int_eq};
 ghost use Rattle.sgm_base.specs.Ranges.{IsFromTo, Within};
 ghost use Rattle.sgm_base.specs.Rounding.{rounded};
 ghost use Rattle.sgm_fine.specs.Slopes.{HoldsSlopes, IsSlope, moment, spread, step_at, step_to};
-ghost use Rattle.sgm_fine.specs.Windows.{column_of, number, products, row_of_place};
+ghost use Rattle.sgm_fine.specs.Windows.{IsPadded, column_of, number, products, row_of_place};
 
 use crate::around::Field;
-use crate::sums::{Numbers, PLACES, SIDE, products_of};
+use crate::sums::{Numbers, PLACES, SIDE, products_of, zeros};
 
 /// The greatest step from a pixel's value to one that still belongs to its surface, in sixteenths.
 pub(crate) const REACH: u16 = 32;
@@ -61,10 +61,11 @@ fn steps_around(map: &Field, x: usize, y: usize, m: u16) -> Steps
         ≡ unwrap_or (step_at map.now x y m k) (pos 0) }
     ensures marks { (k : ℕ) → k < PLACES → number result.marks k
         ≡ (if is_some (step_at map.now x y m k) then pos 1 else pos 0) }
+    ensures padded { IsPadded result.steps × IsPadded result.marks }
 {
     let mut found = Steps {
-        steps: [0; PLACES],
-        marks: [0; PLACES],
+        steps: zeros(),
+        marks: zeros(),
     };
     let window = map.window(x, y);
     for k in 0..PLACES {
@@ -78,9 +79,10 @@ fn steps_around(map: &Field, x: usize, y: usize, m: u16) -> Steps
 /// The columns of a window's pixels, from that of the middle.
 #[inline]
 fn columns() -> Numbers
-    ensures { (k : ℕ) → k < PLACES → number result k ≡ column_of k }
+    ensures each { (k : ℕ) → k < PLACES → number result k ≡ column_of k }
+    ensures padded { IsPadded result }
 {
-    let mut columns = [0; PLACES];
+    let mut columns = zeros();
     for k in 0..PLACES {
         columns[k] = (k % 5) as i16 - 2;
     }
@@ -90,9 +92,10 @@ fn columns() -> Numbers
 /// Their rows.
 #[inline]
 fn rows() -> Numbers
-    ensures { (k : ℕ) → k < PLACES → number result k ≡ row_of_place k }
+    ensures each { (k : ℕ) → k < PLACES → number result k ≡ row_of_place k }
+    ensures padded { IsPadded result }
 {
-    let mut rows = [0; PLACES];
+    let mut rows = zeros();
     for k in 0..PLACES {
         rows[k] = (k / 5) as i16 - 2;
     }
@@ -103,9 +106,11 @@ fn rows() -> Numbers
 #[inline]
 fn squares(axis: &Numbers) -> Numbers
     requires { (k : ℕ) → k < PLACES → Within 2 (number axis.now k) }
-    ensures { (k : ℕ) → k < PLACES → number result k ≡ (number axis.now k *ℤ number axis.now k) }
+    ensures each { (k : ℕ) → k < PLACES
+        → number result k ≡ (number axis.now k *ℤ number axis.now k) }
+    ensures padded { IsPadded result }
 {
-    let mut squares = [0; PLACES];
+    let mut squares = zeros();
     for k in 0..PLACES {
         squares[k] = axis[k] * axis[k];
     }
@@ -118,6 +123,7 @@ fn slope_along(axis: &Numbers, found: &Steps) -> Slope
     requires axis { (k : ℕ) → k < PLACES → Within 2 (number axis.now k) }
     requires steps { (k : ℕ) → k < PLACES → Within 32 (number found.now.steps k) }
     requires marks { (k : ℕ) → k < PLACES → IsFromTo (pos 0) (pos 1) (number found.now.marks k) }
+    requires padded { IsPadded axis.now × IsPadded found.now.steps × IsPadded found.now.marks }
     ensures moment { result.moment ≡ products (number axis.now) (number found.now.steps) }
     ensures spread { result.spread
         ≡ products (λ k. number axis.now k *ℤ number axis.now k) (number found.now.marks) }

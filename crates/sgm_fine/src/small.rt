@@ -3,10 +3,10 @@
 ghost use Rattle.std.specs.Prelude.{◌≡◌, ℕ, ◌-◌, ◌/◌, ◌^◌, ◌<◌, ◌≤◌, ◌++◌, pos, slice_index};
 ghost use Rattle.sgm_fine.specs.Samples.{IsWindow};
 ghost use Rattle.sgm_fine.specs.Small.{HoldsSmall, IsGreatest, IsLeast, IsSmall, halved};
-ghost use Rattle.sgm_fine.specs.Windows.{number};
+ghost use Rattle.sgm_fine.specs.Windows.{IsPadded, number};
 
 use crate::samples::{Samples, Window};
-use crate::sums::{Numbers, PLACES};
+use crate::sums::{Numbers, PLACES, zeros};
 
 /// A window whose samples are made small.
 #[derive(Clone, Copy)]
@@ -77,10 +77,11 @@ fn made_small(samples: &Samples, least: u32, halvings: u32) -> Numbers
     requires least { (k : ℕ) → k < PLACES → least ≤ slice_index samples.now k }
     requires small { (k : ℕ) → k < PLACES
         → halved least halvings (slice_index samples.now k) < 4096 }
-    ensures { (k : ℕ) → k < PLACES → number result k
+    ensures each { (k : ℕ) → k < PLACES → number result k
         ≡ pos (halved least halvings (slice_index samples.now k)) }
+    ensures padded { IsPadded result }
 {
-    let mut numbers = [0; PLACES];
+    let mut numbers = zeros();
     for k in 0..PLACES {
         numbers[k] = ((samples[k] - least) >> halvings) as i16;
     }

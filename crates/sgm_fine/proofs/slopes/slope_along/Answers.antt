@@ -19,5 +19,5 @@ returns-clause-kept c =
       spread = subst (IsFromTo (pos 0) (pos 100)) (sym (spread ∙ c.products_of-2.ensures))
           (sum_from_to 25 4 (λ k. squares k *ℤ marks k)
           (λ k lt. product_from_to 4 1 (squares k) (marks k)
-          (subst (IsFromTo (pos 0) (pos 4)) (sym (c.squares.ensures k lt)) (square_from_to 2 (axis k) (c.requires.axis k lt))) (c.requires.marks k lt)));
+          (subst (IsFromTo (pos 0) (pos 4)) (sym (c.squares.ensures.each k lt)) (square_from_to 2 (axis k) (c.requires.axis k lt))) (c.requires.marks k lt)));
     }

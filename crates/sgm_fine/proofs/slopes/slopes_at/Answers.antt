@@ -20,13 +20,13 @@ returns-clause-holds c =
     let found = c.steps_around-found in
     record {
       across_moment = c.slope_along.ensures.moment
-          ∙ products_same (number c.columns.result) (number found.result.steps) column_of (λ k. unwrap_or (steps k) (pos 0)) c.columns.ensures found.ensures.steps;
+          ∙ products_same (number c.columns.result) (number found.result.steps) column_of (λ k. unwrap_or (steps k) (pos 0)) c.columns.ensures.each found.ensures.steps;
       across_spread = c.slope_along.ensures.spread
           ∙ products_same (λ k. number c.columns.result k *ℤ number c.columns.result k) (number found.result.marks) (λ k. column_of k *ℤ column_of k)
-          (λ k. if is_some (steps k) then pos 1 else pos 0) (λ k lt. ap₂ (λ (y z : ℤ). y *ℤ z) (c.columns.ensures k lt) (c.columns.ensures k lt)) found.ensures.marks;
+          (λ k. if is_some (steps k) then pos 1 else pos 0) (λ k lt. ap₂ (λ (y z : ℤ). y *ℤ z) (c.columns.ensures.each k lt) (c.columns.ensures.each k lt)) found.ensures.marks;
       down_moment = c.slope_along-2.ensures.moment
-          ∙ products_same (number c.rows.result) (number found.result.steps) row_of_place (λ k. unwrap_or (steps k) (pos 0)) c.rows.ensures found.ensures.steps;
+          ∙ products_same (number c.rows.result) (number found.result.steps) row_of_place (λ k. unwrap_or (steps k) (pos 0)) c.rows.ensures.each found.ensures.steps;
       down_spread = c.slope_along-2.ensures.spread
           ∙ products_same (λ k. number c.rows.result k *ℤ number c.rows.result k) (number found.result.marks) (λ k. row_of_place k *ℤ row_of_place k)
-          (λ k. if is_some (steps k) then pos 1 else pos 0) (λ k lt. ap₂ (λ (y z : ℤ). y *ℤ z) (c.rows.ensures k lt) (c.rows.ensures k lt)) found.ensures.marks;
+          (λ k. if is_some (steps k) then pos 1 else pos 0) (λ k lt. ap₂ (λ (y z : ℤ). y *ℤ z) (c.rows.ensures.each k lt) (c.rows.ensures.each k lt)) found.ensures.marks;
     }

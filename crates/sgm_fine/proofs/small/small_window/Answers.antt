@@ -53,10 +53,10 @@ returns-clause-holds c =
     let left = halves c.least_of-low.ensures c.greatest_of.ensures c.halvings_to-left.ensures.few c.halvings_to-left.ensures.enough c.halvings_to-left.ensures.least in
     let right = halves c.least_of_three-least.ensures c.greatest_of_three-most.ensures c.halvings_to-right.ensures.few c.halvings_to-right.ensures.enough c.halvings_to-right.ensures.least in
     record {
-      left = λ k lt. small_is 256 c.least_of-low.result c.greatest_of.result c.halvings_to-left.result w.left w.left k _ left (c.made_small.ensures k lt);
-      after = λ k lt. small_is 4096 c.least_of_three-least.result c.greatest_of_three-most.result c.halvings_to-right.result (w.after ++ w.here ++ w.before) w.after k _ right (c.made_small-2.ensures k lt);
-      here = λ k lt. small_is 4096 c.least_of_three-least.result c.greatest_of_three-most.result c.halvings_to-right.result (w.after ++ w.here ++ w.before) w.here k _ right (c.made_small-3.ensures k lt);
-      before = λ k lt. small_is 4096 c.least_of_three-least.result c.greatest_of_three-most.result c.halvings_to-right.result (w.after ++ w.here ++ w.before) w.before k _ right (c.made_small-4.ensures k lt);
+      left = λ k lt. small_is 256 c.least_of-low.result c.greatest_of.result c.halvings_to-left.result w.left w.left k _ left (c.made_small.ensures.each k lt);
+      after = λ k lt. small_is 4096 c.least_of_three-least.result c.greatest_of_three-most.result c.halvings_to-right.result (w.after ++ w.here ++ w.before) w.after k _ right (c.made_small-2.ensures.each k lt);
+      here = λ k lt. small_is 4096 c.least_of_three-least.result c.greatest_of_three-most.result c.halvings_to-right.result (w.after ++ w.here ++ w.before) w.here k _ right (c.made_small-3.ensures.each k lt);
+      before = λ k lt. small_is 4096 c.least_of_three-least.result c.greatest_of_three-most.result c.halvings_to-right.result (w.after ++ w.here ++ w.before) w.before k _ right (c.made_small-4.ensures.each k lt);
     }
 
 pub returns-clause-kept : goal.returns-clause-kept
@@ -65,11 +65,15 @@ returns-clause-kept c =
     let left = halves c.least_of-low.ensures c.greatest_of.ensures c.halvings_to-left.ensures.few c.halvings_to-left.ensures.enough c.halvings_to-left.ensures.least in
     let right = halves c.least_of_three-least.ensures c.greatest_of_three-most.ensures c.halvings_to-right.ensures.few c.halvings_to-right.ensures.enough c.halvings_to-right.ensures.least in
     record {
-      left = λ k lt. small_within 255 c.least_of-low.result c.greatest_of.result c.halvings_to-left.result (slice_index w.left k) w.left _ left (Contains-get_or w.left k 0 (omega arith)) (c.made_small.ensures k lt);
+      left = λ k lt. small_within 255 c.least_of-low.result c.greatest_of.result c.halvings_to-left.result (slice_index w.left k) w.left _ left (Contains-get_or w.left k 0 (omega arith)) (c.made_small.ensures.each k lt);
       after = λ k lt. small_within 4095 c.least_of_three-least.result c.greatest_of_three-most.result c.halvings_to-right.result (slice_index w.after k) (w.after ++ w.here ++ w.before) _ right
-          (in_first w.after w.here w.before k (omega arith)) (c.made_small-2.ensures k lt);
+          (in_first w.after w.here w.before k (omega arith)) (c.made_small-2.ensures.each k lt);
       here = λ k lt. small_within 4095 c.least_of_three-least.result c.greatest_of_three-most.result c.halvings_to-right.result (slice_index w.here k) (w.after ++ w.here ++ w.before) _ right
-          (in_second w.after w.here w.before k (omega arith)) (c.made_small-3.ensures k lt);
+          (in_second w.after w.here w.before k (omega arith)) (c.made_small-3.ensures.each k lt);
       before = λ k lt. small_within 4095 c.least_of_three-least.result c.greatest_of_three-most.result c.halvings_to-right.result (slice_index w.before k) (w.after ++ w.here ++ w.before) _ right
-          (in_third w.after w.here w.before k (omega arith)) (c.made_small-4.ensures k lt);
+          (in_third w.after w.here w.before k (omega arith)) (c.made_small-4.ensures.each k lt);
+      padded_left = c.made_small.ensures.padded;
+      padded_after = c.made_small-2.ensures.padded;
+      padded_here = c.made_small-3.ensures.padded;
+      padded_before = c.made_small-4.ensures.padded;
     }

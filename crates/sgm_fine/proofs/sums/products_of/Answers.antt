@@ -1,7 +1,8 @@
 use Rattle.std.proofs.Common.{◌≡◌, ℤ, ◌*ℤ◌, to_z, of_z, w16, ap, ap₂, arith, sym, ◌∙◌}
 use Rattle.std.proofs.lemmas.Int.{ints}
 use Rattle.sgm_fine.specs.Windows.{number}
-use Rattle.sgm_fine.proofs.Totals.{products_all, products_below, products_more, products_none}
+use Rattle.sgm_fine.proofs.Numbers.{within_all}
+use Rattle.sgm_fine.proofs.Totals.{products_below, products_more, products_none, products_padded}
 use Rattle.sgm_fine.proofs.sums.products_of.Goals as goal
 
 pub loop-k-init : goal.loop-k-init
@@ -20,8 +21,8 @@ loop-k-preserved c =
     let t = c.product-sum.ensures.small in
     let x = number c.args.a.now c.loop-k.k in
     let y = number c.args.b.now c.loop-k.k in
-    let p = c.requires.a_small c.loop-k.k c.loop-k-test.true in
-    let q = c.requires.b_small c.loop-k.k c.loop-k-test.true in
+    let p = within_all 4096 c.args.a.now c.requires.a_small c.requires.padded.0 c.loop-k.k in
+    let q = within_all 4096 c.args.b.now c.requires.b_small c.requires.padded.1 c.loop-k.k in
     let left : to_z w16 (of_z w16 x) ≡ x = omega (arith, ints, p.0, p.1) in
     let right : to_z w16 (of_z w16 y) ≡ y = omega (arith, ints, q.0, q.1) in
     let value = c.product-sum.ensures.value ∙ ap₂ (λ (u v : ℤ). u *ℤ v) left right in
@@ -33,5 +34,15 @@ loop-k-preserved c =
 
 pub returns : goal.returns
 returns c =
-    let all : c.loop-k.k ≡ 25 = omega (arith, c.loop-k.invariant.few, c.loop-k-test.false) in
-    c.loop-k.invariant.sum ∙ ap (λ n. products_below n c.args.a.now c.args.b.now) all ∙ products_all c.args.a.now c.args.b.now
+    let all : c.loop-k.k ≡ 32 = omega (arith, c.loop-k.invariant.few, c.loop-k-test.false) in
+    c.loop-k.invariant.sum ∙ ap (λ n. products_below n c.args.a.now c.args.b.now) all ∙ products_padded c.args.a.now c.args.b.now c.requires.padded.0
+
+pub product-sum-requires-clause-a_small : goal.product-sum-requires-clause-a_small
+product-sum-requires-clause-a_small c =
+    let h = within_all 4096 c.args.a.now c.requires.a_small c.requires.padded.0 c.loop-k.k in
+    (omega (arith, ints, h.0, h.1), omega (arith, ints, h.0, h.1))
+
+pub product-sum-requires-clause-b_small : goal.product-sum-requires-clause-b_small
+product-sum-requires-clause-b_small c =
+    let h = within_all 4096 c.args.b.now c.requires.b_small c.requires.padded.1 c.loop-k.k in
+    (omega (arith, ints, h.0, h.1), omega (arith, ints, h.0, h.1))
