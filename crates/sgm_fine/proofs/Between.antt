@@ -1,5 +1,5 @@
 -- The sample of a row between two pixels, from those of the pixels.
-use Rattle.std.proofs.Common.{◌≡◌, ◌≢◌, ℕ, zero, suc, ◌+◌, ◌-◌, ◌*◌, ◌<◌, ◌≤◌, inl, inr, true, false, ◌==◌, ◌^◌, Option, Some, None, is_some, ◌&&◌, if◌then◌else◌, ℤ, pos, negsuc, ◌+ℤ◌, ◌-ℤ◌, ◌*ℤ◌, unsigned_abs, to_z, of_z, w32, arith, refl, ap, ap₂, subst, sym, ◌∙◌}
+use Rattle.std.proofs.Common.{◌≡◌, ◌≢◌, ℕ, zero, suc, ◌+◌, ◌-◌, ◌*◌, ◌/◌, ◌%◌, ◌<◌, ◌≤◌, inl, inr, true, false, ◌==◌, ◌^◌, Option, Some, None, is_some, if◌then◌else◌, ℤ, pos, negsuc, ◌+ℤ◌, ◌-ℤ◌, ◌*ℤ◌, unsigned_abs, to_z, of_z, w32, arith, refl, ap, ap₂, subst, sym, ◌∙◌}
 use Rattle.std.specs.Prelude.{min, option_and_then, option_map}
 use Rattle.std.specs.Int.{int_div_euclid, int_rem_euclid}
 use Rattle.std.proofs.lemmas.Bool.{cases_lt}
@@ -7,7 +7,7 @@ use Rattle.std.proofs.lemmas.Int.{ints}
 use Rattle.sgm_base.specs.Ranges.{Within}
 use Rattle.sgm_fine.specs.Samples.{HoldsThree, between, has_rights, quotient, rest}
 use Rattle.sgm_fine.specs.declared.samples.Three.{Three}
-use Rattle.sgm_fine.proofs.PlaceSamples.{all_three, lacks_first, lacks_last, not_three}
+use Rattle.sgm_fine.proofs.PlaceSamples.{all_three, lacks_first, lacks_last}
 
 quotient_at : (u q : ℤ) (f : ℕ) → u ≡ (pos 16 *ℤ q) +ℤ pos f → f < 16 → int_div_euclid u (pos 16) ≡ q
 quotient_at (pos a) q f e lt = omega (arith, ints, e, lt)
@@ -132,6 +132,15 @@ starts u =
     let part = rest_pos (u -ℤ pos 8) in
     (omega (arith, ints, whole, part), rest_small (u -ℤ pos 8))
 
+-- the same where the place lies right of column 0
+pub quotient_is : (u : ℤ) (n : ℕ) → u -ℤ pos 8 ≡ pos n → quotient u ≡ pos (n / 16)
+unfolding quotient
+quotient_is u n e = quotient_at (u -ℤ pos 8) (pos (n / 16)) (n % 16) (omega (arith, ints, e)) (omega arith)
+
+pub rest_is : (u : ℤ) (n : ℕ) → u -ℤ pos 8 ≡ pos n → rest u ≡ n % 16
+unfolding rest
+rest_is u n e = rest_at (u -ℤ pos 8) (pos (n / 16)) (n % 16) (omega (arith, ints, e)) (omega arith)
+
 -- what the code computes of them
 pub started : (u : ℤ) → Within (2 ^ 24) u → to_z w32 (of_z w32 (to_z w32 (of_z w32 u) -ℤ pos 8)) ≡ u -ℤ pos 8
 started u h = omega (arith, ints, h.0, h.1)
@@ -154,12 +163,16 @@ pub three_have : (three : Three) (row : ℤ → Option ℕ) (u : ℤ) (a b c : �
 three_have three row u a b c h ea eb ec =
     three_there row u (quotient u) three.part a b c (three_starts three row u h) (sym h.first ∙ ea) (sym h.second ∙ eb) (three_third three row u c h ec)
 
-pub three_lack : (three : Three) (row : ℤ → Option ℕ) (u : ℤ) → HoldsThree three row u → (is_some three.first && is_some three.second && is_some three.third) ≡ false → false ≡ has_rights row u
-three_lack three row u h lacks =
-    let q = quotient u in
-    let f = three.part in
+pub three_no_first : (three : Three) (row : ℤ → Option ℕ) (u : ℤ) → HoldsThree three row u → three.first ≡ None → false ≡ has_rights row u
+three_no_first three row u h none =
     let s = three_starts three row u h in
-    not_three three.first three.second three.third (has_rights row u) lacks
-    (λ none. lacks_last _ _ _ (no_here row (u +ℤ negsuc 7) q f (omega (arith, ints, s.0)) s.1 (sym h.first ∙ none)))
-    (λ none. lacks_first _ _ _ (no_here row (u +ℤ pos 8) (q +ℤ pos 1) f (omega (arith, ints, s.0)) s.1 (sym h.second ∙ none)))
-    (λ b some none. lacks_first _ _ _ (no_third row u q _ f b s refl (sym h.third ∙ none) (sym h.second ∙ some)))
+    lacks_last _ _ _ (no_here row (u +ℤ negsuc 7) (quotient u) three.part (omega (arith, ints, s.0)) s.1 (sym h.first ∙ none))
+
+pub three_no_second : (three : Three) (row : ℤ → Option ℕ) (u : ℤ) → HoldsThree three row u → three.second ≡ None → false ≡ has_rights row u
+three_no_second three row u h none =
+    let s = three_starts three row u h in
+    lacks_first _ _ _ (no_here row (u +ℤ pos 8) (quotient u +ℤ pos 1) three.part (omega (arith, ints, s.0)) s.1 (sym h.second ∙ none))
+
+pub three_no_third : (three : Three) (row : ℤ → Option ℕ) (u : ℤ) (b : ℕ) → HoldsThree three row u → three.second ≡ Some b → three.third ≡ None → false ≡ has_rights row u
+three_no_third three row u b h some none =
+    lacks_first _ _ _ (no_third row u (quotient u) _ three.part b (three_starts three row u h) refl (sym h.third ∙ none) (sym h.second ∙ some))

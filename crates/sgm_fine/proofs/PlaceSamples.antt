@@ -1,5 +1,5 @@
 -- The samples of one place of a window, and where they lie.
-use Rattle.std.proofs.Common.{◌≡◌, ℕ, ◌^◌, Bool, true, false, ◌&&◌, if◌then◌else◌, unwrap_or, Option, Some, None, is_some, ℤ, pos, ◌+ℤ◌, ◌-ℤ◌, ◌*ℤ◌, ◌≤ℤ◌, to_z, of_z, w32, arith, refl, ap, ap₂, sym, ◌∙◌}
+use Rattle.std.proofs.Common.{◌≡◌, ℕ, ◌^◌, Bool, true, false, ◌&&◌, Option, Some, None, is_some, ℤ, pos, ◌+ℤ◌, ◌-ℤ◌, ◌*ℤ◌, ◌≤ℤ◌, to_z, of_z, w32, arith, refl, ap, ap₂, sym, ◌∙◌}
 use Rattle.std.proofs.lemmas.Int.{ints}
 use Rattle.sgm_base.specs.Ranges.{Within}
 
@@ -37,34 +37,10 @@ lacks_last None c d ed = refl
 lacks_last (Some b) None d ed = refl
 lacks_last (Some b) (Some c) d ed = rw ed refl
 
-not_both : true ≡ false → ⊥
-not_both e =
-    let f : Bool → ℕ = λ b. if b then 1 else 0 in
-    let x : f true ≡ f false = ap f e in
-    omega (arith, x)
-
--- what lacks one of three
-pub not_three : (b c d : Option ℕ) (has : Bool) → (is_some b && is_some c && is_some d) ≡ false
-    → (b ≡ None → false ≡ has) → (c ≡ None → false ≡ has) → ((n : ℕ) → c ≡ Some n → d ≡ None → false ≡ has) → false ≡ has
-not_three None c d has e first second third = first refl
-not_three (Some b) None d has e first second third = second refl
-not_three (Some b) (Some c) None has e first second third = third c refl refl
-not_three (Some b) (Some c) (Some d) has e first second third = absurd (not_both e)
-
--- those that are there
-pub all_known : (a b c d : Option ℕ) → (is_some a && is_some b && is_some c && is_some d) ≡ true
-    → (a ≡ Some (unwrap_or a 0)) × (b ≡ Some (unwrap_or b 0)) × (c ≡ Some (unwrap_or c 0)) × (d ≡ Some (unwrap_or d 0))
-all_known None b c d e = absurd (not_both (sym e))
-all_known (Some a) None c d e = absurd (not_both (sym e))
-all_known (Some a) (Some b) None d e = absurd (not_both (sym e))
-all_known (Some a) (Some b) (Some c) None e = absurd (not_both (sym e))
-all_known (Some a) (Some b) (Some c) (Some d) e = (refl, refl, refl, refl)
-
--- of one and three, where not all are there
-pub lacks_some : (a b c d : Option ℕ) (has : Bool) → (is_some a && is_some b && is_some c && is_some d) ≡ false
-    → ((is_some b && is_some c && is_some d) ≡ false → false ≡ has) → false ≡ (is_some a && has)
-lacks_some None b c d has e three = refl
-lacks_some (Some a) b c d has e three = three e
+-- one and three, where the three aren't all there
+pub lacks_three : (a : Option ℕ) (has : Bool) → false ≡ has → false ≡ (is_some a && has)
+lacks_three None has e = refl
+lacks_three (Some a) has e = e
 
 -- what lies between two others lies no further
 pub apart_least : (m z a b x y : ℤ) → m ≤ℤ z → z ≡ a -ℤ b → a ≤ℤ x → y ≤ℤ b → m ≤ℤ (x -ℤ y)

@@ -152,12 +152,12 @@ fn three_at(plane: &Field, y: usize, u: i32) -> Three
 
 /// The sample of the column `q` of the row `y`, which lies inside, none where it is void.
 #[inline]
-fn sample_inside(plane: &Field, y: usize, q: i32) -> Option<u16>
+fn sample_inside(plane: &Field, y: usize, q: usize) -> Option<u16>
     requires row { y < plane.now.height }
-    requires column { (pos 0 ≤ℤ q) × (q <ℤ pos plane.now.width) }
-    ensures { result ≡ sample plane.now y q }
+    requires column { q < plane.now.width }
+    ensures { result ≡ sample plane.now y (pos q) }
 {
-    plane.inner(q as usize, y)
+    plane.inner(q, y)
 }
 
 /// The pixels around `u` sixteenths in the row `y`, where all that are needed lie inside.
@@ -169,34 +169,15 @@ fn three_inside(plane: &Field, y: usize, u: i32) -> Three
     ensures holds { HoldsThree result (sample plane.now y) u }
     ensures part { result.part < 16 }
 {
-    let start = u - 8;
-    let (q, part) = (start.div_euclid(16), start.rem_euclid(16) as u32);
+    // None is left of column 0, so that the numbers have no sign.
+    let start = (u - 8) as u32;
+    let (q, part) = ((start / 16) as usize, start % 16);
     Three {
         first: sample_inside(plane, y, q),
         second: sample_inside(plane, y, q + 1),
-        // The third one isn't needed where the places are those of pixels.
-        third: sample_inside(plane, y, q + 1 + part.min(1) as i32),
+        third: sample_inside(plane, y, q + 1 + part.min(1) as usize),
         part,
     }
-}
-
-/// Whether a sample on the left and three on the right are there. All are looked at, so that there
-/// is one branch and not four.
-#[inline]
-fn are_there(left: Option<u16>, three: Three) -> bool
-    ensures { result ≡ (is_some left && is_some three.first && is_some three.second
-        && is_some three.third) }
-{
-    left.is_some() & three.first.is_some() & three.second.is_some() & three.third.is_some()
-}
-
-/// A sample that is there.
-#[inline]
-fn known(sample: Option<u16>) -> u32
-    ensures value { result ≡ unwrap_or sample 0 }
-    ensures small { result < 2 ^ 16 }
-{
-    u32::from(sample.unwrap_or(0))
 }
 
 /// The samples of a place from the left one and the pixels around it on the right; none where one
@@ -210,14 +191,13 @@ fn place_of(left: Option<u16>, three: Three) -> Option<Place>
         → IfSome result (λ place. HoldsSides place left row u) }
     ensures small { IfSome result IsPlace }
 {
-    if !are_there(left, three) {
-        return None;
-    }
-    let first = known(three.first);
-    let second = known(three.second);
-    let rights = rights_of(first, second, known(three.third), three.part);
+    let left = u32::from(left?);
+    let first = u32::from(three.first?);
+    let second = u32::from(three.second?);
+    let third = u32::from(three.third?);
+    let rights = rights_of(first, second, third, three.part);
     Some(Place {
-        left: known(left),
+        left,
         after: rights.after,
         here: rights.here,
         before: rights.before,
