@@ -1,6 +1,6 @@
 -- The pixels around another one, and sums over them.
-use Rattle.std.specs.Prelude.{◌≡◌, ◌<◌, ◌≤◌, ℕ, ◌+◌, ◌-◌, ◌/◌, ◌%◌, ◌&&◌, nat_le, if◌then◌else◌, zero}
-use Rattle.std.specs.Prelude.{suc, List, slice_index_or, Option, None, ℤ, pos, ◌+ℤ◌, ◌-ℤ◌, ◌*ℤ◌}
+use Rattle.std.specs.Prelude.{◌≡◌, ◌<◌, ◌≤◌, ℕ, ◌+◌, ◌-◌, ◌/◌, ◌%◌, ◌&&◌, nat_le, zero, suc, List}
+use Rattle.std.specs.Prelude.{if◌then◌else◌, slice_index_or, Option, None, ℤ, pos, ◌+ℤ◌, ◌-ℤ◌, ◌*ℤ◌}
 use Rattle.sgm_base.specs.Values.{Values, value_at}
 use Rattle.sgm_fine.specs.declared.sums.TheConstants.{PLACES, SIDE}
 

@@ -1,16 +1,17 @@
 //! The samples of a window on the left, and those on the right at three offsets.
 
 ghost use Rattle.std.specs.Prelude.{◌≡◌, ℕ, ◌+◌, ◌-◌, ◌*◌, ◌/◌, ◌%◌, ◌^◌, ◌<◌, ◌≤◌, ℤ, pos, neg_ℤ};
-ghost use Rattle.std.specs.Prelude.{◌+ℤ◌, ◌-ℤ◌, ◌*ℤ◌, ◌≤ℤ◌, ◌<ℤ◌, ◌&&◌, true, if◌then◌else◌, length};
-ghost use Rattle.std.specs.Prelude.{slice_index, Option, Some, None, is_some, unwrap_or, IfSome};
+ghost use Rattle.std.specs.Prelude.{◌+ℤ◌, ◌-ℤ◌, ◌*ℤ◌, ◌≤ℤ◌, ◌<ℤ◌, ◌&&◌, true, if◌then◌else◌};
+ghost use Rattle.std.specs.Prelude.{length, slice_index, Option, Some, None, is_some, IfSome};
 ghost use Rattle.std.specs.Ordering.{int_eq};
 ghost use Rattle.sgm_base.specs.Disparities.{IsFirst};
 ghost use Rattle.sgm_base.specs.Ranges.{IsFromTo, Within};
 ghost use Rattle.sgm_base.specs.Rounding.{rounded};
 ghost use Rattle.sgm_base.specs.Values.{Values, value_at};
 ghost use Rattle.sgm_fine.specs.Samples.{AreRights, Centre, HoldsLie, HoldsPlace, HoldsSamples};
-ghost use Rattle.sgm_fine.specs.Samples.{HoldsSides, HoldsThree, IsInside, IsLie, IsPlace, IsWindow};
-ghost use Rattle.sgm_fine.specs.Samples.{LiesInside, centre, has, has_all, has_rights, sample};
+ghost use Rattle.sgm_fine.specs.Samples.{HoldsSides, HoldsThree, IsInside, IsLie, IsPlace};
+ghost use Rattle.sgm_fine.specs.Samples.{IsWindow, LiesInside, centre, has, has_all, has_rights};
+ghost use Rattle.sgm_fine.specs.Samples.{sample};
 ghost use Rattle.sgm_fine.specs.Slopes.{HoldsSlopes, IsSlope, step_at};
 ghost use Rattle.sgm_fine.specs.Windows.{number};
 
@@ -169,7 +170,7 @@ fn three_inside(plane: &Field, y: usize, u: i32) -> Three
     ensures holds { HoldsThree result (sample plane.now y) u }
     ensures part { result.part < 16 }
 {
-    // None is left of column 0, so that the numbers have no sign.
+    // No pixel is left of column 0, so that nothing here has a sign.
     let start = (u - 8) as u32;
     let (q, part) = ((start / 16) as usize, start % 16);
     Three {
