@@ -357,8 +357,9 @@ fn lies_inside(lie: &Lie, width: usize) -> bool
     spans(first, last, width)
 }
 
-/// The samples of a window that lies inside; none where a pixel that is needed is void.
-#[inline]
+/// The samples of a window that lies inside; none where a pixel that is needed is void. A function
+/// by itself, since its numbers stay in registers so.
+#[inline(never)]
 fn samples_inside(left: &Field, right: &Field, at: Pixel, lie: &Lie) -> Option<Window>
     requires pixel { (at.x < 2 ^ 15) × (at.y < 2 ^ 15) }
     requires lie { IsLie lie.now }
