@@ -1,13 +1,11 @@
 //! The samples of a window on the left, and those on the right at three offsets.
 
-ghost use Rattle.std.specs.Prelude.{◌≡◌, ℕ, ◌+◌, ◌-◌, ◌*◌, ◌/◌, ◌%◌, ◌^◌, ◌<◌, ◌≤◌, ℤ, pos, neg_ℤ};
-ghost use Rattle.std.specs.Prelude.{◌+ℤ◌, ◌-ℤ◌, ◌*ℤ◌, ◌≤ℤ◌, ◌<ℤ◌, ◌&&◌, true, if◌then◌else◌};
-ghost use Rattle.std.specs.Prelude.{length, slice_index, Option, Some, None, is_some, IfSome};
-ghost use Rattle.std.specs.Ordering.{int_eq};
+ghost use Rattle.std.specs.Prelude.{◌≡◌, ℕ, ◌+◌, ◌-◌, ◌*◌, ◌/◌, ◌%◌, ◌^◌, ◌<◌, ◌≤◌, ◌&&◌, ℤ, pos};
+ghost use Rattle.std.specs.Prelude.{◌+ℤ◌, ◌-ℤ◌, ◌*ℤ◌, ◌≤ℤ◌, true, Option, Some, None, is_some};
+ghost use Rattle.std.specs.Prelude.{IfSome};
 ghost use Rattle.sgm_base.specs.Disparities.{IsFirst};
 ghost use Rattle.sgm_base.specs.Ranges.{IsFromTo, Within};
-ghost use Rattle.sgm_base.specs.Rounding.{rounded};
-ghost use Rattle.sgm_base.specs.Values.{Values, value_at};
+ghost use Rattle.sgm_base.specs.Values.{Values};
 ghost use Rattle.sgm_fine.specs.Samples.{AreRights, Centre, HoldsLie, HoldsPlace, HoldsSamples};
 ghost use Rattle.sgm_fine.specs.Samples.{HoldsSides, HoldsThree, IsInside, IsLie, IsPlace};
 ghost use Rattle.sgm_fine.specs.Samples.{IsWindow, LiesInside, centre, has, has_all, has_rights};

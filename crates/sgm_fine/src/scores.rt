@@ -1,7 +1,6 @@
 //! How well the right window explains the left one at each of seventeen places.
 
 ghost use Rattle.std.specs.Prelude.{◌≡◌, ℕ, ◌<◌, ◌≤◌, ◌-◌, ◌*◌, ◌^◌, ℤ, pos, ◌+ℤ◌, ◌-ℤ◌, ◌*ℤ◌};
-ghost use Rattle.std.specs.Prelude.{◌≤ℤ◌};
 ghost use Rattle.std.specs.Prelude.{◌==◌, nat_lt, if◌then◌else◌, int_lt};
 ghost use Rattle.sgm_base.specs.Ranges.{IsFromTo, Within};
 ghost use Rattle.sgm_fine.specs.Scores.{AreParts, HoldsPart, HoldsParts, HoldsSide, HoldsSums};
@@ -249,7 +248,8 @@ fn wide(a: u64, b: u64) -> u128
     u128::from(a) * u128::from(b)
 }
 
-/// Whether a score is greater than another one. Nearly always products tell, and nothing is divided.
+/// Whether a score is greater than another one. Nearly always products tell that, and nothing is
+/// divided.
 #[inline]
 pub(crate) fn is_greater(score: Score, other: Score) -> bool
     requires parts { (0 < score.part) × (0 < other.part) }
