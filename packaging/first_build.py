@@ -4,9 +4,12 @@
     packaging/first_build.py [--cpu NAME] PROGRAM CRATE [-- WORD..]
 
 For example: packaging/first_build.py sgm sgm_cli -- demo 0. So packaging/launcher.sh calls it for
-./sgm. In the crate's folder `rt all check --jobs N` proves the crate and those below it, N at a
-time: as many as there are processors and as memory allows. Then `rt run` builds the program over
-that and starts it once, with the WORDs. A start after one that was stopped goes on from there.
+./sgm. In the crate's folder `rt all check --jobs N` proves the crates below it in N places: one
+and a half for each processor, since a crate keeps its place while it waits for those below it, and
+no more than memory allows. Each of these has one processor, so once those that are left stand one
+on the other it is ended, and `rt check` proves them with all processors, one after the other. Then
+`rt run` proves the crate itself, builds the program over that and starts it once, with the WORDs.
+A start after one that was stopped goes on from there.
 
 All that both say goes to crates/CRATE/out/build.txt. Standard error gets the progress: one line
 that is rewritten where it is a terminal, else a line for each crate when it ends. Nothing goes to
@@ -16,18 +19,17 @@ and SIGHUP end all that was started, and then this with 130, 143 or 129.
 
 How the time left is reckoned: packaging/build_times.txt has the seconds of each crate; one that
 has no line there counts as their mean. rt hands out the crates in one order, those with the
-fewest crates below them first, to N places, and a crate keeps its place while it waits for those
-below it. This is gone through with the seconds of the table, which tells when the first crate
-ends, when the second, and so on. The time left is what this still has behind as many crates as
-have ended, times how much longer they took here than by the table (as long as no tenth of the
-whole is done, as long as there). A crate that ends within a fifth of its seconds after those
-below it was proved earlier, and counts as none.
+fewest crates below them first, to N places; those that don't wait share the processors. This is
+gone through with the seconds of the table, which tells when the first crate ends, when the second,
+and so on. The time left is what this still has behind as many crates as have ended, times how much
+longer they took here than by the table (as long as no tenth of the whole is done, as long as
+there). A crate that ends within a fifth of its seconds after those below it was proved earlier, and
+counts as none.
 """
 
 import argparse
 import collections
 import contextlib
-import heapq
 import os
 import re
 import select
@@ -40,6 +42,8 @@ TOP = os.path.normpath(os.path.join(os.path.dirname(os.path.abspath(__file__)), 
 TIMES = os.path.join(TOP, "packaging", "build_times.txt")
 # In the table, what stands for the building of the program behind the last crate.
 BUILDING = "program"
+# What is said once it is.
+BUILT = "the program is built"
 # Memory of one crate's proof, in kB.
 PLACE = 1_400_000
 # How many of the last lines are shown where something fails, and how much of a line. What is well
@@ -54,6 +58,10 @@ PATIENCE = 2
 KEPT = 0.2
 # The share of the whole from which on the machine's pace is taken from what was done.
 ENOUGH = 0.1
+
+
+class InARow(Exception):
+    """The crates that are left stand one on the other."""
 
 
 class Stopped(Exception):
@@ -198,29 +206,42 @@ def seconds_of(crates):
     return {it: table.get(it, mean) for it in [*crates, BUILDING]}
 
 
-def schedule(crates, seconds, places):
-    """The moments at which crates end, one after the other, where each takes its seconds."""
-    free, ends = [0] * places, {}
-    for name, below in crates.items():
-        begin = max([heapq.heappop(free), *(ends[it] for it in below)])
-        ends[name] = begin + seconds[name]
-        heapq.heappush(free, ends[name])
+def schedule(crates, seconds, places, processors):
+    """The moments at which crates end, one after the other, where each takes its seconds on a
+    processor of its own."""
+    waiting, running, ends, now = list(crates), {}, {}, 0
+    while waiting or running:
+        held = [it for it in waiting[: places - len(running)] if ends.keys() >= {*crates[it]}]
+        for name in held:
+            waiting.remove(name)
+            running[name] = seconds[name]
+        pace = max(len(running) / processors, 1)
+        step = min(running.values())
+        now += step * pace
+        running = {it: left - step for it, left in running.items()}
+        for name in [it for it, left in running.items() if left <= 1e-6]:
+            del running[name]
+            ends[name] = now
     return sorted(ends.values())
 
 
-def at_once():
-    """How many crates are proved at a time."""
+def processors():
+    return len(os.sched_getaffinity(0))
+
+
+def places():
+    """In how many places crates are proved."""
     with open("/proc/meminfo", encoding="ascii") as file:
         free = re.search(r"^MemAvailable: *(\d+)", file.read(), re.M)
-    places = int(free[1]) // PLACE if free else 1
-    return max(min(len(os.sched_getaffinity(0)), places), 1)
+    most = int(free[1]) // PLACE if free else 1
+    return max(min(3 * processors() // 2, most), 1)
 
 
 class Times:
     """What has ended, and what the table reckons of that and of the rest."""
 
-    def __init__(self, name, places):
-        self.crates, self.places = crates_of(name), places
+    def __init__(self, name, number):
+        self.crates, self.places = crates_of(name), number
         self.seconds = seconds_of(self.crates)
         self.begin, self.first, self.last, self.ended = time.monotonic(), None, 0, {}
 
@@ -241,9 +262,14 @@ class Times:
             self.last = now
         self.ended[name] = now
 
+    def row_above(self, name):
+        """The crates that are left, if the first stands on this one, and each on that before it."""
+        left = [it for it in self.crates if it not in self.ended]
+        return left if all(low in self.crates[it] for low, it in zip([name, *left], left)) else []
+
     def left(self):
         """The seconds that are left, as the head of this file says."""
-        moments = [0, *schedule(self.crates, self.seconds, self.places)]
+        moments = [0, *schedule(self.crates, self.seconds, self.places, processors())]
         done, whole = moments[len(self.ended)], moments[-1] + self.seconds[BUILDING]
         pace = self.last / done if done > ENOUGH * whole and self.last else 1
         since = self.gone() - max([0, *self.ended.values()])
@@ -284,7 +310,8 @@ class Teller:
 
     def far(self, name=""):
         """How far it is, with the name of what has just ended."""
-        times, left = self.times, self.phase or f"{roughly(self.times.left())} left"
+        times, left = self.times, f"{roughly(self.times.left())} left"
+        left = self.phase if self.phase == BUILT else ", ".join(filter(None, [self.phase, left]))
         of = f"{len(times.ended)} of {len(times.crates)} crates checked{name and f' ({name})'}"
         return f"{of}, {clock(times.gone())} gone, {left}"
 
@@ -311,6 +338,8 @@ class Listener:
 
     def __init__(self, teller):
         self.teller, self.times, self.at, self.failed = teller, teller.times, "", []
+        # What is proved, and the crates that are left once they stand one on the other.
+        self.proved, self.row = set(), []
         self.said = collections.defaultdict(lambda: collections.deque(maxlen=LAST))
 
     def hear(self, line):
@@ -323,13 +352,20 @@ class Listener:
         elif not WELL.fullmatch(line):
             self.said[self.at].append(line)
         if is_end:
-            self.times.end_of(name)
-            self.teller.tell(name)
+            self.end_of(name)
+        if line.startswith(b"logic=proved ") and self.at in self.times.crates:
+            self.proved.add(self.at)
+            is_well = self.proved >= self.times.ended.keys()
+            self.row = self.times.row_above(self.at) if is_well else []
         failed = re.match(rb"(\w+): failed", line)
         if self.at == "summary" and failed:
             self.failed.append(failed[1].decode())
         if re.match(rb"rt: waiting for |\w+: another copy of the repository ", line):
             self.teller.say(line.decode(errors="replace"))
+
+    def end_of(self, name):
+        self.times.end_of(name)
+        self.teller.tell(name)
 
     def last(self, at):
         """The last lines of what was said of a crate, for the eye."""
@@ -340,27 +376,51 @@ class Listener:
 # The build
 
 
+def prove_side_by_side(listener, folder, log):
+    """Proves the crates until those that are left stand one on the other, if they do."""
+
+    def look():
+        if listener.row:
+            raise InARow
+        listener.teller.show()
+
+    command = ["rt", "all", "check", "--jobs", str(listener.times.places)]
+    with contextlib.suppress(InARow):
+        status = run(command, folder, log, listener.hear, look)
+        if status:
+            at = next((it for it in listener.failed if it in listener.said), listener.at)
+            names = ", ".join(listener.failed)
+            why = f"not proved: {names}" if names else f"`{' '.join(command)}` ended with {status}"
+            raise Failed(why, listener.last(at))
+
+
+def prove_one(listener, name, log):
+    """Proves a crate with all processors."""
+    listener.at = name
+    folder = os.path.join(TOP, "crates", name)
+    if run(["rt", "check"], folder, log, listener.hear, listener.teller.show):
+        raise Failed(f"not proved: {name}", listener.last(name))
+    listener.end_of(name)
+
+
 def prove(listener, folder, log):
-    """Proves the crates; Failed says which one isn't proved."""
-    teller, jobs = listener.teller, str(listener.times.places)
-    command = ["rt", "all", "check", "--jobs", jobs]
-    status = run(command, folder, log, listener.hear, teller.show)
-    if status:
-        at = next((it for it in listener.failed if it in listener.said), listener.at)
-        names = ", ".join(listener.failed)
-        why = f"not proved: {names}" if names else f"`{' '.join(command)}` ended with {status}"
-        raise Failed(why, listener.last(at))
+    """Proves the crates below the program's; Failed says which one isn't proved."""
+    prove_side_by_side(listener, folder, log)
+    for name in listener.row[:-1]:
+        prove_one(listener, name, log)
 
 
-def build(listener, folder, log, words):
-    """Builds the program over what is proved, and starts it once."""
+def build(listener, crate, log, words):
+    """Proves the program's crate, builds the program over what is proved, and starts it once."""
     teller, listener.at = listener.teller, BUILDING
     teller.phase = "building the program"
     teller.show()
+    folder = os.path.join(TOP, "crates", crate)
     status = run(["rt", "run", *words], folder, log, listener.hear, teller.show)
     if status:
         why = f"`rt run {' '.join(words)}` ended with {status}"
         raise Failed(f"not built: {why}", listener.last(BUILDING))
+    listener.times.ended.setdefault(crate, listener.times.gone())
 
 
 def greet(teller, is_first, file):
@@ -391,7 +451,7 @@ def make(given):
     path = os.path.join(folder, "out", "build.txt")
     shown = os.path.relpath(path)
     shown = path if shown.startswith("..") else shown
-    teller = Teller(given.program, Times(given.crate, at_once()))
+    teller = Teller(given.program, Times(given.crate, places()))
     listener = Listener(teller)
     words = [*(["--cpu", given.cpu] if given.cpu else []), "--", *given.words]
     try:
@@ -399,7 +459,7 @@ def make(given):
             greet(teller, not os.path.exists(os.path.join(folder, "out", given.crate)), shown)
             teller.show()
             prove(listener, folder, log)
-            build(listener, folder, log, words)
+            build(listener, given.crate, log, words)
     except Stopped as stopped:
         teller.say("stopped: the next start goes on where this one was")
         return 128 + stopped.args[0]
@@ -411,7 +471,7 @@ def make(given):
     except OSError as error:
         teller.say(f"{error.filename or shown}: {error.strerror}")
         return 1
-    teller.phase = "the program is built"
+    teller.phase = BUILT
     teller.tell()
     teller.write("\n" * teller.is_open)
     return 0

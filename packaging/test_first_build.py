@@ -35,7 +35,8 @@ class Reckoned(unittest.TestCase):
                 file.write(text)
         self.now = 1000.0
         clock = types.SimpleNamespace(monotonic=lambda: self.now)
-        for name, value in (("TOP", folder.name), ("TIMES", self.times), ("time", clock)):
+        values = {"TOP": folder.name, "TIMES": self.times, "time": clock, "processors": lambda: 2}
+        for name, value in values.items():
             patch = mock.patch.object(tool, name, value)
             patch.start()
             self.addCleanup(patch.stop)
@@ -69,9 +70,15 @@ class Reckoned(unittest.TestCase):
         """A crate keeps its place while it waits for those below it."""
         crates = {"a": [], "b": [], "c": ["a"], "d": ["b"], "e": ["a", "b", "c", "d"]}
         seconds = {"a": 10, "b": 4, "c": 5, "d": 6, "e": 3}
-        self.assertEqual(tool.schedule(crates, seconds, 1), [10, 14, 19, 25, 28])
-        self.assertEqual(tool.schedule(crates, seconds, 2), [4, 10, 15, 16, 19])
-        self.assertEqual(tool.schedule(crates, seconds, 3), [4, 10, 10, 15, 18])
+        for number, ends in ((1, [10, 14, 19, 25, 28]), (2, [4, 10, 15, 16, 19]), (3, [4, 10, 10, 15, 18])):
+            self.assertEqual(tool.schedule(crates, seconds, number, number), ends)
+
+    def test_shared_processors(self):
+        """A and b share one processor: b ends when both had 4 seconds, and d then shares it with what is left of a."""
+        crates = {"a": [], "b": [], "d": ["b"]}
+        seconds = {"a": 10, "b": 4, "d": 6}
+        self.assertEqual(tool.schedule(crates, seconds, 2, 1), [8, 20, 20])
+        self.assertEqual(tool.schedule(crates, seconds, 2, 2), [4, 10, 10])
 
     def test_left(self):
         times = self.begun()
@@ -104,6 +111,42 @@ class Reckoned(unittest.TestCase):
         self.ends(times, "top", 61)
         self.assertEqual(times.left(), 3 * 24)
 
+    def test_row(self):
+        """Left and right stand side by side, and top on both."""
+        times = self.begun()
+        self.assertEqual(times.row_above("low"), [])
+        self.ends(times, "low", 10)
+        self.assertEqual(times.row_above("low"), [])
+        self.ends(times, "right", 30)
+        # Left doesn't stand on right, and may have begun long ago.
+        self.assertEqual(times.row_above("right"), [])
+        self.ends(times, "left", 70)
+        self.assertEqual(times.row_above("left"), ["top"])
+        self.ends(times, "top", 94)
+        self.assertEqual(times.row_above("top"), [])
+        times = tool.Times("aside", 2)
+        times.hears(False)
+        self.ends(times, "low", 10)
+        self.assertEqual(times.row_above("low"), ["aside"])
+
+    def heard(self, *lines):
+        """The crates that are to be proved one after the other behind these lines of rt."""
+        teller = types.SimpleNamespace(times=self.begun(), tell=lambda name: None)
+        listener = tool.Listener(teller)
+        for line in lines:
+            listener.hear(line)
+        return listener.row
+
+    def test_row_heard(self):
+        """Where a crate isn't proved, rt itself comes to its end and says which."""
+        good, bad = b"logic=proved functions=3", b"logic=not-proved"
+        low, right, left = (b"== low", good), (b"== right", good), (b"== left", good)
+        self.assertEqual(self.heard(*low, *left, *right), ["top"])
+        self.assertEqual(self.heard(*low, *left, *right[:1]), [])
+        self.assertEqual(self.heard(*low, *left, right[0], bad), [])
+        self.assertEqual(self.heard(*low, right[0], bad, *left), [])
+        self.assertEqual(self.heard(*low, *left, *right, b"== top", good), [])
+
     def test_one_crate(self):
         """The first line is the crate's own end."""
         times = tool.Times("low", 4)
@@ -112,11 +155,10 @@ class Reckoned(unittest.TestCase):
         times.end_of("low")
         self.assertEqual(times.seconds["low"], 10)
 
-    def test_at_once(self):
-        with mock.patch.object(os, "sched_getaffinity", lambda _: {0, 2, 5}):
-            for place, places in ((1, 3), (1 << 60, 1)):
-                with mock.patch.object(tool, "PLACE", place):
-                    self.assertEqual(tool.at_once(), places)
+    def test_places(self):
+        for number, place, wanted in ((1, 1, 1), (2, 1, 3), (3, 1, 4), (4, 1, 6), (4, 1 << 60, 1)):
+            with mock.patch.object(tool, "processors", lambda: number), mock.patch.object(tool, "PLACE", place):
+                self.assertEqual(tool.places(), wanted)
 
     def test_words(self):
         for seconds, text in ((0, "0:00"), (59.9, "0:59"), (61, "1:01"), (3599, "59:59"), (3661, "1:01:01")):

@@ -26,7 +26,8 @@ ln -s "$(python3 -c 'import sys; print(sys.executable)')" "$plain/python3"
 # crates that aren't proved, or `rt` where none is looked at, or `run`; where `waits` is there, the second crate's check
 # starts a process that goes on until it is ended, writes its number to the file `child`, and waits, both of them deaf to
 # SIGTERM where it says so; where `beside` is there another rt works; and where `unchanged` is there no program is made.
-# A crate that it has checked says nothing the next time.
+# A crate that it has checked says nothing the next time but that it is proved. `rt all` begins the second crate half a
+# minute after the first, long after it should have been ended.
 made_up_rt() {
     cat <<RT
 #!/usr/bin/env bash
@@ -44,8 +45,8 @@ check() {
         echo $! >"$repository/child"
         wait
     fi
-    echo "== $1"
-    [ -e "$repository/checked.$1" ] && return
+    [ "$command" = all ] && echo "== $1"
+    [ -e "$repository/checked.$1" ] && echo "logic=proved functions=1" && return
     for number in {1..30}; do echo "checking $1, line $number"; done
     if is_broken "$1"; then
         echo "$1/src/lib.rt:1: error: $(printf '%.0s-' {1..600})"
@@ -56,20 +57,26 @@ check() {
         summary+=("$1: failed (1)") status=1
     else
         : >"$repository/checked.$1"
+        echo "logic=proved functions=1"
         summary+=("$1: ok")
     fi
 }
 [ -e "$repository/beside" ] && echo "rt: waiting for another rt to finish in a folder" >&2
 echo "rt: words" >&2
 echo printed by rt
-case $1 in
+command=$1 status=0 summary=()
+case $command in
 all)
     is_broken rt && echo "low/src/lib.rt:1: no such word" && exit 1
-    status=0 summary=()
     for each in low middle "$crate"; do
         if [ "$status" = 0 ]; then check "$each"; else summary+=("$each: not run, since another failed"); fi
+        [ "$status" = 0 ] && sleep 30
     done
     printf '%s\n' '== summary' "${summary[@]}"
+    exit "$status"
+    ;;
+check)
+    check "$crate"
     exit "$status"
     ;;
 run)
@@ -85,7 +92,8 @@ RT
 begin() {
     case="$launched: $1"
     repository=$work/$launched/$1
-    mkdir -p "$repository"/{bin,crates/{sgm,sgm_series}_cli/{src,out},crates/low/{src,specs,proofs,must-fail},docs,packaging} || exit 1
+    mkdir -p "$repository"/{bin,crates/{sgm,sgm_series}_cli/{src,out},crates/low/{src,specs,proofs,must-fail}} || exit 1
+    mkdir -p "$repository"/{crates/middle/src,docs,packaging} || exit 1
     cp "$top"/{sgm,sgm_series} "$repository/"
     cp "$top"/packaging/{launcher.sh,first_build.py,help.txt,help_sgm_series.txt} "$repository/packaging/"
     printf '# crate seconds\nlow 60\nmiddle 130 # both programs\n' >"$repository/packaging/build_times.txt"
@@ -136,7 +144,6 @@ $launched: first build: this proves 3 crates, N at a time, about 6 minutes where
 $launched: later starts take no time until a source changes
 $launched: 1 of 3 crates checked (low), 0:00 gone, about 5 minutes left
 $launched: 2 of 3 crates checked (middle), 0:00 gone, about 3 minutes left
-$launched: 3 of 3 crates checked (${crate##*/}), 0:00 gone, about 2 minutes left
 $launched: 3 of 3 crates checked, 0:00 gone, the program is built
 TEXT
 }
@@ -235,18 +242,18 @@ try_terminal() {
     is "the last line" "$(said "$(tail -n 2 <<<"$out" | head -n 1)")" "$(plain_progress | tail -n 1 | cut -c1-29)"
 }
 
-# As many crates at a time as there are processors, where there is memory for two.
+# One and a half places for each processor, where there is memory for three.
 try_processors() {
     local number free some
     has taskset || return
     free=$(sed -n 's/^MemAvailable: *\([0-9]*\).*/\1/p' /proc/meminfo)
     for number in 1 2; do
-        if [ "$(nproc)" -lt $number ] || [ "$free" -lt 4000000 ]; then continue; fi
+        if [ "$(nproc)" -lt $number ] || [ "$free" -lt 5000000 ]; then continue; fi
         begin "$number processors"
         some=$(python3 -c "import os; print(*sorted(os.sched_getaffinity(0))[:$number], sep=',')")
         PATH=$path "$(command -v taskset)" -c "$some" "./$launched" demo 0 >"$work/out" 2>"$work/err"
         is status $? 7
-        is "how rt was called" "$(head -n 1 calls)" "in $repository/$crate: all check --jobs $number"
+        is "how rt was called" "$(head -n 1 calls)" "in $repository/$crate: all check --jobs $((3 * number / 2))"
     done
 }
 
@@ -291,6 +298,7 @@ d][*] in $repository with $tunables"
     is "standard error" "$(said "$err")" "$(plain_progress)"
     is "how rt was called" "$(sed 's/ --cpu x86-64-v3//; s/--jobs [1-9][0-9]*$/--jobs N/' calls)" \
         "in $repository/$crate: all check --jobs N
+in $repository/crates/middle: check
 in $repository/$crate: run -- $trial"
     is "the lines of the check in the file" "$(grep -c "^checking middle, line" "$crate/out/build.txt")" 30
     is "the last line of the file" "$(tail -n 1 "$crate/out/build.txt")" "printed by rt"
@@ -375,7 +383,7 @@ in $repository/$crate: run -- $trial"
     started demo 0
     is "status where it can't be built" "$status" 1
     is "standard output" "$out" ""
-    is "standard error" "$(said "$err")" "$(plain_progress | head -n 4)
+    is "standard error" "$(said "$err")" "$(plain_progress | head -n 3)
 $launched: not proved: middle. What was said last, of which $crate/out/build.txt has all:
 $(printf 'checking middle, line %s\n' {13..30})
 $(printf 'middle/src/lib.rt:1: error: %s' "$(printf '%.0s-' {1..600})" | cut -c1-400) ..
