@@ -7,9 +7,9 @@ For example: packaging/first_build.py sgm sgm_cli -- demo 0. So packaging/launch
 ./sgm. In the crate's folder `rt all check --jobs N` proves the crates below it in N places: one
 and a half for each processor, since a crate keeps its place while it waits for those below it, and
 no more than memory allows. Each of these has one processor, so once those that are left stand one
-on the other it is ended, and `rt check` proves them with all processors, one after the other. Then
-`rt run` proves the crate itself, builds the program over that and starts it once, with the WORDs.
-A start after one that was stopped goes on from there.
+on the other it is ended, and `rt check` proves them one by one, on as many processors as it takes.
+Then `rt run` proves the crate itself, builds the program over that and starts it once, with the
+WORDs. A start after one that was stopped goes on from there.
 
 All that both say goes to crates/CRATE/out/build.txt. Standard error gets the progress: one line
 that is rewritten where it is a terminal, else a line for each crate when it ends. Nothing goes to
@@ -395,7 +395,7 @@ def prove_side_by_side(listener, folder, log):
 
 
 def prove_one(listener, name, log):
-    """Proves a crate with all processors."""
+    """Proves a crate by itself, on as many processors as rt takes."""
     listener.at = name
     folder = os.path.join(TOP, "crates", name)
     if run(["rt", "check"], folder, log, listener.hear, listener.teller.show):
