@@ -9,13 +9,12 @@ use Rattle.std.proofs.lemmas.List.Elements.{All-map}
 use Rattle.std.proofs.lemmas.Nat.{div_below}
 use Rattle.sgm_base.specs.Disparities.{Disparities}
 use Rattle.sgm_base.specs.Values.{Values, AtMost, row_by_row, value_at}
-use Rattle.sgm_fine.specs.Finer.{best, finer, finer_value, fits, place_score, tells}
+use Rattle.sgm_fine.specs.Finer.{best, finer, finer_value, fits, order, place_score, tells}
 use Rattle.sgm_fine.specs.Making.{made_finer}
 use Rattle.sgm_fine.specs.Means.{mean_value, means, near_at}
 use Rattle.sgm_fine.specs.Samples.{Centre, centre, has_all}
 use Rattle.sgm_fine.specs.Slopes.{step_to}
 use Rattle.sgm_fine.specs.Windows.{value_around}
-use Rattle.sgm_fine.specs.declared.finer.TheConstants.{ORDER}
 use Rattle.sgm_fine.proofs.Nearby.{count_near, count_none, count_some, mean_is, sum_near, sum_none, sum_some, sum_zero}
 
 -- no value above most
@@ -63,7 +62,7 @@ finer_value_low : (count most : ℕ) (p : Centre) → 16 * (count - 1) ≤ most 
 unfolding finer_value
 finer_value_low count most p few h =
     let lies : Lies most p.value (best count p) =
-    best_lies (λ a b. nat_lt (place_score p b) (place_score p a)) (Lies most p.value) (fits (16 * (count - 1)) p.value) (pos 0) ORDER (none_lies most p.value h)
+    best_lies (λ a b. nat_lt (place_score p b) (place_score p a)) (Lies most p.value) (fits (16 * (count - 1)) p.value) (pos 0) order (none_lies most p.value h)
     (λ c e. fits_lies count most p.value c few e) in
     cond_both (has_all p && tells p (best count p)) (unsigned_abs (pos p.value +ℤ best count p)) p.value (λ v. v ≤ most)
     (λ _. lies_low most p.value (best count p) lies) (λ _. h)

@@ -41,7 +41,7 @@ least_at a [] k d lt = absurd (omega (arith, lt))
 least_at a (x ∷ xs) zero d lt = let low = least_low (min a x) xs in omega (arith, low)
 least_at a (x ∷ xs) (suc k) d lt = least_at (min a x) xs k d (omega (arith, lt))
 
-least_each : (a : ℕ) (xs : List ℕ) (k d : ℕ) → k < length (a ∷ xs) → fold min a xs ≤ slice_index_or (a ∷ xs) k d
+pub least_each : (a : ℕ) (xs : List ℕ) (k d : ℕ) → k < length (a ∷ xs) → fold min a xs ≤ slice_index_or (a ∷ xs) k d
 least_each a xs zero d lt = least_low a xs
 least_each a xs (suc k) d lt = least_at a xs k d (omega (arith, lt))
 

@@ -1,7 +1,9 @@
+pub mod Bands
 pub mod Between
 pub mod Blends
 pub mod Covariances
 pub mod FinerBounds
+pub mod Gathering
 pub mod Halvings
 pub mod Nearby
 pub mod Numbers
@@ -14,8 +16,12 @@ pub mod Quotients
 pub mod Rights
 pub mod Rises
 pub mod SideSums
+pub mod SmallRights
 pub mod Squares
 pub mod StepLaws
 pub mod Totals
 pub mod Unhalved
+pub mod Walks
+pub mod WholePlaces
+pub mod WholeSamples
 pub mod WindowSamples

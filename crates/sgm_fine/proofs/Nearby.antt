@@ -7,7 +7,7 @@ use Rattle.std.proofs.lemmas.Int.{ints}
 use Rattle.std.proofs.lemmas.List.Elements.{filter_map-append}
 use Rattle.std.proofs.lemmas.List.Sums.{sum_by-append}
 use Rattle.sgm_base.specs.Values.{Values, value_at}
-use Rattle.sgm_fine.specs.Means.{mean_value, near_at}
+use Rattle.sgm_fine.specs.Means.{mean_value, near, near_at}
 use Rattle.sgm_fine.specs.Slopes.{step_to}
 use Rattle.sgm_fine.specs.Windows.{value_around}
 
@@ -78,10 +78,23 @@ pub count_zero : (map : Values) (x y m : ℕ) → count_near map x y m 0 ≡ 0
 unfolding count_near near_below
 count_zero map x y m = refl
 
--- the mean of them all
+-- all of them
+pub sum_all : (map : Values) (x y m : ℕ) → sum_near map x y m 9 ≡ sum (near map x y m)
+unfolding sum_near near_below
+sum_all map x y m = refl
+
+pub count_all : (map : Values) (x y m : ℕ) → count_near map x y m 9 ≡ length (near map x y m)
+unfolding count_near near_below
+count_all map x y m = refl
+
+-- and their mean
 pub mean_is : (map : Values) (x y m : ℕ) → (2 * sum_near map x y m 9 + count_near map x y m 9) / (2 * count_near map x y m 9) ≡ mean_value map x y m
 unfolding sum_near count_near near_below mean_value
 mean_is map x y m = refl
+
+pub mean_from : (map : Values) (x y m s n : ℕ) → s ≡ sum (near map x y m) → n ≡ length (near map x y m) → (2 * s + n) / (2 * n) ≡ mean_value map x y m
+unfolding mean_value
+mean_from map x y m s n es en = ap₂ (λ (a b : ℕ). (2 * a + b) / (2 * b)) es en
 
 -- the pixel's own value is among them
 own_step : (most m : ℕ) (b : Bool) → b ≡ true → option_map (λ step. unsigned_abs (pos m +ℤ step)) (if b then Some (pos m -ℤ pos m) else None) ≡ Some m

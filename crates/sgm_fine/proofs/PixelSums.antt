@@ -2,9 +2,9 @@
 use Rattle.std.proofs.Common.{◌≡◌, ℕ, ◌-◌, ◌*◌, ◌<◌, ◌≤◌, ◌≤ℤ◌, zero, suc, refl, Bool, true, false, List, ◌++◌, ◌&&◌, ℤ, pos, negsuc, neg_ℤ, to_z, of_z, w32, ◌+ℤ◌, ◌-ℤ◌, ◌*ℤ◌, int_lt, if◌then◌else◌, unsigned_abs, arith, ap, ap₂, subst, sym, ◌∙◌}
 use Rattle.std.proofs.lemmas.Int.{ints}
 use Rattle.sgm_base.specs.Ranges.{IsFromTo, Within}
-use Rattle.sgm_fine.specs.Finer.{ArePixelParts, best, by_itself, finer_value, left_alone, right_numbers, tells, with_left}
+use Rattle.sgm_fine.specs.Finer.{ArePixelParts, best, by_itself, finer_value, left_alone, place_score, right_numbers, tells, with_left}
 use Rattle.sgm_fine.specs.Samples.{Centre, HoldsSamples, half, has_all}
-use Rattle.sgm_fine.specs.Scores.{HoldsParts, IsFitOf, blended, covariance, numbers_at}
+use Rattle.sgm_fine.specs.Scores.{HoldsParts, IsFitOf, blended, covariance, numbers_at, score}
 use Rattle.sgm_fine.specs.Small.{HoldsSmall, IsSmall, small, small_left, small_right}
 use Rattle.sgm_fine.specs.Windows.{number, sum_below}
 use Rattle.sgm_fine.specs.declared.scores.Fit.{Fit}
@@ -89,6 +89,14 @@ by_itself_is parts p h c fit is =
 
 pub left_alone_is : (parts : Parts) (p : Centre) (h : ArePixelParts parts p) → covariance (number h.window.left) (number h.window.left) ≡ left_alone p
 left_alone_is parts p h = covariance_same (number h.window.left) (number h.window.left) (small_left p) (small_left p) h.left h.left
+
+-- so that its score is that of the place
+pub score_is : (parts : Parts) (p : Centre) (h : ArePixelParts parts p) (c : ℤ) (fit : Fit) → IsFitOf fit h.window c → score fit.together fit.right ≡ place_score p c
+score_is parts p h c fit is = ap₂ score (with_left_is parts p h c fit is) (by_itself_is parts p h c fit is)
+
+-- and both are small
+pub together_small : (fit : Fit) (w : SmallWindow) (c : ℤ) → IsSmall w → Within 8 c → IsFitOf fit w c → Within 2506140000 fit.together
+together_small fit w c small near is = subst (Within 2506140000) (sym is.together) (together_within w c small near)
 
 -- the samples of a pixel's window made small
 same_small : (a h b x p q r y : List ℕ) (k : ℕ) → a ≡ p → h ≡ q → b ≡ r → x ≡ y → small 4096 (a ++ h ++ b) x k ≡ small 4096 (p ++ q ++ r) y k

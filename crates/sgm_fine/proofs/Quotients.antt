@@ -30,9 +30,3 @@ none_where_less a p hp = elim (cases_lt a p) [
   | inl lt ↦ let none : a / p ≡ 0 = div-eq_of_lt lt in grind (arith, lt, none)
   | inr le ↦ let some : 1 ≤ a / p = le-div 1 a p hp (omega (arith, le)) in grind (arith, le, some)
 ]
-
-pub ltb-lt : (a b : ℕ) → nat_lt a b ≡ true → a < b
-ltb-lt a b e = grind (arith, e)
-
-pub ltb-ge : (a b : ℕ) → nat_lt a b ≡ false → b ≤ a
-ltb-ge a b e = grind (arith, e)

@@ -1,7 +1,9 @@
 -- What the code computes of a window's sums.
-use Rattle.std.proofs.Common.{◌≡◌, ℕ, ◌+◌, ◌-◌, ◌*◌, ◌<◌, ◌≤◌, ℤ, pos, ◌+ℤ◌, ◌-ℤ◌, ◌*ℤ◌, FitsSigned, to_z, of_z, w32, w64, arith, ap, ap₂, ◌∙◌}
+use Rattle.std.proofs.Common.{◌≡◌, ℕ, ◌+◌, ◌-◌, ◌*◌, ◌<◌, ◌≤◌, ℤ, pos, ◌+ℤ◌, ◌-ℤ◌, ◌*ℤ◌, FitsSigned, to_z, of_z, w32, w64, arith, ap, ap₂, sym, ◌∙◌}
+use Rattle.std.proofs.Math.IntN.{*ℤ_comm}
 use Rattle.std.proofs.lemmas.Int.{ints}
 use Rattle.sgm_base.specs.Ranges.{IsFromTo, Within}
+use Rattle.sgm_fine.proofs.Products.{times_difference}
 use Rattle.sgm_fine.proofs.Totals.{product_from_to, product_within, sum_from_to}
 use Rattle.sgm_fine.specs.Windows.{over}
 
@@ -10,6 +12,14 @@ pub wide_product : (m n : ℕ) (p q a b : ℤ) → m * n < 9223372036854775808 �
 wide_product m n p q a b few ea eb h k =
     let w = product_within m n p q h k in
     ap₂ (λ (y z : ℤ). to_z w64 (of_z w64 (y *ℤ z))) ea eb ∙ omega (arith, ints, few, w.0, w.1)
+
+-- so many eighths of the way from one number to another
+pub stepped : (n : ℕ) (h s : ℤ) → n ≤ 8 → (pos 8 *ℤ h) +ℤ (pos n *ℤ (s -ℤ h)) ≡ (pos (8 - n) *ℤ h) +ℤ (pos n *ℤ s)
+stepped n h s few =
+    let g : pos 8 -ℤ pos n ≡ pos (8 - n) = omega (arith, ints, few) in
+    let rest : (pos 8 *ℤ h) -ℤ (pos n *ℤ h) ≡ pos (8 - n) *ℤ h =
+    ap₂ (λ (y z : ℤ). y -ℤ z) (*ℤ_comm (pos 8) h) (*ℤ_comm (pos n) h) ∙ sym (times_difference h (pos 8) (pos n)) ∙ ap (λ z. h *ℤ z) g ∙ *ℤ_comm h (pos (8 - n)) in
+    omega (arith, ints, times_difference (pos n) s h, rest)
 
 -- as many parts of two numbers as make eight of one
 pub eighths_within : (a n m : ℕ) (h s : ℤ) → a + n ≡ 8 → Within m h → Within m s → Within (8 * m) ((pos a *ℤ h) +ℤ (pos n *ℤ s))

@@ -84,6 +84,10 @@ finer left right map span =
     }))
     (value_at map x y)))
 
+-- whether the code takes the place c, which has such a score, instead of one with another score
+abbrev pub takes : ℕ → ℕ → ℤ → ℕ → ℕ → Bool
+takes most value c score other = fits most value c && nat_lt other score
+
 -- what the code holds: how the numbers of some small window vary
 pub record AreSmallParts (parts : Parts) : Type 0 where
   pub window : SmallWindow

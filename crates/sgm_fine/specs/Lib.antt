@@ -1,3 +1,4 @@
+pub mod Bands
 pub mod Finer
 pub mod Making
 pub mod Means

@@ -1,14 +1,15 @@
 -- How well the right window explains the left one.
-use Rattle.std.specs.Prelude.{◌≡◌, ℕ, ◌-◌, ◌*◌, ◌/◌, ◌^◌, ◌&&◌, if◌then◌else◌}
+use Rattle.std.specs.Prelude.{◌≡◌, ℕ, ◌+◌, ◌-◌, ◌*◌, ◌/◌, ◌^◌, ◌&&◌, if◌then◌else◌}
 use Rattle.std.specs.Prelude.{unsigned_abs, ℤ}
 use Rattle.std.specs.Prelude.{pos, ◌+ℤ◌, ◌-ℤ◌, ◌*ℤ◌, int_lt, int_le}
 use Rattle.sgm_base.specs.Ranges.{IsFromTo, Within}
 use Rattle.sgm_fine.specs.Windows.{number, over, products}
+use Rattle.sgm_fine.specs.declared.score.Score.{Score}
 use Rattle.sgm_fine.specs.declared.scores.Fit.{Fit}
 use Rattle.sgm_fine.specs.declared.scores.Part.{Part}
 use Rattle.sgm_fine.specs.declared.scores.Parts.{Parts}
-use Rattle.sgm_fine.specs.declared.scores.Score.{Score}
 use Rattle.sgm_fine.specs.declared.scores.Sums.{Sums}
+use Rattle.sgm_fine.specs.declared.scores.Walk.{Walk}
 use Rattle.sgm_fine.specs.declared.scores.WindowSums.{WindowSums}
 use Rattle.sgm_fine.specs.declared.small.SmallWindow.{SmallWindow}
 use Rattle.sgm_fine.specs.declared.sums.TheConstants.{PLACES}
@@ -91,3 +92,25 @@ numbers_at w c = blended (number w.here)
 pub record IsFitOf (fit : Fit) (w : SmallWindow) (c : ℤ) : Type 0 where
   pub together : fit.together ≡ covariance (number w.left) (numbers_at w c)
   pub right : fit.right ≡ covariance (numbers_at w c) (numbers_at w c)
+
+-- how far the numbers s lie from those h at each place
+abbrev pub distances : (ℕ → ℤ) → (ℕ → ℤ) → ℕ → ℤ
+distances h s k = s k -ℤ h k
+
+-- what the code holds at the nth place on the way from the numbers h of no offset to those s of
+-- another one, beside the left ones l
+pub record HoldsWalk (walk : Walk) (l h s : ℕ → ℤ) (n : ℕ) : Type 0 where
+  pub together : walk.fit.together ≡ covariance l (blended h s n)
+  pub right : walk.fit.right ≡ covariance (blended h s n) (blended h s n)
+  pub further : walk.further ≡ covariance l (distances h s)
+  pub more : walk.more ≡ (pos 16 *ℤ covariance h (distances h s))
+      +ℤ (pos (2 * n + 1) *ℤ covariance (distances h s) (distances h s))
+  pub bend : walk.bend ≡ pos 2 *ℤ covariance (distances h s) (distances h s)
+
+-- its ranges
+pub record IsWalk (walk : Walk) : Type 0 where
+  pub together : Within (2 ^ 55) walk.fit.together
+  pub right : Within (2 ^ 55) walk.fit.right
+  pub further : Within (2 ^ 55) walk.further
+  pub more : Within (2 ^ 55) walk.more
+  pub bend : Within (2 ^ 55) walk.bend

@@ -1,9 +1,9 @@
 -- Samples made small.
 use Rattle.std.specs.Prelude.{◌≡◌, ℕ, ◌<◌, ◌≤◌, ◌-◌, ◌/◌, ◌^◌, ◌++◌, nat_lt, min, List, unwrap_or}
-use Rattle.std.specs.Prelude.{slice_index, ℤ, pos, neg_ℤ}
+use Rattle.std.specs.Prelude.{Some, slice_index, unsigned_abs, ℤ, pos, neg_ℤ}
 use Rattle.std.specs.List.{All, Contains, find, list_all, range_with_len, reduce}
 use Rattle.sgm_base.specs.Ranges.{IsFromTo}
-use Rattle.sgm_fine.specs.Samples.{Centre, half, lefts, rights}
+use Rattle.sgm_fine.specs.Samples.{Centre, half, left_at, lefts, right_at, rights}
 use Rattle.sgm_fine.specs.Windows.{IsPadded, number}
 use Rattle.sgm_fine.specs.declared.samples.Window.{Window}
 use Rattle.sgm_fine.specs.declared.small.SmallWindow.{SmallWindow}
@@ -56,6 +56,16 @@ pub record HoldsSmall (found : SmallWindow) (window : Window) : Type 0 where
       ≡ small 4096 (window.after ++ window.here ++ window.before) window.here k
   pub before : (k : ℕ) → k < PLACES → number found.before k
       ≡ small 4096 (window.after ++ window.here ++ window.before) window.before k
+
+-- what the code holds of a small window whose numbers are a pixel's samples as they are
+pub record HoldsWhole (found : SmallWindow) (p : Centre) : Type 0 where
+  pub left : (k : ℕ) → k < PLACES → left_at p k ≡ Some (unsigned_abs (number found.left k))
+  pub after : (k : ℕ) → k < PLACES → right_at p half k
+      ≡ Some (unsigned_abs (number found.after k))
+  pub here : (k : ℕ) → k < PLACES → right_at p (pos 0) k
+      ≡ Some (unsigned_abs (number found.here k))
+  pub before : (k : ℕ) → k < PLACES → right_at p (neg_ℤ half) k
+      ≡ Some (unsigned_abs (number found.before k))
 
 -- what a window made small keeps
 pub record IsSmall (found : SmallWindow) : Type 0 where

@@ -1,6 +1,7 @@
 //! The pixels around another one.
 
-ghost use Rattle.std.specs.Prelude.{◌≡◌, true, ℕ, ◌+◌, ◌*◌, ◌^◌, ◌<◌, ◌≤◌};
+ghost use Rattle.std.specs.Prelude.{◌≡◌, true, ℕ, ◌+◌, ◌*◌, ◌^◌, ◌<◌, ◌≤◌, None, length};
+ghost use Rattle.std.specs.Prelude.{slice_index_or};
 ghost use Rattle.sgm_base.specs.Values.{value_at};
 ghost use Rattle.sgm_fine.specs.Windows.{HoldsWindow, value_around};
 
@@ -64,6 +65,18 @@ impl<'a> Field<'a> {
         self.entries[y * self.width + x]
     }
 
+    /// The values of a row.
+    #[inline]
+    pub(crate) fn row(&self, y: usize) -> &[Option<u16>]
+        requires { y < self.now.height }
+        ensures each { (x : ℕ) → x < self.now.width
+            → slice_index_or result.now x None ≡ value_at self.now x y }
+        ensures whole { length result.now ≡ self.now.width }
+        ensures few { self.now.width ≤ 4096 }
+    {
+        &self.entries[y * self.width..(y + 1) * self.width]
+    }
+
     /// The value of the pixel (x, y), none where it is void or outside.
     #[inline]
     pub(crate) fn at(&self, x: usize, y: usize) -> Option<u16>
@@ -102,17 +115,30 @@ impl<'a> Field<'a> {
         self.inner(x + i - 2, y + j - 2)
     }
 
+    /// Whether all of the square that reaches so far around a pixel lies inside.
+    #[inline]
+    pub(crate) fn has_square(&self, reach: usize, x: usize, y: usize) -> bool
+        requires reach { reach < 2 ^ 15 }
+        requires pixel { (x < 2 ^ 15) × (y < 2 ^ 15) }
+        ensures columns { result ≡ true → (reach ≤ x) × (x + reach < self.now.width) }
+        ensures rows { result ≡ true → (reach ≤ y) × (y + reach < self.now.height) }
+        ensures near { result ≡ true → x + reach < 4096 }
+    {
+        reach <= x && reach <= y && x + reach < self.width && y + reach < self.height
+    }
+
     /// Whether all of the window around a pixel lies inside.
     #[inline]
     pub(crate) fn has_window(&self, x: usize, y: usize) -> bool
         requires pixel { (x < 2 ^ 15) × (y < 2 ^ 15) }
         ensures columns { result ≡ true → (2 ≤ x) × (x + 2 < self.now.width) }
         ensures rows { result ≡ true → (2 ≤ y) × (y + 2 < self.now.height) }
+        ensures near { result ≡ true → x + 2 < 4096 }
     {
-        2 <= x && 2 <= y && x + 2 < self.width && y + 2 < self.height
+        self.has_square(2, x, y)
     }
 
-    /// Whether all rows of such a window lie inside.
+    /// Whether all rows of a window around a pixel lie inside.
     #[inline]
     pub(crate) fn has_rows(&self, y: usize) -> bool
         requires pixel { y < 2 ^ 15 }
@@ -125,38 +151,34 @@ impl<'a> Field<'a> {
     #[inline]
     pub(crate) fn width(&self) -> usize
         ensures value { result ≡ self.now.width }
-        ensures small { result < 2 ^ 16 }
+        ensures small { result ≤ 4096 }
     {
         self.width
     }
 
-    /// The values of the window around a pixel, where all of it lies inside.
+    /// Gathers the values of the window around a pixel, where all of it lies inside.
     #[inline]
-    fn window_inside(&self, x: usize, y: usize) -> Window
+    fn gather_inside(&self, x: usize, y: usize, window: &mut Window)
         requires pixel { (x < 2 ^ 15) × (y < 2 ^ 15) }
         requires columns { (2 ≤ x) × (x + 2 < self.now.width) }
         requires rows { (2 ≤ y) × (y + 2 < self.now.height) }
-        ensures { HoldsWindow result self.now x y }
+        ensures { HoldsWindow window.new self.now x y }
     {
-        let mut window = [None; PLACES];
         for j in 0..SIDE {
-            for i in 0..SIDE {
-                window[SIDE * j + i] = self.inner(x + i - 2, y + j - 2);
-            }
+            let at = (y + j - 2) * self.width + x - 2;
+            window[SIDE * j..SIDE * (j + 1)].copy_from_slice(&self.entries[at..at + SIDE]);
         }
-        window
     }
 
     /// The same where some of it may lie outside.
-    fn window_across(&self, x: usize, y: usize) -> Window
+    #[inline(never)]
+    fn gather_across(&self, x: usize, y: usize, window: &mut Window)
         requires pixel { (x < 2 ^ 15) × (y < 2 ^ 15) }
-        ensures { HoldsWindow result self.now x y }
+        ensures { HoldsWindow window.new self.now x y }
     {
-        let mut window = [None; PLACES];
         for k in 0..PLACES {
             window[k] = self.around(2, x, y, k % SIDE, k / SIDE);
         }
-        window
     }
 
     /// The values of the window around the pixel (x, y), row by row, none for each that is void or
@@ -166,10 +188,12 @@ impl<'a> Field<'a> {
         requires pixel { (x < 2 ^ 15) × (y < 2 ^ 15) }
         ensures { HoldsWindow result self.now x y }
     {
+        let mut window = [None; PLACES];
         if self.has_window(x, y) {
-            self.window_inside(x, y)
+            self.gather_inside(x, y, &mut window);
         } else {
-            self.window_across(x, y)
+            self.gather_across(x, y, &mut window);
         }
+        window
     }
 }

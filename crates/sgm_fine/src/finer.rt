@@ -7,21 +7,20 @@ ghost use Rattle.sgm_base.specs.Disparities.{IsFirst};
 ghost use Rattle.sgm_base.specs.Ranges.{IsFromTo, Within};
 ghost use Rattle.sgm_base.specs.Values.{AtMost, value_at};
 ghost use Rattle.sgm_fine.specs.Finer.{ArePixelParts, AreSmallParts, best, finer_value, fits};
-ghost use Rattle.sgm_fine.specs.Finer.{place_score, tells};
-ghost use Rattle.sgm_fine.specs.Samples.{Centre, centre};
-ghost use Rattle.sgm_fine.specs.Scores.{AreParts, divided};
+ghost use Rattle.sgm_fine.specs.Bands.{HoldsBands};
+ghost use Rattle.sgm_fine.specs.Finer.{place_score, takes, tells};
+ghost use Rattle.sgm_fine.specs.Samples.{Centre, HoldsLie, IsLie, centre};
+ghost use Rattle.sgm_fine.specs.Scores.{AreParts, divided, score};
 
 use crate::around::Field;
-use crate::samples::{Pixel, samples_at};
-use crate::scores::{
-    Parts, Score, fit_at, is_greater, is_none, no_score, parts_of, score_of, window_sums,
-};
+use crate::band::{Bands, no_bands, pack_bands};
+use crate::samples::{Lie, Pixel, lie_of, samples_at};
+use crate::score::Score;
+use crate::scores::{Fit, Parts, advanced, fit_at, parts_of, walk_from, window_sums};
 use crate::slopes::slopes_at;
 use crate::small::small_window;
+use crate::whole::whole_window;
 use sgm_base::{DispMap, Plane, Span};
-
-/// The places that are tried, in the order in which the first of equal ones is taken.
-pub(crate) const ORDER: [i32; 17] = [0, -1, 1, -2, 2, -3, 3, -4, 4, -5, 5, -6, 6, -7, 7, -8, 8];
 
 /// A place and its score.
 #[derive(Clone, Copy)]
@@ -30,35 +29,40 @@ struct Choice {
     score: Score,
 }
 
-/// The score of the place `c`, 0 where its value isn't one from 0 to `most`.
+/// Whether the value of the place `c` is one from 0 to `most`.
 #[inline]
-fn score_at(parts: &Parts, m: u16, most: u16, c: i32) -> Score
-    requires parts { AreParts parts.now }
-    requires small { AreSmallParts parts.now }
-    requires place { Within 8 c }
-    ensures value { (p : Centre) → ArePixelParts parts.now p
-        → divided result ≡ (if fits most m c then place_score p c else 0) }
-    ensures some { 0 < result.part }
-    ensures within { 0 < divided result → IsFromTo (pos 0) (pos most) (pos m +ℤ c) }
+fn fits(m: u16, most: u16, c: i32) -> bool
+    requires { Within 8 c }
+    ensures { result ≡ fits most m c }
 {
     let value = i32::from(m) + c;
-    if value < 0 || i32::from(most) < value {
-        return no_score();
-    }
-    score_of(fit_at(parts, c))
+    0 <= value && value <= i32::from(most)
 }
 
-/// One of the places that are tried.
+/// The better one of a choice and of the place `c`, whose fit is given: the place only where its
+/// value is one from 0 to `most`, and its score is greater.
 #[inline]
-fn tried(k: usize) -> i32
-    requires { k < 17 }
-    ensures value { result ≡ slice_index_or ORDER k (pos 0) }
-    ensures near { Within 8 result }
+fn better(best: Choice, c: i32, fit: Fit, m: u16, most: u16) -> Choice
+    requires place { Within 8 c }
+    requires together { Within 2506140000 fit.together }
+    ensures place { result.place
+        ≡ (if takes most m c (score fit.together fit.right) (divided best.score) then c
+        else best.place) }
+    ensures score { divided result.score
+        ≡ (if takes most m c (score fit.together fit.right) (divided best.score)
+        then score fit.together fit.right else divided best.score) }
 {
-    ORDER[k]
+    if !fits(m, most, c) {
+        return best;
+    }
+    match Score::of(fit) {
+        Some(score) if score.is_greater(best.score) => Choice { place: c, score },
+        _ => best,
+    }
 }
 
-/// The place of the greatest score. `most` is the greatest value that there can be.
+/// The place of the greatest score, and of equal ones the first of 0, -1, 1, -2, 2 and so on to 8.
+/// `most` is the greatest value that there can be.
 fn best(parts: &Parts, m: u16, most: u16) -> Choice
     requires parts { AreParts parts.now }
     requires small { AreSmallParts parts.now }
@@ -66,21 +70,21 @@ fn best(parts: &Parts, m: u16, most: u16) -> Choice
         → most ≡ 16 * (count - 1) → result.place ≡ best count p }
     ensures score { (p : Centre) → ArePixelParts parts.now p
         → divided result.score ≡ place_score p result.place }
-    ensures some { 0 < result.score.part }
     ensures place { Within 8 result.place }
     ensures small { IsFromTo (pos 0) (pos 65535) (pos m +ℤ result.place) }
     ensures bound { m ≤ most → (pos m +ℤ result.place) ≤ℤ pos most }
 {
+    let mut after = walk_from(parts.here, parts.after);
+    let mut before = walk_from(parts.here, parts.before);
     let mut best = Choice {
         place: 0,
-        score: score_of(fit_at(parts, 0)),
+        score: Score::of(before.fit).unwrap_or(Score::zero()),
     };
-    for k in 1..17 {
-        let place = tried(k);
-        let score = score_at(parts, m, most, place);
-        if is_greater(score, best.score) {
-            best = Choice { place, score };
-        }
+    for n in 1..9 {
+        after = advanced(after);
+        before = advanced(before);
+        best = better(best, -n, after.fit, m, most);
+        best = better(best, n, before.fit, m, most);
     }
     best
 }
@@ -110,11 +114,10 @@ fn tells(parts: &Parts, best: Choice) -> bool
     requires parts { AreParts parts.now }
     requires small { AreSmallParts parts.now }
     requires place { Within 8 best.place }
-    requires some { 0 < best.score.part }
     ensures { (p : Centre) → ArePixelParts parts.now p
         → divided best.score ≡ place_score p best.place → result ≡ tells p best.place }
 {
-    if is_none(best.score) {
+    if best.score.is_zero() {
         return false;
     }
     let fit = fit_at(parts, best.place);
@@ -139,45 +142,65 @@ fn refined(parts: &Parts, m: u16, most: u16) -> u16
     }
 }
 
-/// What the values of a map are made finer by: the planes, the map as it was before, the first
-/// disparity, and the greatest value that there can be.
+/// What the values of a row of a map are made finer by: the planes, their rows around it, packed,
+/// the map as it was before, the first disparity, and the greatest value that there can be.
 #[derive(Drop)]
 pub(crate) struct Ground<'a> {
     left: Field<'a>,
     right: Field<'a>,
+    bands: &'a Bands,
     map: Field<'a>,
     first: i32,
     most: u16,
 }
 
+/// The finer value of the pixel `at`, whose window lies so, by its samples made small.
+fn by_samples(ground: &Ground, at: Pixel, lie: &Lie) -> u16
+    requires pixel { (at.x < 2 ^ 15) × (at.y < 2 ^ 15) }
+    requires lie { IsLie lie.now }
+    ensures value { (count : ℕ) → ground.now.most ≡ 16 * (count - 1)
+        → HoldsLie lie.now
+        (centre ground.now.left ground.now.right ground.now.map at.first at.x at.y at.value)
+        → result ≡ finer_value count
+        (centre ground.now.left ground.now.right ground.now.map at.first at.x at.y at.value) }
+    ensures bound { at.value ≤ ground.now.most → result ≤ ground.now.most }
+{
+    match samples_at(&ground.left, &ground.right, at, lie) {
+        None => at.value,
+        Some(window) => refined(
+            &parts_of(&window_sums(&small_window(&window))),
+            at.value,
+            ground.most,
+        ),
+    }
+}
+
 /// The finer value of the pixel (x, y), whose value is `m`.
 fn finer_at(ground: &Ground, x: usize, y: usize, m: u16) -> u16
     requires pixel { (x < 2 ^ 15) × (y < 2 ^ 15) × IsFirst ground.now.first }
+    requires bands { HoldsBands ground.now.bands.now ground.now.left ground.now.right y }
     ensures value { (count : ℕ) → ground.now.most ≡ 16 * (count - 1) → result
         ≡ finer_value count
         (centre ground.now.left ground.now.right ground.now.map ground.now.first x y m) }
     ensures bound { m ≤ ground.now.most → result ≤ ground.now.most }
 {
-    let slopes = slopes_at(&ground.map, x, y, m);
     let at = Pixel {
         x,
         y,
         value: m,
         first: ground.first,
     };
-    match samples_at(&ground.left, &ground.right, at, slopes) {
-        None => m,
-        Some(window) => refined(
-            &parts_of(&window_sums(&small_window(&window))),
-            m,
-            ground.most,
-        ),
+    let lie = lie_of(at, slopes_at(&ground.map, x, y, m));
+    match whole_window(&ground.left, &ground.right, ground.bands, at, &lie) {
+        None => by_samples(ground, at, &lie),
+        Some(window) => refined(&parts_of(&window_sums(&window)), m, ground.most),
     }
 }
 
 /// The finer value of the pixel (x, y), none where it is void.
 fn finer_pixel(ground: &Ground, x: usize, y: usize) -> Option<u16>
     requires pixel { (x < 2 ^ 15) × (y < 2 ^ 15) × IsFirst ground.now.first }
+    requires bands { HoldsBands ground.now.bands.now ground.now.left ground.now.right y }
     ensures value { (count : ℕ) → ground.now.most ≡ 16 * (count - 1) → result ≡ option_map
         (λ value. finer_value count
         (centre ground.now.left ground.now.right ground.now.map ground.now.first x y value))
@@ -216,10 +239,15 @@ pub fn finer_row(
     ensures bound { AtMost (16 * (span.count - 1)) map.now.entries
         → AtMost (16 * (span.count - 1)) into.new }
 {
+    let map = Field::of_map(map);
+    let (left, right) = (Field::of_plane(left), Field::of_plane(right));
+    let mut bands = no_bands();
+    pack_bands(&left, &right, y as usize, &mut bands);
     let ground = Ground {
-        left: Field::of_plane(left),
-        right: Field::of_plane(right),
-        map: Field::of_map(map),
+        left,
+        right,
+        bands: &bands,
+        map,
         first: span.first,
         most: (16 * (span.count - 1)) as u16,
     };

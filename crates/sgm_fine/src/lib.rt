@@ -4,14 +4,17 @@
 #![tactic(auto)]
 
 mod around;
+mod band;
 mod finer;
 pub mod laws;
 mod means;
 mod samples;
+mod score;
 mod scores;
 mod slopes;
 mod small;
 mod sums;
+mod whole;
 
 pub use finer::finer_row;
 pub use means::mean_row;

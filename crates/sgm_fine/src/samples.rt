@@ -235,7 +235,7 @@ fn columns_of(at: Pixel, across: &[i32; SIDE]) -> [i32; SIDE]
 
 /// Where the window of a pixel lies.
 #[inline]
-fn lie_of(at: Pixel, slopes: Slopes) -> Lie
+pub(crate) fn lie_of(at: Pixel, slopes: Slopes) -> Lie
     requires pixel { (at.x < 2 ^ 15) × IsFirst at.first }
     requires slopes { IsSlope slopes.across × IsSlope slopes.down }
     ensures holds { (p : Centre) → p.x ≡ at.x → p.value ≡ at.value → p.first ≡ at.first
@@ -346,7 +346,7 @@ fn spans(first: i64, last: i64, width: usize) -> bool
 
 /// Whether a window lies where a right row of so many columns has all that is needed of it.
 #[inline]
-fn lies_inside(lie: &Lie, width: usize) -> bool
+pub(crate) fn lies_inside(lie: &Lie, width: usize) -> bool
     requires { width < 2 ^ 16 }
     ensures { result ≡ true → LiesInside lie.now width }
 {
@@ -422,21 +422,22 @@ fn samples_across(left: &Field, right: &Field, at: Pixel, lie: &Lie) -> Option<W
 }
 
 /// The samples of a window; none where a pixel that is needed is void or outside.
-pub(crate) fn samples_at(left: &Field, right: &Field, at: Pixel, slopes: Slopes) -> Option<Window>
-    requires pixel { (at.x < 2 ^ 15) × (at.y < 2 ^ 15) × IsFirst at.first }
-    requires slopes { IsSlope slopes.across × IsSlope slopes.down }
-    ensures none { (map : Values) → HoldsSlopes slopes (step_at map at.x at.y at.value)
+pub(crate) fn samples_at(left: &Field, right: &Field, at: Pixel, lie: &Lie) -> Option<Window>
+    requires pixel { (at.x < 2 ^ 15) × (at.y < 2 ^ 15) }
+    requires lie { IsLie lie.now }
+    ensures none { (map : Values)
+        → HoldsLie lie.now (centre left.now right.now map at.first at.x at.y at.value)
         → is_some result ≡ has_all (centre left.now right.now map at.first at.x at.y at.value) }
-    ensures some { (map : Values) → HoldsSlopes slopes (step_at map at.x at.y at.value)
+    ensures some { (map : Values)
+        → HoldsLie lie.now (centre left.now right.now map at.first at.x at.y at.value)
         → IfSome result
         (λ w. HoldsSamples w (centre left.now right.now map at.first at.x at.y at.value)) }
     ensures small { IfSome result IsWindow }
 {
-    let lie = lie_of(at, slopes);
     let inside = left.has_window(at.x, at.y) && right.has_rows(at.y);
-    if inside && lies_inside(&lie, right.width()) {
-        samples_inside(left, right, at, &lie)
+    if inside && lies_inside(lie, right.width()) {
+        samples_inside(left, right, at, lie)
     } else {
-        samples_across(left, right, at, &lie)
+        samples_across(left, right, at, lie)
     }
 }

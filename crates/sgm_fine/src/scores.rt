@@ -1,11 +1,11 @@
 //! How well the right window explains the left one at each of seventeen places.
 
 ghost use Rattle.std.specs.Prelude.{◌≡◌, ℕ, ◌<◌, ◌≤◌, ◌-◌, ◌*◌, ◌^◌, ℤ, pos, ◌+ℤ◌, ◌-ℤ◌, ◌*ℤ◌};
-ghost use Rattle.std.specs.Prelude.{◌==◌, nat_lt, if◌then◌else◌, int_lt};
+ghost use Rattle.std.specs.Prelude.{◌+◌, if◌then◌else◌, int_lt};
 ghost use Rattle.sgm_base.specs.Ranges.{IsFromTo, Within};
 ghost use Rattle.sgm_fine.specs.Scores.{AreParts, HoldsPart, HoldsParts, HoldsSide, HoldsSums};
-ghost use Rattle.sgm_fine.specs.Scores.{IsFitOf, IsPart, IsSums, blended, covariance, divided};
-ghost use Rattle.sgm_fine.specs.Scores.{score};
+ghost use Rattle.sgm_fine.specs.Scores.{HoldsWalk, IsFitOf, IsPart, IsSums, IsWalk, blended};
+ghost use Rattle.sgm_fine.specs.Scores.{covariance};
 ghost use Rattle.sgm_fine.specs.Small.{IsSmall};
 ghost use Rattle.sgm_fine.specs.Windows.{IsPadded, number, over, products};
 
@@ -59,21 +59,15 @@ pub(crate) struct Fit {
     pub(crate) right: i64,
 }
 
-/// The score of a place before it is divided out: the square of how both vary together, over the
-/// 256th part of how the right ones vary; 0 / 1 where there is none.
+/// A walk over the places on one side of the pixel's own: the fit at the place that is reached, and
+/// what the next one adds. How both vary together grows by the same at each place; how the right
+/// ones vary grows by a number that itself grows by the same.
 #[derive(Clone, Copy)]
-pub(crate) struct Score {
-    pub(crate) square: u64,
-    pub(crate) part: u64,
-}
-
-/// The score 0.
-#[inline]
-pub(crate) fn no_score() -> Score
-    ensures value { divided result ≡ 0 }
-    ensures some { 0 < result.part }
-{
-    Score { square: 0, part: 1 }
+pub(crate) struct Walk {
+    pub(crate) fit: Fit,
+    further: i64,
+    more: i64,
+    bend: i64,
 }
 
 /// Sums over the numbers of one offset.
@@ -214,54 +208,43 @@ pub(crate) fn fit_at(parts: &Parts, c: i32) -> Fit
     fit_between(parts.here, side_of(parts, c), c.unsigned_abs())
 }
 
-/// The score of a place.
+/// The walk from the pixel's own place, where it starts, to the offset of `side`.
 #[inline]
-pub(crate) fn score_of(fit: Fit) -> Score
-    requires { Within 2506140000 fit.together }
-    ensures value { divided result ≡ score fit.together fit.right }
-    ensures some { 0 < result.part }
+pub(crate) fn walk_from(here: Part, side: Part) -> Walk
+    requires here { IsPart here }
+    requires side { IsPart side }
+    ensures { (l h s : ℕ → ℤ) → HoldsPart here l h h → HoldsPart side l h s
+        → HoldsWalk result l h s 0 }
 {
-    if fit.together <= 0 || fit.right < 256 {
-        return no_score();
-    }
-    let together = fit.together as u64;
-    Score {
-        square: together * together,
-        part: fit.right as u64 / 256,
+    // How the distances from the numbers here to those there vary: with the numbers here, and by
+    // themselves.
+    let with_here = side.cross - here.own;
+    let alone = side.own - side.cross - with_here;
+    Walk {
+        fit: Fit {
+            together: 8 * here.left,
+            right: 64 * here.own,
+        },
+        further: side.left - here.left,
+        more: 16 * with_here + alone,
+        bend: 2 * alone,
     }
 }
 
-/// Whether a score is 0.
+/// The walk one place further.
 #[inline]
-pub(crate) fn is_none(score: Score) -> bool
-    requires { 0 < score.part }
-    ensures { result ≡ (divided score == 0) }
+pub(crate) fn advanced(walk: Walk) -> Walk
+    requires { IsWalk walk }
+    ensures { (l h s : ℕ → ℤ) (n : ℕ) → n < 8 → HoldsWalk walk l h s n
+        → HoldsWalk result l h s (n + 1) }
 {
-    score.square < score.part
-}
-
-/// The product of two numbers.
-#[inline]
-fn wide(a: u64, b: u64) -> u128
-    ensures { result ≡ a * b }
-{
-    u128::from(a) * u128::from(b)
-}
-
-/// Whether a score is greater than another one. Nearly always products tell that, and nothing is
-/// divided.
-#[inline]
-pub(crate) fn is_greater(score: Score, other: Score) -> bool
-    requires parts { (0 < score.part) × (0 < other.part) }
-    ensures { result ≡ nat_lt (divided other) (divided score) }
-{
-    let mine = wide(score.square, other.part);
-    let others = wide(other.square, score.part);
-    if mine <= others {
-        return false;
+    Walk {
+        fit: Fit {
+            together: walk.fit.together + walk.further,
+            right: walk.fit.right + walk.more,
+        },
+        further: walk.further,
+        more: walk.more + walk.bend,
+        bend: walk.bend,
     }
-    if wide(score.part, other.part) <= mine - others {
-        return true;
-    }
-    other.square / other.part < score.square / score.part
 }

@@ -1,26 +1,28 @@
 //! How the values of a map rise around a pixel.
 
-ghost use Rattle.std.specs.Prelude.{◌≡◌, ℕ, ◌+◌, ◌*◌, ◌^◌, ◌<◌, ℤ, pos, neg_ℤ, ◌-ℤ◌, ◌*ℤ◌};
+ghost use Rattle.std.specs.Prelude.{◌≡◌, ℕ, ◌+◌, ◌*◌, ◌^◌, ◌<◌, ℤ, pos, neg_ℤ, ◌+ℤ◌, ◌-ℤ◌, ◌*ℤ◌};
 ghost use Rattle.std.specs.Prelude.{IfSome, unwrap_or, is_some, if◌then◌else◌};
 ghost use Rattle.std.specs.Ordering.{int_eq};
 ghost use Rattle.sgm_base.specs.Ranges.{IsFromTo, Within};
 ghost use Rattle.sgm_base.specs.Rounding.{rounded};
-ghost use Rattle.sgm_fine.specs.Slopes.{HoldsSlopes, IsSlope, moment, spread, step_at, step_to};
-ghost use Rattle.sgm_fine.specs.Windows.{IsPadded, column_of, number, products, row_of_place};
+ghost use Rattle.sgm_fine.specs.Slopes.{HoldsSlopes, IsSlope, step_at, step_to};
+ghost use Rattle.sgm_fine.specs.Windows.{number};
 
 use crate::around::Field;
-use crate::sums::{Numbers, PLACES, SIDE, products_of, zeros};
+use crate::sums::{PLACES, SIDE, product};
 
 /// The greatest step from a pixel's value to one that still belongs to its surface, in sixteenths.
 pub(crate) const REACH: u16 = 32;
 
-/// The steps from a pixel's value to those around it, and a 1 where there is one; 0 where there is
-/// none.
-#[derive(Clone, Copy)]
-struct Steps {
-    steps: Numbers,
-    marks: Numbers,
-}
+/// The columns of a window's pixels, from that of the middle.
+const COLUMNS: [i16; PLACES] = [
+    -2, -1, 0, 1, 2, -2, -1, 0, 1, 2, -2, -1, 0, 1, 2, -2, -1, 0, 1, 2, -2, -1, 0, 1, 2,
+];
+
+/// Their rows.
+const ROWS: [i16; PLACES] = [
+    -2, -2, -2, -2, -2, -1, -1, -1, -1, -1, 0, 0, 0, 0, 0, 1, 1, 1, 1, 1, 2, 2, 2, 2, 2,
+];
 
 /// How the values rise along an axis: the sum of the steps, each by its distance, and that of the
 /// squares of the distances.
@@ -53,85 +55,21 @@ pub(crate) fn step_to(most: u16, m: u16, value: Option<u16>) -> Option<i16>
     }
 }
 
-/// The steps of the pixels around (x, y), whose value is `m`.
+/// A slope with the step to one more pixel, so far from the middle along the axis, where there is
+/// one. Nothing branches, so that the compiler puts pixels into lanes.
 #[inline]
-fn steps_around(map: &Field, x: usize, y: usize, m: u16) -> Steps
-    requires pixel { (x < 2 ^ 15) × (y < 2 ^ 15) }
-    ensures steps { (k : ℕ) → k < PLACES → number result.steps k
-        ≡ unwrap_or (step_at map.now x y m k) (pos 0) }
-    ensures marks { (k : ℕ) → k < PLACES → number result.marks k
-        ≡ (if is_some (step_at map.now x y m k) then pos 1 else pos 0) }
-    ensures padded { IsPadded result.steps × IsPadded result.marks }
+fn with_step(slope: Slope, distance: i16, step: Option<i16>) -> Slope
+    requires slope { IsSlope slope }
+    requires distance { Within 2 distance }
+    requires step { IfSome step (Within 32) }
+    ensures moment { result.moment ≡ slope.moment +ℤ (distance *ℤ unwrap_or step (pos 0)) }
+    ensures spread { result.spread ≡ slope.spread
+        +ℤ ((distance *ℤ distance) *ℤ (if is_some step then pos 1 else pos 0)) }
 {
-    let mut found = Steps {
-        steps: zeros(),
-        marks: zeros(),
-    };
-    let window = map.window(x, y);
-    for k in 0..PLACES {
-        let step = step_to(REACH, m, window[k]);
-        found.steps[k] = step.unwrap_or(0);
-        found.marks[k] = i16::from(step.is_some());
-    }
-    found
-}
-
-/// The columns of a window's pixels, from that of the middle.
-#[inline]
-fn columns() -> Numbers
-    ensures each { (k : ℕ) → k < PLACES → number result k ≡ column_of k }
-    ensures padded { IsPadded result }
-{
-    let mut columns = zeros();
-    for k in 0..PLACES {
-        columns[k] = (k % 5) as i16 - 2;
-    }
-    columns
-}
-
-/// Their rows.
-#[inline]
-fn rows() -> Numbers
-    ensures each { (k : ℕ) → k < PLACES → number result k ≡ row_of_place k }
-    ensures padded { IsPadded result }
-{
-    let mut rows = zeros();
-    for k in 0..PLACES {
-        rows[k] = (k / 5) as i16 - 2;
-    }
-    rows
-}
-
-/// The squares of distances.
-#[inline]
-fn squares(axis: &Numbers) -> Numbers
-    requires { (k : ℕ) → k < PLACES → Within 2 (number axis.now k) }
-    ensures each { (k : ℕ) → k < PLACES
-        → number result k ≡ (number axis.now k *ℤ number axis.now k) }
-    ensures padded { IsPadded result }
-{
-    let mut squares = zeros();
-    for k in 0..PLACES {
-        squares[k] = axis[k] * axis[k];
-    }
-    squares
-}
-
-/// The slope along an axis.
-#[inline]
-fn slope_along(axis: &Numbers, found: &Steps) -> Slope
-    requires axis { (k : ℕ) → k < PLACES → Within 2 (number axis.now k) }
-    requires steps { (k : ℕ) → k < PLACES → Within 32 (number found.now.steps k) }
-    requires marks { (k : ℕ) → k < PLACES → IsFromTo (pos 0) (pos 1) (number found.now.marks k) }
-    requires padded { IsPadded axis.now × IsPadded found.now.steps × IsPadded found.now.marks }
-    ensures moment { result.moment ≡ products (number axis.now) (number found.now.steps) }
-    ensures spread { result.spread
-        ≡ products (λ k. number axis.now k *ℤ number axis.now k) (number found.now.marks) }
-    ensures kept { IsSlope result }
-{
+    let square = product(distance, distance);
     Slope {
-        moment: products_of(axis, &found.steps),
-        spread: products_of(&squares(axis), &found.marks),
+        moment: slope.moment + product(distance, step.unwrap_or(0)),
+        spread: slope.spread + if step.is_some() { square } else { 0 },
     }
 }
 
@@ -141,11 +79,18 @@ pub(crate) fn slopes_at(map: &Field, x: usize, y: usize, m: u16) -> Slopes
     ensures holds { HoldsSlopes result (step_at map.now x y m) }
     ensures kept { IsSlope result.across × IsSlope result.down }
 {
-    let found = steps_around(map, x, y, m);
-    Slopes {
-        across: slope_along(&columns(), &found),
-        down: slope_along(&rows(), &found),
+    let window = map.window(x, y);
+    let level = Slope {
+        moment: 0,
+        spread: 0,
+    };
+    let (mut across, mut down) = (level, level);
+    for k in 0..PLACES {
+        let step = step_to(REACH, m, window[k]);
+        across = with_step(across, COLUMNS[k], step);
+        down = with_step(down, ROWS[k], step);
     }
+    Slopes { across, down }
 }
 
 /// How far values rise over a distance, and over the same backwards.

@@ -26,7 +26,7 @@ pub(crate) fn zeros() -> Numbers
 
 /// The product of two numbers.
 #[inline]
-fn product(a: i16, b: i16) -> i32
+pub(crate) fn product(a: i16, b: i16) -> i32
     requires a_small { Within 4096 a }
     requires b_small { Within 4096 b }
     ensures value { result ≡ a *ℤ b }

@@ -1,21 +1,19 @@
-use Rattle.std.proofs.Common.{◌≡◌, ◌<◌, ◌≤◌, ◌≤ℤ◌, pos, ◌+ℤ◌}
-use Rattle.sgm_base.specs.Ranges.{Within}
+use Rattle.std.proofs.Common.{◌+◌, ◌-◌, ◌*◌, ◌≤ℤ◌, pos, unsigned_abs}
 use Rattle.sgm_fine.specs.Finer.{ArePixelParts, fits, place_score}
 use Rattle.sgm_fine.specs.Samples.{Centre}
-use Rattle.sgm_fine.specs.Scores.{divided}
-use Rattle.sgm_fine.specs.declared.finer.TheConstants.{ORDER}
-use Rattle.sgm_fine.proofs.PlaceTests.{best_below}
+use Rattle.sgm_fine.specs.Scores.{HoldsParts, HoldsWalk, divided}
+use Rattle.sgm_fine.specs.Windows.{number}
+use Rattle.sgm_fine.specs.declared.small.SmallWindow.{SmallWindow}
+use Rattle.sgm_fine.proofs.PlaceTests.{IsBest, IsNear}
 use Rattle.sgm_fine.proofs.finer.best.Given as goal
 
--- the places before this one are tried
-abbrev pub invariant-loop-k : goal.invariant-loop-k
-invariant-loop-k l = record {
-  some : 1 ≤ l.k;
-  few : l.k ≤ 17;
-  part : 0 < l.best.score.part;
-  place : Within 8 l.best.place;
-  low : pos 0 ≤ℤ (pos l.m +ℤ l.best.place);
-  high : (pos l.m +ℤ l.best.place) ≤ℤ pos 65535;
-  bound : l.m ≤ l.most → (pos l.m +ℤ l.best.place) ≤ℤ pos l.most;
-  held : (p : Centre) → ArePixelParts l.parts p → (l.best.place ≡ best_below (fits l.most l.m) (place_score p) ORDER l.k) × (divided l.best.score ≡ place_score p l.best.place);
+-- the places nearer than this one are tried
+abbrev pub invariant-loop-n : goal.invariant-loop-n
+invariant-loop-n l = record {
+  some : pos 1 ≤ℤ l.n;
+  few : l.n ≤ℤ pos 9;
+  near : IsNear l.most l.m l.best.place;
+  after : (w : SmallWindow) → HoldsParts l.parts w → HoldsWalk l.after (number w.left) (number w.here) (number w.after) (unsigned_abs l.n - 1);
+  before : (w : SmallWindow) → HoldsParts l.parts w → HoldsWalk l.before (number w.left) (number w.here) (number w.before) (unsigned_abs l.n - 1);
+  held : (p : Centre) → ArePixelParts l.parts p → IsBest (fits l.most l.m) (place_score p) (2 * (unsigned_abs l.n - 1) + 1) l.best.place (divided l.best.score);
 }

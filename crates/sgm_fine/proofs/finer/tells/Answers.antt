@@ -7,10 +7,10 @@ use Rattle.sgm_fine.proofs.PixelSums.{by_itself_is, fit_kept, left_alone_is, lef
 use Rattle.sgm_fine.proofs.PlaceTests.{explained}
 use Rattle.sgm_fine.proofs.finer.tells.Goals as goal
 
-pub returns-then-is_none : goal.returns-then-is_none
-returns-then-is_none c = λ p h held.
+pub returns-then-is_zero : goal.returns-then-is_zero
+returns-then-is_zero c = λ p h held.
     let place = c.args.best.place in
-    let none : true ≡ (place_score p place == 0) = sym c.if-is_none.true ∙ c.is_none.ensures ∙ ap (λ n. n == 0) held in
+    let none : true ≡ (place_score p place == 0) = sym c.if-is_zero.true ∙ c.is_zero.ensures ∙ ap (λ n. n == 0) held in
     ap (λ b. not b && explains (with_left p place) (left_alone p) (by_itself p place)) none
 
 pub third-requires-clause-left : goal.third-requires-clause-left
@@ -55,7 +55,7 @@ returns c = λ p h held.
     let square : to_z w64 (of_z w64 c.square.result) ≡ c.square.result = omega (arith, ints, c.square.type_inv) in
     let a = third ∙ c.third.ensures ∙ ap₂ (λ y z. pos ((unsigned_abs y * unsigned_abs z + 2) / 3)) (left ∙ l) (right ∙ r) in
     let b = square ∙ c.square.ensures ∙ ap (λ z. pos (unsigned_abs z * unsigned_abs z)) (together ∙ t) in
-    let some : (place_score p place == 0) ≡ false = sym (c.is_none.ensures ∙ ap (λ n. n == 0) held) ∙ c.if-is_none.false in
+    let some : (place_score p place == 0) ≡ false = sym (c.is_zero.ensures ∙ ap (λ n. n == 0) held) ∙ c.if-is_zero.false in
     ap₂ int_le a b
     ∙ explained (with_left p place) (left_alone p) (by_itself p place) _ _ (subst (λ z. pos 0 ≤ℤ z) l lr.0) (subst (λ z. pos 0 ≤ℤ z) r rr.0) refl refl
     ∙ sym (ap (λ n. not n && explains (with_left p place) (left_alone p) (by_itself p place)) some)

@@ -1,18 +1,8 @@
-use Rattle.std.proofs.Common.{◌≡◌, ℕ, ◌-◌, ◌*◌, ◌≤◌, ℤ, pos, ◌+ℤ◌, ◌-ℤ◌, ◌*ℤ◌, FitsSigned, to_z, of_z, w64, arith, ap, ap₂, subst, sym, ◌∙◌}
-use Rattle.std.proofs.Math.IntN.{*ℤ_comm}
+use Rattle.std.proofs.Common.{◌≡◌, ℕ, ◌-◌, ◌*◌, ◌≤◌, ℤ, pos, ◌+ℤ◌, ◌-ℤ◌, ◌*ℤ◌, FitsSigned, to_z, of_z, w64, arith, subst, sym}
 use Rattle.std.proofs.lemmas.Int.{ints}
 use Rattle.sgm_base.specs.Ranges.{Within}
-use Rattle.sgm_fine.proofs.Products.{times_difference}
-use Rattle.sgm_fine.proofs.SideSums.{eighths_within, of_eight, wide_product}
+use Rattle.sgm_fine.proofs.SideSums.{eighths_within, of_eight, stepped, wide_product}
 use Rattle.sgm_fine.proofs.scores.blend.Goals as goal
-
--- so many eighths of the way from one number to another
-stepped : (n : ℕ) (h s : ℤ) → n ≤ 8 → (pos 8 *ℤ h) +ℤ (pos n *ℤ (s -ℤ h)) ≡ (pos (8 - n) *ℤ h) +ℤ (pos n *ℤ s)
-stepped n h s few =
-    let g : pos 8 -ℤ pos n ≡ pos (8 - n) = omega (arith, ints, few) in
-    let rest : (pos 8 *ℤ h) -ℤ (pos n *ℤ h) ≡ pos (8 - n) *ℤ h =
-    ap₂ (λ (y z : ℤ). y -ℤ z) (*ℤ_comm (pos 8) h) (*ℤ_comm (pos n) h) ∙ sym (times_difference h (pos 8) (pos n)) ∙ ap (λ z. h *ℤ z) g ∙ *ℤ_comm h (pos (8 - n)) in
-    omega (arith, ints, times_difference (pos n) s h, rest)
 
 -- the way between two numbers, and so many times that, as the code computes them
 wide : (h s : ℤ) → Within 36028797018963968 h → Within 36028797018963968 s → Within 72057594037927936 (s -ℤ h)
