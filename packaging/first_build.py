@@ -7,8 +7,7 @@ For example: packaging/first_build.py sgm sgm_cli -- demo 0. So packaging/launch
 ./sgm. In the crate's folder `rt all check --jobs N` proves the crates below it in N places: one
 and a half for each processor, since a crate keeps its place while it waits for those below it, and
 no more than memory allows. Each of these has one processor, so once those that are left stand one
-on the other it is ended, and `rt check` proves them one by one, on as many processors as it takes.
-Then `rt run` proves the crate itself, builds the program over that and starts it once, with the
+on the other it is ended, and `rt check --jobs N` proves them one by one, on all processors. Then `rt run` proves the crate itself, builds the program over that and starts it once, with the
 WORDs. A start after one that was stopped goes on from there.
 
 All that both say goes to crates/CRATE/out/build.txt. Standard error gets the progress: one line
@@ -229,12 +228,17 @@ def processors():
     return len(os.sched_getaffinity(0))
 
 
-def places():
-    """In how many places crates are proved."""
+def as_memory_allows(number):
+    """So many provers, or as many as there is memory for."""
     with open("/proc/meminfo", encoding="ascii") as file:
         free = re.search(r"^MemAvailable: *(\d+)", file.read(), re.M)
     most = int(free[1]) // PLACE if free else 1
-    return max(min(3 * processors() // 2, most), 1)
+    return max(min(number, most), 1)
+
+
+def places():
+    """In how many places crates are proved."""
+    return as_memory_allows(3 * processors() // 2)
 
 
 class Times:
@@ -395,10 +399,12 @@ def prove_side_by_side(listener, folder, log):
 
 
 def prove_one(listener, name, log):
-    """Proves a crate by itself, on as many processors as rt takes."""
+    """Proves a crate by itself, on all processors: rt would take those that it finds idle when it
+    begins, and something of the crate before may still be running then."""
     listener.at = name
     folder = os.path.join(TOP, "crates", name)
-    if run(["rt", "check"], folder, log, listener.hear, listener.teller.show):
+    command = ["rt", "check", "--jobs", str(as_memory_allows(processors()))]
+    if run(command, folder, log, listener.hear, listener.teller.show):
         raise Failed(f"not proved: {name}", listener.last(name))
     listener.end_of(name)
 
