@@ -298,7 +298,7 @@ d][*] in $repository with $tunables"
     is "standard error" "$(said "$err")" "$(plain_progress)"
     is "how rt was called" "$(sed 's/ --cpu x86-64-v3//; s/--jobs [1-9][0-9]*$/--jobs N/' calls)" \
         "in $repository/$crate: all check --jobs N
-in $repository/crates/middle: check
+in $repository/crates/middle: check --jobs N
 in $repository/$crate: run -- $trial"
     is "the lines of the check in the file" "$(grep -c "^checking middle, line" "$crate/out/build.txt")" 30
     is "the last line of the file" "$(tail -n 1 "$crate/out/build.txt")" "printed by rt"
