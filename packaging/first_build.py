@@ -7,8 +7,9 @@ For example: packaging/first_build.py sgm sgm_cli -- demo 0. So packaging/launch
 ./sgm. In the crate's folder `rt all check --jobs N` proves the crates below it in N places: one
 and a half for each processor, since a crate keeps its place while it waits for those below it, and
 no more than memory allows. Each of these has one processor, so once those that are left stand one
-on the other it is ended, and `rt check --jobs N` proves them one by one, on all processors. Then `rt run` proves the crate itself, builds the program over that and starts it once, with the
-WORDs. A start after one that was stopped goes on from there.
+on the other it is ended, and `rt check --jobs N` proves them one by one, on all processors as far
+as memory allows. Then `rt run` proves the crate itself, builds the program over that and starts it
+once, with the WORDs. A start after one that was stopped goes on from there.
 
 All that both say goes to crates/CRATE/out/build.txt. Standard error gets the progress: one line
 that is rewritten where it is a terminal, else a line for each crate when it ends. Nothing goes to
