@@ -2,8 +2,8 @@
 # Computes the definitions of specs/ on small arguments, by proofs that only compute, and compares them with
 # plain Python (definitions.py). Every page has to be proved; and with one false value on each page none may be.
 # Skipped where the toolchain (rt) isn't there. The programs take no part. The libraries that hold the definitions
-# are taken as the gate (.ci/run) passed them on this machine. Where it hasn't passed the same files they are proved
-# here first, which takes many minutes.
+# are taken as ./sgm proved them in this checkout, or else as the gate (.ci/run) passed them on this machine. Where
+# neither has proved the same files they are proved here first, which takes many minutes.
 #
 #     tests/definitions.sh
 set -u
@@ -12,8 +12,10 @@ set -u
 has rt || { echo "definitions: skipped: the toolchain's command rt isn't on the PATH"; exit 0; }
 crate=$work/crates/sgm_pages
 
-# A copy of the workspace, with one crate more: the pages.
-tar -C "$top" --exclude=must-fail --exclude=out -c crates crates.txt HANDLES |
+# A copy of the workspace, with one crate more: the pages. Of what was proved here it takes the libraries alone.
+proved=out
+[ ! -d "$top/crates/sgm_app/out/rlib" ] || proved=incremental
+tar -C "$top" --exclude=must-fail --exclude=$proved -c crates crates.txt HANDLES |
     tar -C "$work" -x || exit 1
 mkdir -p "$crate/src" "$crate/specs" "$crate/proofs" || exit 1
 printf '%s\n' '//! Cases of the definitions.' '#![tactic(auto)]' >"$crate/src/lib.rt"
@@ -21,9 +23,14 @@ printf '%s\n' '//! Cases of the definitions.' '#![tactic(auto)]' >"$crate/src/li
 libraries=$(sed -n 's/#.*//; s/:.*//p' "$work/crates.txt" | grep -vx -e 'sgm_.*cli' -e sgm_cases -e 'sgm_.*_tests' | tr '\n' ' ')
 echo "sgm_pages: serde_json $libraries" >>"$work/crates.txt"
 
-# Proves the pages. `rt ci` takes what it kept of the libraries, which `rt check` doesn't, and wants files that are
-# laid out; with names it isn't the gate, and so refuses to run where CI is set.
-prove() { (cd "$crate" && rt fmt && cd "$work" && env -u CI rt ci sgm_pages) >"$work/log" 2>&1; }
+# Proves the pages. `rt check` takes the libraries that stand beside them, and `rt ci` those that it kept. That wants
+# files that are laid out; with names it isn't the gate, and so refuses to run where CI is set.
+prove() {
+    (
+        cd "$crate" || exit 1
+        if [ $proved = out ]; then rt fmt && cd "$work" && env -u CI rt ci sgm_pages; else rt check; fi
+    ) >"$work/log" 2>&1
+}
 # The pages that weren't proved.
 unproved() {
     grep -o 'proofs/[A-Z][a-z]*\.antt:[0-9:]* error' "$work/log" |

@@ -1,7 +1,7 @@
 #!/usr/bin/env python3
 """Holds the program to the reference on random words, pictures and calibrations.
 
-    tests/random_cases.py [--seed S] [--cases N] [--case NUMBER] [--keep FOLDER] [--series]
+    tests/random_cases.py [--seed S] [--cases N] [--case NUMBER] [--keep FOLDER] [--series] [--jobs N]
 
 Each case is a folder of files and the words of a run. The program and the separate implementation
 (reference.py) run on a copy each, and everything has to be the same: the status, both streams, and all
@@ -24,12 +24,15 @@ that stands in the folder afterwards. The kinds of cases take turns:
     places        inputs and outputs that are absent, folders, links or devices.
 
 A case is made from the seed and its number alone, so --case runs it again. What differs is printed, and
-its folder stays: `given` before the runs, `program` and `reference` after them. The program is the one that
+its folder stays: `given` before the runs, `program` and `reference` after them. --jobs makes so many cases at once,
+whose lines may then come in another order. The program is the one that
 the variable SGM names (./sgm of this repository without it). With --series the cases are whole series, of up to 20
 entries, and the program is the one that SGM_SERIES names (./sgm_series without it).
 """
 
 import argparse
+import functools
+import multiprocessing
 import os
 import shlex
 import shutil
@@ -161,24 +164,40 @@ def keep(folder, name):
     return place
 
 
+def try_number(program, words, work, number):
+    """The number of a case, its kind, the reference's status, the lines on what differs, and where its folder stays."""
+    case = program.case_of(words.seed, number)
+    folder = words.keep or os.path.join(work, str(number))
+    status, lines = try_case(program, case, folder)
+    place = words.keep
+    if place is None:
+        place = keep(folder, f"{words.seed}.{number}") if lines else None
+        shutil.rmtree(folder)
+    return number, case.kind, status, lines, place
+
+
+def tried(program, words, work, numbers):
+    """What try_number gives of each number, made by as many processes as are asked for."""
+    one = functools.partial(try_number, program, words, work)
+    if words.jobs == 1:
+        yield from map(one, numbers)
+        return
+    with multiprocessing.Pool(words.jobs) as pool:
+        yield from pool.imap_unordered(one, numbers, chunksize=16)
+
+
 def try_cases(program, words):
     numbers = range(words.cases) if words.case is None else [words.case]
     statuses, differ, begin = {}, 0, time.monotonic()
     with tempfile.TemporaryDirectory(prefix="sgm-random_cases.") as work:
-        for number in numbers:
-            case = program.case_of(words.seed, number)
-            folder = words.keep or os.path.join(work, str(number))
-            status, lines = try_case(program, case, folder)
+        for number, kind, status, lines, place in tried(program, words, work, numbers):
             statuses[status] = statuses.get(status, 0) + 1
             if lines:
                 differ += 1
-                place = words.keep or keep(folder, f"{words.seed}.{number}")
-                print(f"random_cases: seed {words.seed}, case {number}, {case.kind}: kept in {place}")
+                print(f"random_cases: seed {words.seed}, case {number}, {kind}: kept in {place}")
                 print("".join(f"    {line}\n" for line in lines), end="", flush=True)
-            elif words.keep is None:
-                shutil.rmtree(folder)
             if words.verbose:
-                print(f"case {number}, {case.kind}: status {status}, {time.monotonic() - begin:.1f} s", flush=True)
+                print(f"case {number}, {kind}: status {status}, {time.monotonic() - begin:.1f} s", flush=True)
     by_status = ", ".join(f"{statuses[status]} of status {status}" for status in sorted(statuses))
     print(f"random_cases: seed {words.seed}: {len(numbers) - differ} the same, {differ} different ({by_status})")
     return 1 if differ else 0
@@ -211,10 +230,13 @@ def main():
     parser.add_argument("--case", type=natural, metavar="NUMBER", help="this case alone")
     parser.add_argument("--keep", metavar="FOLDER", help="where the folder of --case stays, a new one")
     parser.add_argument("--series", action="store_true", help="whole series, by the program sgm_series")
+    parser.add_argument("--jobs", type=natural, default=1, metavar="N", help="so many cases at once (1)")
     parser.add_argument("--verbose", action="store_true", help="a line for each case")
     words = parser.parse_args()
     if words.keep is not None and words.case is None:
         parser.error("--keep takes --case")
+    if words.jobs == 0:
+        parser.error("--jobs takes 1 or more")
     program = Series if words.series else Single
     try:
         if not runs(program):
