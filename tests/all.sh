@@ -84,6 +84,9 @@ survey_page         browser     tests/survey_page.py
 ends                program     tests/ends.sh
 series_ends         series      tests/series_ends.sh
 workers             program     tests/workers.sh
+builds              program     tests/builds.py
+hostile             program     tests/hostile.py
+hostile_series      series      tests/hostile.py --series
 random_cases        program     tests/random_cases.py --cases 400
 random_series       series      tests/random_cases.py --series --cases 400
 refused_allocations program,gcc tests/refused_allocations.sh

@@ -63,6 +63,24 @@ has_merge() {
     python3 -c 'import sys; sys.path.insert(0, sys.argv[1]); import reference_inputs as it; sys.exit(not it.HAS_MERGE)' "$here"
 }
 
+# write_third FOLDER: a new folder with the worked pair of version 3, everything on: warps, penalties that follow the
+# picture, finer disparities, a pose, means, bridges, regions with rises and an outline; and a list of two grids over
+# its cells.
+write_third() {
+    python3 - "$here" "$1" <<'END'
+import json, os, sys
+sys.path.insert(0, sys.argv[1])
+import hostile_calibrations as worked
+other = worked.asc([[1, None, 3]], west=worked.SIDES["west"] - 800)
+files = {**worked.FILES, "c.json": json.dumps(worked.ALL).encode()}
+files |= {"m.txt": b"e.asc\nl.asc\n", "e.asc": worked.ENTRY, "l.asc": other}
+os.mkdir(sys.argv[2])
+for name, data in files.items():
+    with open(os.path.join(sys.argv[2], name), "wb") as file:
+        file.write(data)
+END
+}
+
 # Opens a pipe that nobody reads any more, at the number in pipe.
 unread_pipe() {
     exec {pipe}> >(:)

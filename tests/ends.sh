@@ -1,7 +1,8 @@
 #!/usr/bin/env bash
 # Tries the program's ends from the shell: each case has a folder of its own with a small pair, a
 # calibration and one thing that is wrong, and asks for the status, the line on standard error, what
-# is on standard output, and exactly the files that stand afterwards, each output whole. The system's
+# is on standard output, and exactly the files that stand afterwards, each output whole. What the worked pair
+# of version 3 with everything on has to write, the separate implementation (reference.py) writes. The system's
 # own ends are among them: full disks (where small ones may be mounted), pipes that nobody reads, a file
 # whose length changes while it is read, and less and less memory. The program is the one that the
 # variable SGM names (./sgm of this repository without it).
@@ -75,6 +76,19 @@ begin_merge() {
     printf 'e.asc\nl.asc\n' >m.txt
 }
 
+# The same with the worked pair of version 3, everything on.
+begin_third() {
+    begin "$1"
+    cp "$work"/third/* .
+    words+=(strips=3 workers=2 peak=2 fill=1)
+}
+
+# The same with the words of a merge of two grids over its cells.
+begin_third_merge() {
+    begin_third "$1"
+    words=(merge m.txt c.json o)
+}
+
 # ends STATUS LINE SUMMARY [OUTPUT..]: runs the words and compares. `-` as LINE or SUMMARY asks for
 # nothing there. What the variables out and err name takes the place of the two streams: a closed stream
 # where it is `closed`, a pipe that nobody reads where it is `unread`. What the variable begun names is an
@@ -136,16 +150,17 @@ within() {
     (prlimit --as=$((1024 * $1)) "$program" "${@:2}" >"$work/out" 2>"$work/err" </dev/null; exit $?) 2>/dev/null
 }
 
-# Less and less memory, by steps of a twentieth and, where little is left, of 16 kilobytes. Each run is done, or out
-# of memory with its line; where the system can't even start the program without words, nothing is written.
+# less_memory BEGIN: less and less memory, by steps of a twentieth and, where little is left, of 16 kilobytes. Each run
+# is done, or out of memory with its line; where the system can't even start the program without words, nothing is
+# written.
 less_memory() {
-    local limit=2000000 status bare fault="" done=0 without=0 unbegun=0
-    begin "less and less memory"
-    words+=(strips=3 workers=2)
+    local limit=2000000 status bare fault="" done=0 without=0 unbegun=0 stood=$whole
+    "$1" "less and less memory, $1"
+    [ "$1" != begin ] || words+=(strips=3 workers=2)
     { printf 'P5\n120 120\n255\n' && head -c 14400 /dev/zero; } >l.pgm
     cp l.pgm r.pgm
-    echo "{$plain,$camera,$grid,$regions}" | sed 's/"count": *2/"count": 64/' >c.json
-    whole=$work/roomy
+    sed -i 's/"count": *2/"count": 64/' c.json
+    whole=$work/roomy-$1
     mkdir "$whole"
     "$program" "${words[@]}" >"$whole/out" && mv "${outputs[@]}" "$whole" || exit 1
     while [ $limit -gt 0 ] && [ -z "$fault" ]; do
@@ -176,9 +191,9 @@ less_memory() {
         failed=$((failed + 1))
         echo "wrong: $case: at $limit KB: $fault; standard error has '$(cat "$work/err")'; $done done, $without without memory"
     fi
-    whole=$work/whole
+    whole=$stood
     cd "$work" || exit 1
-    told+="; by memory $done done, $without out of it, $unbegun not begun by the system"
+    told+="; by memory ($1) $done done, $without out of it, $unbegun not begun by the system"
 }
 
 # changing_file HOW LEAST MOST: runs over a left picture whose length goes to and fro between these numbers of bytes,
@@ -368,7 +383,60 @@ merge_disks() {
     ends 0 - "$joined" "${both[@]}"
 }
 
+# third_outputs BEGIN SUMMARY OUTPUT..: what such a run ends with where it is done, and where one of its outputs is a
+# folder or a full device, or a stream is closed, full or read by nobody.
+third_outputs() {
+    local start=$1 summary=$2 count=0 file output stream
+    shift 2
+    "$start" "$start: done"
+    ends 0 - "$summary" "$@"
+    "$start" "$start: over older outputs"
+    for file; do echo older >"$file"; done
+    ends 0 - "$summary" "$@"
+    for file; do
+        output=${name_of[$file]}
+        "$start" "$start: a folder as $output"
+        mkdir "$file"
+        ends 5 "sgm: cannot write $output" - "${@:1:count}"
+        "$start" "$start: a full device for $output"
+        ln -s /dev/full "$file"
+        ends 5 "sgm: cannot write $output" - "${@:1:count}"
+        count=$((count + 1))
+    done
+    for stream in closed /dev/full unread; do
+        "$start" "$start: standard output $stream"
+        out=$stream ends 5 'sgm: cannot write summary' - "$@"
+        "$start" "$start: standard error $stream"
+        rm c.json
+        err=$stream ends 4 - -
+    done
+}
+
+# third_disks BEGIN SUMMARY OUTPUT..: the same of full disks. The inputs take six pages, and each output one.
+third_disks() {
+    local start=$1 summary=$2 count=0 file output
+    shift 2
+    for file; do
+        output=${name_of[$file]}
+        pages=$((6 + count)) "$start" "$start: a full disk for $output"
+        begun=$file:0 ends 5 "sgm: cannot write $output" - "${@:1:count}"
+        count=$((count + 1))
+    done
+    pages=$((6 + $#)) "$start" "$start: a disk with room"
+    ends 0 - "$summary" "$@"
+}
+
+# third_whole BEGIN: what the separate implementation writes there, in the folder third-BEGIN; prints its summary.
+third_whole() {
+    "$1" "$1: the reference"
+    "$here/reference.py" "${words[@]}" || exit 1
+    mkdir "$work/third-$1" && mv o.* "$work/third-$1" || exit 1
+}
+
 need_program
+declare -A name_of=([o.pgm]=disparity [o.asc]=heights [o.csv]=report)
+write_third "$work/third" && third=$(third_whole begin_third) || exit 1
+if has_merge; then third_merge=$(third_whole begin_third_merge) || exit 1; fi
 
 begin "done"
 ends 0 - 'valid 15 of 15' "${outputs[@]}"
@@ -417,9 +485,9 @@ begin "a calibration that is too long"
 truncate -s 16777217 c.json
 ends 3 'sgm: calibration is too long' -
 
-named=(begin{,_trace}:{left:l.pgm,right:r.pgm,calibration:c.json} begin_change:{earlier:e.asc,later:l.asc})
+named=(begin{,_trace,_third}:{left:l.pgm,right:r.pgm,calibration:c.json} begin_change:{earlier:e.asc,later:l.asc})
 if has_merge; then
-    named+=(begin_merge:{list:m.txt,calibration:c.json,'grid 0':e.asc,'grid 1':l.asc})
+    named+=(begin{,_third}_merge:{list:m.txt,calibration:c.json,'grid 0':e.asc,'grid 1':l.asc})
 fi
 for input in "${named[@]}"; do
     IFS=: read -r start what file <<<"$input"
@@ -537,6 +605,13 @@ done
 whole=$work/whole
 
 if has_merge; then merge_ends; fi
+
+# Version 3 with everything on.
+whole=$work/third-begin_third
+third_outputs begin_third "$third" "${outputs[@]}"
+whole=$work/third-begin_third_merge
+if has_merge; then third_outputs begin_third_merge "$third_merge" "${both[@]}"; fi
+whole=$work/whole
 
 # Warps that leave every pixel where it is, in each of their kinds.
 identity='{"kind":"identity"}'
@@ -682,6 +757,10 @@ if mount -t tmpfs -o size=4096 none "$work/disk" 2>"$work/mount"; then
     pages=7 begin_change "a disk with room for a change"
     ends 0 - "$compared" "${both[@]}"
     if has_merge; then merge_disks; fi
+    whole=$work/third-begin_third
+    third_disks begin_third "$third" "${outputs[@]}"
+    whole=$work/third-begin_third_merge
+    if has_merge; then third_disks begin_third_merge "$third_merge" "${both[@]}"; fi
     # A picture of 100 x 100 pixels, each as the other: 3 pages for each input, and 5 for OUT.pgm. Each pixel
     # has the index 0.
     whole=$work/large
@@ -714,7 +793,8 @@ if head -c 4 "$program" | grep -q ELF && has prlimit; then
     ulimit -Sv 400000
     ends 6 'sgm: no memory' -
     ulimit -Sv "$limit"
-    less_memory
+    less_memory begin
+    less_memory begin_third
     changing_file "shorter" 20 8388608
     changing_file "longer" 67040000 134217728
 fi

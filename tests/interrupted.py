@@ -3,10 +3,10 @@
 
     tests/interrupted.py [--runs N]
 
-The match is the worked example's with a grid of 2000 x 2000 cells, whose OUT.asc has 48 megabytes; the change is that
-between two grids of 1500 x 1500 cells, whose OUT.asc has 25; and the merge is that of both over the grid of the match,
-once the program has it (HAS_MERGE of reference_inputs.py). Half of the runs begin with no outputs and half with older
-ones; half are interrupted at a moment of their time, and half as soon as OUT.asc has begun to change. Afterwards each
+The match is the worked example's with a grid of 2000 x 2000 cells, whose OUT.asc has 48 megabytes; another match is the
+worked pair's of version 3 with everything on and as large a grid; the change is that between two grids of 1500 x 1500
+cells, whose OUT.asc has 25; and the merge is that of both over the grid of the first match, once the program has it
+(HAS_MERGE of reference_inputs.py). Half of the runs begin with no outputs and half with older ones; half are interrupted at a moment of their time, and half as soon as OUT.asc has begun to change. Afterwards each
 output has to be as it was, or to hold the beginning of the text that an undisturbed run writes, perhaps all of it; only
 the last one that changed may be short of its end; the inputs are as they were; standard error is empty; and the summary
 stands only where all outputs are whole. The program is the one that the variable SGM names (./sgm of this repository
@@ -23,6 +23,7 @@ import sys
 import tempfile
 import time
 
+import hostile_calibrations as worked
 import reference_inputs
 
 HERE = os.path.dirname(os.path.abspath(__file__))
@@ -63,6 +64,23 @@ class Match:
         for name in ("l.pgm", "r.pgm"):
             shutil.copyfile(os.path.join(EXAMPLE, name), os.path.join(folder, name))
         write_calibration(folder)
+
+
+class Third(Match):
+    """The worked pair of version 3 with everything on. Its regions stay in the grid's south-west."""
+
+    words = [*Match.words, "peak=2", "fill=1"]
+    summary = b"valid 12 of 15\n"
+
+    @staticmethod
+    def write_inputs(folder):
+        grid = {**worked.ALL["grid"], "cols": 2000, "rows": 2000}
+        down = 2000 - worked.ALL["grid"]["rows"]
+        regions = [{**region, "row": region["row"] + down} for region in worked.ALL["regions"]]
+        whole = {**worked.ALL, "grid": grid, "regions": regions}
+        for name, data in {**worked.FILES, "c.json": json.dumps(whole).encode()}.items():
+            with open(os.path.join(folder, name), "wb") as file:
+                file.write(data)
 
 
 class Change:
@@ -187,7 +205,7 @@ def undisturbed(kind, folder):
 
 def try_runs(kind, runs):
     """Interrupts so many runs; gives a text on how they ended, and how many were wrong."""
-    name, ended, is_done, wrong = kind.words[0], [0] * (len(kind.outputs) + 1), 0, 0
+    name, ended, is_done, wrong = kind.__name__.lower(), [0] * (len(kind.outputs) + 1), 0, 0
     with tempfile.TemporaryDirectory(prefix="sgm-interrupted.") as work:
         undisturbed(kind, os.path.join(work, "first"))
         whole, takes = undisturbed(kind, os.path.join(work, "whole"))
@@ -218,7 +236,7 @@ def main():
     parser.add_argument("--runs", type=natural, default=120, metavar="N", help="how many runs of each command (120)")
     words = parser.parse_args()
     try:
-        kinds = [Match, Change] + ([Merge] if reference_inputs.HAS_MERGE else [])
+        kinds = [Match, Third, Change] + ([Merge] if reference_inputs.HAS_MERGE else [])
         texts, wrong = zip(*(try_runs(kind, words.runs) for kind in kinds))
         print(f"interrupted: {'; '.join(texts)}; {sum(wrong)} wrong")
         return 1 if any(wrong) else 0

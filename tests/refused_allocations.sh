@@ -1,14 +1,16 @@
 #!/usr/bin/env bash
 # Runs the worked example with three strips and two workers, a certificate of one of its pixels, the change between
-# its grid and another, and the merge of both, and refuses each memory: the first allocation in the first run, the second one in the second,
-# and so on, until a run takes none of that number. All workers count together, so a number may fall to any of them.
+# its grid and another, and the merge of both; then the same of the worked pair of version 3 with everything on, but for
+# the change. Each is refused memory: the first allocation in the first run, the second one in the second, and so on,
+# until a run takes none of that number. All workers count together, so a number may fall to any of them.
 # Each run has to end Done, with the files and the summary whole; or out of memory, with its line and status, nothing
 # on standard output, and each file as it was, but for outputs up to one: those before that one whole, and that one the
 # beginning of its text. All is tried twice, over a folder without outputs and over one with older ones.
 #
 # Then all allocations above a megabyte are refused. Each of these runs is done all the same, as none of them has so much
 # to keep; and a grid whose head asks for 4096 x 4096 heights, of which none follows, is refused for that, and not for
-# want of the memory that they would take.
+# want of the memory that they would take. What an undisturbed run writes is that of the separate implementation
+# (reference.py).
 #
 # The program is the one that the variable SGM names (./sgm of this repository without it); gcc builds the library that
 # refuses, which takes the place of the C library's calls.
@@ -22,12 +24,25 @@ need_built
 most=100000 failed=0 line='sgm: no memory'
 inputs=(l.pgm r.pgm c.json e.asc l.asc m.txt)
 
-# of COMMAND: sets the words of a run, the summary and the outputs.
+# of COMMAND: sets the words of a run, the folder with its inputs, the summary and the outputs. Where no summary stands
+# here, it is that of the reference.
 of() {
+    given=$work/plain outputs=(o.pgm o.asc o.csv) summary=
     case $1 in
+    third*) given=$work/third ;;
+    esac
+    case $1 in
+    third)
+        words=(match l.pgm r.pgm c.json o strips=3 workers=2 peak=2 fill=1)
+        ;;
+    third-trace)
+        words=(trace l.pgm r.pgm c.json right 4 1 1) outputs=()
+        ;;
+    third-merge)
+        words=(merge m.txt c.json o) outputs=(o.asc o.csv)
+        ;;
     match)
         words=(match l.pgm r.pgm c.json o strips=3 workers=2) summary='valid 15 of 15'
-        outputs=(o.pgm o.asc o.csv)
         ;;
     trace)
         words=(trace l.pgm r.pgm c.json right 2 1 1) summary=$'least 15\n0 1 0 8 0\n1 1 0 6 0\n2 1 1 0 1'
@@ -102,16 +117,18 @@ C
 gcc -O2 -shared -fPIC -o "$work/refuse.so" "$work/refuse.c" || exit 1
 
 # The example's grid, and a later one in which the ground rose.
+mkdir "$work/plain" && cp "$top"/crates/sgm_cli/data/{l.pgm,r.pgm,c.json} "$work/plain" || exit 1
 {
     printf '%s\n' 'ncols 4' 'nrows 3' 'xllcorner 2000' 'yllcorner -2000' 'cellsize 1000' 'NODATA_value -2147483648'
     for _ in 1 2 3; do echo 50000 50000 50000 -2147483648; done
-} >"$work/e.asc"
-sed 's/50000/51000/' "$work/e.asc" >"$work/l.asc"
-printf 'e.asc\nl.asc\n' >"$work/m.txt"
+} >"$work/plain/e.asc"
+sed 's/50000/51000/' "$work/plain/e.asc" >"$work/plain/l.asc"
+printf 'e.asc\nl.asc\n' >"$work/plain/m.txt"
+write_third "$work/third" || exit 1
 
 # begin FOLDER [TEXT]: a folder with the inputs, and outputs of that text.
 begin() {
-    rm -rf "$1" && mkdir "$1" && cp "$top"/crates/sgm_cli/data/{l.pgm,r.pgm,c.json} "$work"/{e,l}.asc "$work/m.txt" "$1" || exit 1
+    rm -rf "$1" && cp -r "$given" "$1" || exit 1
     [ $# = 1 ] || for file in "${outputs[@]}"; do echo "$2" >"$1/$file"; done
 }
 
@@ -143,7 +160,7 @@ run() {
 
 wrong() {
     failed=$((failed + 1))
-    echo "refused_allocations: ${words[0]}, allocation $number, $what: $1"
+    echo "refused_allocations: $command, allocation $number, $what: $1"
     cp -r made "$work/out" "$work/err" "$(mktemp -d "${TMPDIR:-/tmp}/sgm-refused_allocations.$number.XXXXXX")"
 }
 
@@ -192,6 +209,7 @@ refuse_large() {
 
 # refuse_head: the same of a grid that has a head for 4096 x 4096 heights and none of these.
 refuse_head() {
+    command=change
     of change
     number=0 what="a head without heights"
     rm -rf mark
@@ -206,14 +224,17 @@ refuse_head() {
 cd "$work" || exit 1
 without=0 with=0 small=0 told=
 commands=(match trace change)
-if has_merge; then commands+=(merge); fi
+commands+=(third third-trace)
+if has_merge; then commands+=(merge third-merge); fi
 for command in "${commands[@]}"; do
     of "$command"
-    rm -rf whole
-    begin made && run && mv made whole || exit 1
+    begin whole
+    (cd whole && "$here/reference.py" "${words[@]}" >"$work/out") || exit 1
+    [ -n "$summary" ] || summary=$(cat out)
+    begin made && run
     for file in "${outputs[@]}"; do [ -s "whole/$file" ] || status="$status, without $file"; done
-    if [ "$status" != 0 ] || [ "$(cat out)" != "$summary" ]; then
-        echo "refused_allocations: $command ends with $status: $(cat err)" >&2
+    if ! is_done; then
+        echo "refused_allocations: $command ends with $status, or not as the reference does: $(cat err)" >&2
         exit 1
     fi
     taken=()
