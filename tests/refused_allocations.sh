@@ -214,7 +214,7 @@ refuse_head() {
     number=0 what="a head without heights"
     rm -rf mark
     begin made
-    sed -e 's/ncols 4/ncols 4096/' -e 's/nrows 3/nrows 4096/' -e 6q e.asc >made/e.asc
+    sed -e 's/ncols 4/ncols 4096/' -e 's/nrows 3/nrows 4096/' -e 6q "$given/e.asc" >made/e.asc
     run LARGEST_ALLOCATION=1048576
     [ "$status $(cat err)" = '3 sgm: earlier: 0 heights, 16777216 needed' ] || wrong "status $status, '$(cat err)'"
     [ ! -e mark ] || wrong "its room is asked for"
