@@ -421,8 +421,7 @@ def others():
 
 
 def cases():
-    """All calibrations, of which a text for a key is judged by one command, in turn, and the others by each."""
-    for number, it in enumerate(typed()):
-        yield list(judged(it))[number % 3]
-    for it in others():
-        yield from judged(it)
+    """All calibrations; one that is refused or long is judged by one command, in turn, and the others by each."""
+    for number, it in enumerate(itertools.chain(typed(), others())):
+        some = list(judged(it))
+        yield from [some[number % 3]] if it.line or len(it.text) > 1 << 20 else some

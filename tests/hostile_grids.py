@@ -350,9 +350,11 @@ def largest():
 
 
 def grids():
-    for part in (head_numbers, head_ends, head_names, heights, white, long_texts):
-        for grid in part():
-            yield from read(grid)
+    """All grids, of which a long one is read as one of the three, in turn."""
+    parts = (head_numbers, head_ends, head_names, heights, white, long_texts)
+    for number, grid in enumerate(it for part in parts for it in part()):
+        some = list(read(grid))
+        yield from [some[number % 3]] if len(grid.text) > 1 << 20 else some
 
 
 def cases():
