@@ -7,8 +7,8 @@ use sgm_base::Side;
 use sgm_batch::{Inputs, work_batch};
 use sgm_example::{CALIBRATION, LEFT, RIGHT};
 use sgm_pgm::PgmFault;
-use sgm_recorders::Recorder;
-use sgm_work::{Gate, OpenGate};
+use sgm_recorders::{Meeting, Recorder};
+use sgm_work::Gate;
 use std::alloc::{AllocError, Global};
 use std::process::Abort;
 use std::sync::Wait;
@@ -82,13 +82,14 @@ fn assert_refused<R: Abort>(rt: &R, made: Result<MadeTexts, TextsError>) {
     }
 }
 
-/// Each entry gets what its own inputs call for, by so many workers, who pass the gate.
+/// Each entry gets what its own inputs call for, by so many workers, who pass the gate. Gives the
+/// worker of each piece with its entry.
 fn assert_batch<R: Threads + Wait + Sync + Abort, G: Gate + Sync>(
     rt: &R,
     alloc: Global,
     workers: u32,
     gate: &G,
-) -> Result<(), AllocError>
+) -> Result<[(u32, u32); 3], AllocError>
     requires { (1 ≤ workers) × (workers ≤ MAX_TICKETS) }
 {
     let batch = batch(alloc)?;
@@ -99,23 +100,31 @@ fn assert_batch<R: Threads + Wait + Sync + Abort, G: Gate + Sync>(
     };
     assert!(rt; pieces.next().is_none());
     assert!(rt; (first.entry(), second.entry(), third.entry()) == (0, 1, 2));
-    assert!(rt; first.worker() < workers);
+    let made = [
+        (first.worker(), first.entry()),
+        (second.worker(), second.entry()),
+        (third.worker(), third.entry()),
+    ];
     assert_texts(rt, first.into_made(), DISPARITIES, true);
     assert_refused(rt, second.into_made());
     assert_texts(rt, third.into_made(), PLAIN, false);
-    Ok(())
+    Ok(made)
 }
 
 #[test]
 fn one_worker_makes_each_piece_of_its_entry(rt: HostRuntime) -> Result<(), Fail> {
     let recorder = Recorder::new();
-    assert_batch(&rt, rt.alloc(), 1, &recorder)?;
+    let made = assert_batch(&rt, rt.alloc(), 1, &recorder)?;
     assert!(rt; recorder.has(&[(0, 0), (0, 1), (0, 2)]));
+    assert!(rt; recorder.has(&made));
     Ok(())
 }
 
 #[test]
 fn two_workers_make_each_piece_of_its_entry(rt: HostRuntime) -> Result<(), Fail> {
-    assert_batch(&rt, rt.alloc(), 2, &OpenGate)?;
+    let meeting = Meeting::of(2);
+    let made = assert_batch(&rt, rt.alloc(), 2, &meeting)?;
+    assert!(rt; meeting.has_met());
+    assert!(rt; made.iter().all(|&(worker, entry)| meeting.has_come(worker, entry)));
     Ok(())
 }
