@@ -125,6 +125,9 @@ fn two_workers_make_each_piece_of_its_entry(rt: HostRuntime) -> Result<(), Fail>
     let meeting = Meeting::of(2);
     let made = assert_batch(&rt, rt.alloc(), 2, &meeting)?;
     assert!(rt; meeting.has_met());
-    assert!(rt; made.iter().all(|&(worker, entry)| meeting.has_come(worker, entry)));
+    assert!(rt;
+        made.iter()
+            .all(|&(worker, entry)| meeting.has_come(worker, entry))
+    );
     Ok(())
 }
