@@ -152,10 +152,9 @@ within() {
 
 # less_memory BEGIN: less and less memory, by steps of a twentieth and, where little is left, of 16 kilobytes. Each run
 # is done, or out of memory with its line; where the system can't even start the program without words, nothing is
-# written. A few runs of version 3 the system ends by SIGSEGV, before anything is written: finer disparities may take
-# more of the main thread's stack than it has at the start, which can't grow then. More than sixteen are too many.
+# written.
 less_memory() {
-    local limit=2000000 status bare fault="" done=0 without=0 unbegun=0 ended=0 stood=$whole
+    local limit=2000000 status bare fault="" done=0 without=0 unbegun=0 stood=$whole
     "$1" "less and less memory, $1"
     [ "$1" != begin ] || words+=(strips=3 workers=2)
     { printf 'P5\n120 120\n255\n' && head -c 14400 /dev/zero; } >l.pgm
@@ -179,10 +178,6 @@ less_memory() {
             without=$((without + 1))
             [ "$(cat "$work/err")" = 'sgm: no memory' ] && [ ! -s "$work/out" ] && stands || fault=told
             ;;
-        139,2,begin_third)
-            ended=$((ended + 1))
-            [ $ended -le 16 ] && [ ! -s "$work/out" ] && [ ! -s "$work/err" ] && ! ls o.* >/dev/null 2>&1 || fault=ended
-            ;;
         *)
             unbegun=$((unbegun + 1))
             [ "$bare" != 2 ] && [ ! -s "$work/out" ] && ! ls o.* >/dev/null 2>&1 || fault="status $status"
@@ -198,7 +193,7 @@ less_memory() {
     fi
     whole=$stood
     cd "$work" || exit 1
-    told+="; by memory ($1) $done done, $without out of it, $unbegun not begun by the system, $ended ended for want of stack"
+    told+="; by memory ($1) $done done, $without out of it, $unbegun not begun by the system"
 }
 
 # changing_file HOW LEAST MOST: runs over a left picture whose length goes to and fro between these numbers of bytes,

@@ -2,6 +2,7 @@ pub mod Crossing
 pub mod Grounds
 pub mod Making
 pub mod Passing
+pub mod Pieces
 pub mod Places
 pub mod Pointing
 pub mod Finals

@@ -1,8 +1,7 @@
 -- Parcels and fronts as they are made.
-use Rattle.std.proofs.Common.{◌≡◌, ℕ, ◌<◌, List, [], ◌∷◌, ◌++◌, length, get_or, map, replicate, Option, Some, None, Result, Ok, Err, refl, sym, ap, subst, ◌∙◌, inl, inr, arith}
-use Rattle.std.specs.Prelude.{All, IfOk, IfSome, option_map, slice_get}
-use Rattle.std.proofs.lemmas.List.{length-map, length-replicate}
-use Rattle.std.proofs.lemmas.Option.{get_or_from_slice_get, slice_get-get_or, slice_get-map, slice_get_within}
+use Rattle.std.proofs.Common.{◌≡◌, ℕ, List, [], ◌∷◌, ◌++◌, length, get_or, map, Option, Some, None, Result, Ok, Err, refl, sym, ap, subst, ◌∙◌, inl, inr}
+use Rattle.std.specs.Prelude.{All, IfOk, option_map, slice_get}
+use Rattle.std.proofs.lemmas.Option.{slice_get-get_or, slice_get-map}
 use Rattle.sgm_energy.specs.declared.dir.Dir.{Dir}
 use Rattle.sgm_energy.specs.declared.dir.Dir.TheVariants.{Right, Left, Down, DownRight, DownLeft, Up, UpRight, UpLeft}
 use Rattle.sgm_energy.specs.Dirs.{dir_of_front, front_of}
@@ -15,23 +14,7 @@ use Rattle.sgm_board.specs.Ready.{AreReady, IsNewFront}
 use Rattle.sgm_board.proofs.Getting.{get-push}
 use Rattle.sgm_job.specs.Matching.{AreNewFronts, IsNewParcel}
 
--- ---- what was in the places
-
--- what is said of each place where something is, is said of what was in it
-pub each_of : {X : Type 0} (P : ℕ → X → Type 0) (places : List (Option X)) (all : List X) (n : ℕ) → map Some all ≡ places → length places ≡ n
-    → ((k : ℕ) (d : Option X) → k < n → IfSome (get_or places k d) (P k)) → (k : ℕ) (x : X) → slice_get all k ≡ Some x → P k x
-each_of P places all n e count each k x at =
-    let found : slice_get places k ≡ Some (Some x) = ap (λ xs. slice_get xs k) (sym e) ∙ slice_get-map Some all k ∙ ap (option_map Some) at in
-    let inside : k < n = omega (arith, slice_get_within places k (Some x) found, count) in
-    let here : get_or places k (Some x) ≡ Some x = get_or_from_slice_get places k (Some x) (Some x) found in
-    subst (λ o. IfSome o (P k)) here (each k (Some x) inside)
-
--- there are so many empty places as were asked for
-pub count_empty : {X : Type 0} (places : List (Option X)) (n : ℕ) → places ≡ replicate n None → length places ≡ n
-count_empty places n empty = ap length empty ∙ length-replicate n None
-
-pub count_of : {X : Type 0} (places : List (Option X)) (all : List X) (n : ℕ) → map Some all ≡ places → length places ≡ n → length all ≡ n
-count_of places all n e count = sym (length-map all Some) ∙ ap length e ∙ count
+-- ---- values of what was made
 
 -- what is said of each value that f gives
 from_option : {V X : Type 0} (f : V → X) (P : X → Type 0) (o : Option V) (x : X) → ((v : V) → o ≡ Some v → P (f v)) → option_map f o ≡ Some x → P x

@@ -1,6 +1,6 @@
 -- The disparities of all strips, each found by itself.
-use Rattle.std.proofs.Common.{◌≡◌, ℕ, ◌*◌, ◌<◌, Bool, true, false, List, length, map, get_or, Option, Some, ap, ◌∙◌}
-use Rattle.std.specs.Prelude.{IfSome}
+use Rattle.std.proofs.Common.{◌≡◌, ℕ, ◌*◌, Bool, true, false, List, length, map, Option, Some, ap, ◌∙◌}
+use Rattle.std.specs.Prelude.{slice_get}
 use Rattle.std.proofs.lemmas.List.{length-map}
 use Rattle.sgm_base.specs.Disparities.{Disparities}
 use Rattle.sgm_base.specs.Values.{Values}
@@ -16,38 +16,36 @@ use Rattle.sgm_fine.specs.Making.{made_finer}
 use Rattle.sgm_job.specs.Fining.{made, made_at}
 use Rattle.sgm_job.specs.declared.fining.Step.{Step}
 use Rattle.sgm_job.specs.declared.fining.Step.TheVariants.{Finer, Mean}
-use Rattle.sgm_job.proofs.Making.{count_of, each_mapped, each_of}
+use Rattle.sgm_job.proofs.Making.{each_mapped}
 
--- what was in the places are the rows of a map's strips
-pub rows_found : {V : Type 0} (items : V → List (Option ℕ)) (whole : Values) (cut : CutParts) (places : List (Option V)) (all : List V)
-    → IsCut cut → cut.height ≡ whole.height → length whole.entries ≡ whole.width * whole.height → map Some all ≡ places → length places ≡ cut.strips
-    → ((k : ℕ) (d : Option V) → k < cut.strips → IfSome (get_or places k d) (λ v. items v ≡ rows_of_strip whole cut k))
+-- what was found of each strip are the rows of a map's strips
+pub rows_found : {V : Type 0} (items : V → List (Option ℕ)) (whole : Values) (cut : CutParts) (all : List V)
+    → IsCut cut → cut.height ≡ whole.height → length whole.entries ≡ whole.width * whole.height → length all ≡ cut.strips
+    → ((k : ℕ) (v : V) → slice_get all k ≡ Some v → items v ≡ rows_of_strip whole cut k)
     → AreRowsOf whole cut (map items all)
-rows_found items whole cut places all kept high full e count found = record {
+rows_found items whole cut all kept high full count each = record {
   cut_kept = kept;
   same_height = high;
   full = full;
-  all = length-map all items ∙ count_of places all cut.strips e count;
-  each = each_mapped items (λ k rows. rows ≡ rows_of_strip whole cut k) all
-      (each_of (λ k v. items v ≡ rows_of_strip whole cut k) places all cut.strips e count found);
+  all = length-map all items ∙ count;
+  each = each_mapped items (λ k rows. rows ≡ rows_of_strip whole cut k) all each;
 }
 
 -- the map of a scene
 abbrev pub map_of : SceneParts → Values → Values → Values
 map_of scene left right = disparities_of (problem_of scene) left right scene.span.first
 
--- what was in the places are the rows of its strips
-pub are_rows : {V : Type 0} (items : V → List (Option ℕ)) (scene : SceneParts) (cut : CutParts) (left right : Values) (parcels : List ParcelParts) (places : List (Option V)) (all : List V)
-    → AreStrips scene cut parcels → map Some all ≡ places → length places ≡ length parcels
-    → ((k : ℕ) (d : Option V) → k < length parcels → IfSome (get_or places k d) (λ v. items v ≡ rows_of_strip (map_of scene left right) cut k))
+-- what was found of each parcel are the rows of its strips
+pub are_rows : {V : Type 0} (items : V → List (Option ℕ)) (scene : SceneParts) (cut : CutParts) (left right : Values) (parcels : List ParcelParts) (all : List V)
+    → AreStrips scene cut parcels → length all ≡ length parcels
+    → ((k : ℕ) (v : V) → slice_get all k ≡ Some v → items v ≡ rows_of_strip (map_of scene left right) cut k)
     → AreRowsOf (map_of scene left right) cut (map items all)
-are_rows items scene cut left right parcels places all strips e count found = record {
+are_rows items scene cut left right parcels all strips count each = record {
   cut_kept = strips.cut_kept;
   same_height = strips.same_height;
   full = full_map (problem_of scene) left right scene.span.first;
-  all = length-map all items ∙ count_of places all (length parcels) e count ∙ strips.all;
-  each = each_mapped items (λ k rows. rows ≡ rows_of_strip (map_of scene left right) cut k) all
-      (each_of (λ k v. items v ≡ rows_of_strip (map_of scene left right) cut k) places all (length parcels) e count found);
+  all = length-map all items ∙ count ∙ strips.all;
+  each = each_mapped items (λ k rows. rows ≡ rows_of_strip (map_of scene left right) cut k) all each;
 }
 
 -- ---- the map of a step

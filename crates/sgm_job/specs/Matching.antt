@@ -1,7 +1,9 @@
 -- What stands between the images and the disparities.
-use Rattle.std.specs.Prelude.{◌≡◌, ℕ, List, length, slice_get, Some, None}
+use Rattle.std.specs.Prelude.{◌≡◌, ℕ, List, Option, length, slice_get, Some}
+use Rattle.std.specs.Prelude.{None}
 use Rattle.sgm_base.specs.Picture.{Picture}
 use Rattle.sgm_base.specs.Sides.{Sides}
+use Rattle.sgm_base.specs.Values.{Values}
 use Rattle.sgm_calib.specs.Calibration.{Calibration}
 use Rattle.sgm_census.specs.Codes.{codes_of}
 use Rattle.sgm_census.specs.Windows.{WindowSides}
@@ -12,11 +14,13 @@ use Rattle.sgm_rectify.specs.Rectified.{rectified_values}
 use Rattle.sgm_energy.specs.declared.dir.Dir.{Dir}
 use Rattle.sgm_energy.specs.Dirs.{front_of}
 use Rattle.sgm_strip.specs.Cuts.{CutParts}
-use Rattle.sgm_strip.specs.Scenes.{SceneParts}
+use Rattle.sgm_strip.specs.Scenes.{SceneParts, problem_of}
 use Rattle.sgm_strip.specs.Parcels.{ParcelParts, level_done}
 use Rattle.sgm_strip.specs.Fronts.{FrontParts}
-use Rattle.sgm_strip.specs.Strips.{IsStripOf}
+use Rattle.sgm_strip.specs.Strips.{AreStrips, IsStripOf}
 use Rattle.sgm_board.specs.Ready.{IsNewFront}
+use Rattle.sgm_select.specs.Selection.{disparities_of}
+use Rattle.sgm_select.specs.Strips.{rows_of_strip}
 use Rattle.sgm_job.specs.declared.pair.Coded.{Coded}
 use Rattle.sgm_job.specs.declared.pair.CodedPair.{CodedPair}
 
@@ -44,6 +48,12 @@ pub record IsNewParcel (scene : SceneParts) (cut : CutParts) (strip : ℕ)
     (parcel : ParcelParts) : Type 0 where
   pub is : IsStripOf scene cut strip parcel
   pub level : parcel.done ≡ level_done
+
+-- the disparities of the rows of a strip, of whatever cut the parcels are
+pub record AreSelected (scene : SceneParts) (left right : Values) (parcels : List ParcelParts)
+    (strip : ℕ) (rows : List (Option ℕ)) : Type 0 where
+  pub each : (cut : CutParts) → AreStrips scene cut parcels → rows ≡ rows_of_strip
+      (disparities_of (problem_of scene) left right scene.span.first) cut strip
 
 -- the fronts are the six, in order, and have visited no strip
 pub record AreNewFronts (scene : SceneParts) (cut : CutParts)

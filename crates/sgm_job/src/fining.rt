@@ -1,21 +1,20 @@
 //! From the disparities to finer ones, strip by strip, where they are asked for.
 
-ghost use Rattle.std.specs.Prelude.{◌≡◌, ◌+◌, ◌*◌, ◌<◌, ◌≤◌, ℕ, IfOk, IfSome, Option, length};
+ghost use Rattle.std.specs.Prelude.{◌≡◌, ◌+◌, ◌*◌, ◌<◌, ◌≤◌, IfOk, IfSome, length, map};
 ghost use Rattle.std.specs.Prelude.{slice_index_or, None, EachIndex};
-ghost use Rattle.sgm_select.specs.Strips.{rows_of_strip};
+ghost use Rattle.sgm_select.specs.Strips.{AreRowsOf, rows_of_strip};
 ghost use Rattle.sgm_fine.specs.Making.{made_finer};
 ghost use Rattle.sgm_job.specs.Fining.{HoldsMade, made, made_at};
 
 use crate::asked::Asked;
 use crate::pair::ScenePlanes;
-use crate::sharing::all_of;
-use sgm_base::{DispMap, Plane, Span};
+use crate::sharing::side_by_side;
+use sgm_base::{DispMap, MAX_STRIPS, Plane, Span};
 use sgm_fine::{finer_row, mean_row};
 use sgm_select::join_strips;
 use sgm_strip::Cut;
-use sgm_work::empty_places;
 use std::alloc::{AllocError, Global};
-use std::thread::{Threads, for_each_mut};
+use std::thread::Threads;
 
 /// What is made of each value of a map.
 #[derive(Clone, Copy)]
@@ -77,7 +76,9 @@ fn make_rows(making: &Making, first: u32, rows: u32, into: &mut [Option<u16>])
     }
 }
 
-/// What a step makes of a strip's rows.
+/// What a step makes of a strip's rows. By itself, since a thread's start would else have its room
+/// for samples on the stack once for each thread that it makes.
+#[inline(never)]
 fn make_strip(
     alloc: Global,
     making: &Making,
@@ -108,33 +109,25 @@ fn strip_at(alloc: Global, making: &Making, cut: Cut, strip: usize) -> Option<Ve
     make_strip(alloc, making, cut, strip as u32).ok()
 }
 
-/// What a step makes of each strip's rows, each in its place, in at most so many threads.
-fn make_places<R: Threads + Sync>(
+/// What a step makes of each strip's rows, made by at most so many threads.
+fn made_strips<R: Threads + Sync>(
     rt: &R,
     alloc: Global,
     making: &Making,
     cut: Cut,
     threads: usize,
-    places: &mut [Option<Vec<Option<u16>>>],
-)
+) -> Result<Vec<Vec<Option<u16>>>, AllocError>
     requires threads { 0 < threads }
     requires height { cut.height ≡ making.now.map.now.height }
-    requires count { length places.old ≡ cut.strips }
-    ensures count { length places.new ≡ cut.strips }
-    ensures made { (strip : ℕ) (d : _) → strip < cut.strips
-        → IfSome (slice_index_or places.new strip d) (λ rows. rows.items
-        ≡ rows_of_strip (made making.now.step making.now.left.now making.now.right.now
-        making.now.map.now making.now.span) cut strip) }
+    ensures { IfOk result (λ strips. AreRowsOf (made making.now.step making.now.left.now
+        making.now.right.now making.now.map.now making.now.span) cut
+        (map (λ rows. rows.items) strips.items)) }
 {
-    for_each_mut(
-        rt,
-        places,
-        threads,
-        &|strip, place| { *place = strip_at(alloc, making, cut, strip) },
-    );
+    let strips = cut.strips as usize;
+    side_by_side(rt, alloc, strips, threads, &|strip| strip_at(alloc, making, cut, strip))
 }
 
-/// What a step makes of a map, in at most so many threads.
+/// What a step makes of a map, made by at most so many threads.
 fn made_map<R: Threads + Sync>(
     rt: &R,
     alloc: Global,
@@ -147,9 +140,7 @@ fn made_map<R: Threads + Sync>(
     ensures { IfOk result (λ m. m ≡ made making.now.step making.now.left.now making.now.right.now
         making.now.map.now making.now.span) }
 {
-    let mut places = empty_places(alloc, cut.strips as usize)?;
-    make_places(rt, alloc, making, cut, threads, places.as_mut_slice());
-    let strips = all_of(alloc, places)?;
+    let strips = made_strips(rt, alloc, making, cut, threads)?;
     join_strips(alloc, making.map.size(), &strips)
 }
 
@@ -169,7 +160,8 @@ pub(crate) fn finer_map<R: Threads + Sync>(
     if !fine {
         return Ok(map);
     }
-    let cut = Cut::even(map.size().height, asked.strips);
+    // In as many strips as there can be, so that no thread waits long for the last one.
+    let cut = Cut::even(map.size().height, MAX_STRIPS);
     let threads = asked.workers as usize;
     let making = Making {
         step: Step::Finer,

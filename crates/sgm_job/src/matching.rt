@@ -1,19 +1,18 @@
 //! From the codes of two planes to complete parcels.
 
-ghost use Rattle.std.specs.Prelude.{◌≡◌, ◌≤◌, ◌<◌, ℕ, IfOk, IfSome, All, Option, length};
-ghost use Rattle.std.specs.Prelude.{slice_index_or};
+ghost use Rattle.std.specs.Prelude.{◌≡◌, ◌≤◌, ◌<◌, IfOk, IfSome, All};
 ghost use Rattle.sgm_base.specs.declared.limits.TheConstants.{MAX_STRIPS, MAX_WORKERS};
-ghost use Rattle.sgm_strip.specs.Parcels.{ParcelParts, level_done};
+ghost use Rattle.sgm_strip.specs.Parcels.{level_done};
 ghost use Rattle.sgm_strip.specs.Scenes.{scene_of};
 ghost use Rattle.sgm_strip.specs.Strips.{AreComplete, AreStrips};
 ghost use Rattle.sgm_job.specs.Matching.{AreNewFronts, IsNewParcel};
 
-use crate::sharing::all_of;
+use crate::sharing::side_by_side;
 use sgm_energy::Dir;
 use sgm_strip::{Cut, Front, Parcel, Scene};
-use sgm_work::{Gate, empty_places, match_all};
+use sgm_work::{Gate, match_all};
 use std::alloc::{AllocError, Global};
-use std::thread::{Threads, for_each_mut};
+use std::thread::Threads;
 
 /// The number of fronts: one for each direction that is not level.
 const FRONTS: usize = Dir::FRONTS.len();
@@ -27,33 +26,9 @@ fn parcel_at(alloc: Global, scene: &Scene, cut: Cut, strip: usize) -> Option<Par
     Parcel::make(alloc, scene, cut, strip as u32).ok()
 }
 
-/// Makes the parcel of each strip. The thread that makes it is the first that touches its memory.
+/// The parcels of all strips, with both level directions done, made by at most so many threads. The
+/// thread that makes a parcel is the first that touches its memory.
 #[tactic(auto, using(crate::proofs::Crossing::shared))]
-fn make_parcels<R: Threads + Sync>(
-    rt: &R,
-    alloc: Global,
-    scene: &Scene,
-    cut: Cut,
-    threads: usize,
-    places: &mut [Option<Parcel>],
-)
-    requires threads { 0 < threads }
-    requires height { cut.height ≡ scene.now.left.height }
-    requires count { length places.old ≡ cut.strips }
-    ensures count { length places.new ≡ cut.strips }
-    ensures made { (strip : ℕ) (d : Option ParcelParts) → strip < cut.strips
-        → IfSome (slice_index_or places.new strip d)
-        (λ parcel. IsNewParcel scene.now cut strip parcel) }
-{
-    for_each_mut(
-        rt,
-        places,
-        threads,
-        &|strip, place| { *place = parcel_at(alloc, scene, cut, strip) },
-    );
-}
-
-/// The parcels of all strips, with both level directions done, made by at most so many threads.
 fn parcels<R: Threads + Sync>(
     rt: &R,
     alloc: Global,
@@ -66,9 +41,8 @@ fn parcels<R: Threads + Sync>(
     ensures strips { IfOk result (λ v. AreStrips scene.now cut v.items) }
     ensures level { IfOk result (λ v. All (λ parcel. parcel.done ≡ level_done) v.items) }
 {
-    let mut places = empty_places(alloc, cut.strips as usize)?;
-    make_parcels(rt, alloc, scene, cut, threads, places.as_mut_slice());
-    all_of(alloc, places)
+    let strips = cut.strips as usize;
+    side_by_side(rt, alloc, strips, threads, &|strip| parcel_at(alloc, scene, cut, strip))
 }
 
 /// The six fronts, in order, which have visited no strip.

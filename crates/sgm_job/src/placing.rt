@@ -2,7 +2,7 @@
 //! are added there after that, in the order of the pixels.
 
 ghost use Rattle.std.specs.Prelude.{◌≡◌, ℕ, ◌+◌, ◌*◌, ◌<◌, ◌≤◌, All, IfOk, IfSome, fold, length};
-ghost use Rattle.std.specs.Prelude.{Option, option_and_then, slice_get, slice_index_or, None, Some};
+ghost use Rattle.std.specs.Prelude.{option_and_then, slice_get, slice_index_or, None, Some};
 ghost use Rattle.std.specs.List.{filter_map, range_with_len};
 ghost use Rattle.sgm_base.specs.Values.{AtMost};
 ghost use Rattle.sgm_base.specs.declared.limits.TheConstants.{MAX_DISPARITY, MAX_SIDE};
@@ -10,12 +10,11 @@ ghost use Rattle.sgm_grid.specs.Binning.{HasRoom, with_point};
 ghost use Rattle.sgm_grid.specs.Placing.{IsPlaced, placed, spec_in, with_placed};
 ghost use Rattle.sgm_job.specs.Heights.{IsPlacedRow, point_at, points_of};
 
-use crate::sharing::all_of;
+use crate::sharing::side_by_side;
 use crate::shown::{Shown, pixel_point};
 use sgm_grid::{Bins, Placed};
-use sgm_work::empty_places;
 use std::alloc::{AllocError, Global};
-use std::thread::{Threads, for_each_mut};
+use std::thread::Threads;
 
 /// Where the point of a pixel falls, if it has one and that falls into the grid.
 fn place_pixel(shown: &Shown, x: u32, y: u32, value: Option<u16>) -> Option<Placed>
@@ -71,27 +70,22 @@ fn row_at(alloc: Global, shown: &Shown, y: usize) -> Option<Vec<Placed>>
     place_row(alloc, shown, y as u32, row).ok()
 }
 
-/// Where the points of each row fall, each row in its place, in at most so many threads.
+/// Where the points of each row of the map fall, found by at most so many threads.
 fn place_rows<R: Threads + Sync>(
     rt: &R,
     alloc: Global,
     shown: &Shown,
     threads: usize,
-    rows: &mut [Option<Vec<Placed>>],
-)
-    requires threads { 0 < threads }
-    requires count { length rows.old ≡ shown.now.map.now.height }
-    ensures count { length rows.new ≡ shown.now.map.now.height }
-    ensures placed { (y : ℕ) (d : _) → y < shown.now.map.now.height
-        → IfSome (slice_index_or rows.new y d) (λ places. IsPlacedRow shown.now.station.now
-        shown.now.spec shown.now.span.first shown.now.map.now y places.items) }
+) -> Result<Vec<Vec<Placed>>, AllocError>
+    requires { 0 < threads }
+    ensures count { IfOk result (λ rows. length rows.items ≡ shown.now.map.now.height) }
+    ensures placed { IfOk result (λ rows. (y : ℕ) (places : _)
+        → slice_get rows.items y ≡ Some places
+        → IsPlacedRow shown.now.station.now shown.now.spec shown.now.span.first shown.now.map.now
+        y places.items) }
 {
-    for_each_mut(
-        rt,
-        rows,
-        threads,
-        &|y, row| { *row = row_at(alloc, shown, y) },
-    );
+    let rows = shown.map.size().height as usize;
+    side_by_side(rt, alloc, rows, threads, &|y| row_at(alloc, shown, y))
 }
 
 /// Adds heights to the cells at their places.
@@ -140,9 +134,7 @@ pub(crate) fn add_shared<R: Threads + Sync>(
     ensures { IfOk result (λ _. bins.new ≡ fold with_point bins.old
         (points_of shown.now.station.now shown.now.span.first shown.now.map.now)) }
 {
-    let mut places = empty_places(alloc, shown.map.size().height as usize)?;
-    place_rows(rt, alloc, shown, threads, places.as_mut_slice());
-    let rows = all_of(alloc, places)?;
+    let rows = place_rows(rt, alloc, shown, threads)?;
     add_rows(shown, &rows, bins);
     Ok(())
 }

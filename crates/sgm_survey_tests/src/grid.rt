@@ -5,7 +5,7 @@ ghost use Rattle.sgm_base.specs.Ranges.{Within};
 ghost use Rattle.sgm_grid.specs.Cells.{IsHeight};
 
 use sgm_base::Point;
-use sgm_grid::{Grid, GridSpec, MAX_HEIGHT};
+use sgm_grid::{Grid, GridSpec, MAX_BRIDGE, MAX_CELL, MAX_HEIGHT, MAX_PLACE, NO_HEIGHT};
 use std::alloc::{AllocError, Global};
 use std::process::Abort;
 use std::test::Fail;
@@ -113,4 +113,11 @@ fn cells_keep_the_highest(rt: HostRuntime) -> Result<(), Fail> {
     let south = &[Some(7), Some(7), Some(-1_999_999_999)];
     assert!(rt; has_heights(&rt, rt.alloc(), points, north, south)?);
     Ok(())
+}
+
+// Contracts cite the limits by name, so that no clause says their values.
+#[test]
+fn limits_as_numbers(rt: HostRuntime) {
+    assert!(rt; (MAX_PLACE, MAX_CELL, MAX_BRIDGE) == (2_000_000_000, 1_000_000_000, 8));
+    assert!(rt; (MAX_HEIGHT, NO_HEIGHT) == (2_000_000_000, -2_147_483_648));
 }

@@ -1,7 +1,9 @@
 //! Points worked out by hand. More are in the heights of the stored runs of `sgm_cases`.
 
 use sgm_base::Point;
-use sgm_height::{Camera, point};
+use sgm_height::{
+    Camera, MAX_AXIS, MAX_BASELINE, MAX_DEPTH, MAX_FOCAL, MAX_MOUNT, MAX_OFFSET, MAX_SITE, point,
+};
 
 fn at(x: i64, y: i64, h: i64) -> Option<Point> {
     Some(Point { x, y, h })
@@ -42,4 +44,11 @@ fn halves_by_hand(rt: HostRuntime) {
     assert!(rt; point(&camera, 5, 5, 32) == at(2, -1, -2), "3 halves");
     assert!(rt; point(&camera, 3, 3, 32) == at(1, 0, -2), "1 half");
     assert!(rt; point(&camera, 1, 1, 32) == at(0, 1, -2), "1 half below");
+}
+
+// Contracts cite the limits by name, so that no clause says their values.
+#[test]
+fn limits_as_numbers(rt: HostRuntime) {
+    assert!(rt; [MAX_FOCAL, MAX_OFFSET, MAX_AXIS] == [16_777_216, 16_777_216, 1_073_741_824]);
+    assert!(rt; [MAX_BASELINE, MAX_MOUNT, MAX_DEPTH, MAX_SITE] == [2_000_000_000; 4]);
 }

@@ -11,7 +11,8 @@ ghost use Rattle.sgm_report.specs.Outlines.{IsOutline};
 use crate::fixtures::grid_of;
 use sgm_grid::{Grid, GridSpec, MAX_HEIGHT, MAX_PLACE, bridge};
 use sgm_report::{
-    BasePlane, MAX_CORNERS, MAX_RISE, MIN_CORNERS, Region, RegionTally, is_region_name, tally,
+    BasePlane, MAX_CORNERS, MAX_NAME, MAX_RISE, MIN_CORNERS, Region, RegionTally, is_region_name,
+    tally,
 };
 use std::alloc::{AllocError, Global};
 use std::process::Abort;
@@ -236,4 +237,10 @@ fn longest_name(rt: HostRuntime) {
     assert!(rt; name.len() == 64 && is_region_name(name));
     let longer = "abcdefghijklmnopqrstuvwxyzABCDEFGHIJKLMNOPQRSTUVWXYZ01234567abcde";
     assert!(rt; longer.len() == 65 && !is_region_name(longer));
+}
+
+// Contracts cite the limits by name, so that no clause says their values.
+#[test]
+fn limits_as_numbers(rt: HostRuntime) {
+    assert!(rt; (MIN_CORNERS, MAX_CORNERS, MAX_RISE, MAX_NAME) == (3, 1000, 1_000_000, 64));
 }

@@ -1,4 +1,4 @@
-use Rattle.std.proofs.Common.{◌≡◌, ◌<◌, ◌∙◌, ℕ, List, length, get_or, Option, Some, Result, Ok, Err, sym, ap, subst}
+use Rattle.std.proofs.Common.{◌≡◌, ◌<◌, ◌∙◌, ℕ, List, length, get_or, Some, Result, Ok, Err, sym, ap, subst}
 use Rattle.std.specs.Prelude.{IfOk, IfSome}
 use Rattle.std.specs.Result.{result_ok}
 use Rattle.std.proofs.lemmas.List.Elements.{All-get_or}
@@ -10,6 +10,7 @@ use Rattle.sgm_strip.specs.Scenes.{SceneParts, problem_of}
 use Rattle.sgm_strip.specs.Strips.{AreComplete, AreStrips, IsStripOf}
 use Rattle.sgm_select.specs.Selection.{disparities_of}
 use Rattle.sgm_select.specs.Strips.{rows_of_strip}
+use Rattle.sgm_job.specs.Matching.{AreSelected}
 use Rattle.sgm_job.proofs.selecting.rows_at.Goals as goal
 
 strip_at : (scene : SceneParts) (cut : CutParts) (parcels : List ParcelParts) (strip : ℕ) (parcel : ParcelParts) → AreStrips scene cut parcels → strip < length parcels
@@ -60,10 +61,14 @@ select_strip-requires-clause-complete c =
     (All-get_or (λ (p : ParcelParts). IsComplete p.done) c.args.parcels.now c.args.strip parcel c.requires.strip c.requires.complete.complete)
 
 pub returns : goal.returns
-returns c cut are =
+returns c =
     let planes = c.args.planes.now in
+    let parcels = c.args.parcels.now in
     let parcel = c.index-parcels-strip.result in
-    let is = strip_at planes.scene cut c.args.parcels.now c.args.strip parcel are c.requires.strip c.index-parcels-strip.is in
-    let rows : List (Option ℕ) = rows_of_strip (disparities_of (problem_of planes.scene) planes.left planes.right planes.scene.span.first) cut c.args.strip in
-    subst (λ o. IfSome o (λ v. v.items ≡ rows)) (sym c.ok.ensures.value)
-    (if_ok_some c.select_strip.result (λ v e. e ∙ same_rows planes.scene cut planes.left planes.right c.args.strip parcel is) c.select_strip.ensures.exact)
+    subst (λ o. IfSome o (λ v. AreSelected planes.scene planes.left planes.right parcels c.args.strip v.items)) (sym c.ok.ensures.value)
+    (if_ok_some c.select_strip.result
+    (λ v e. record {
+      each = λ cut are.
+          e ∙ same_rows planes.scene cut planes.left planes.right c.args.strip parcel (strip_at planes.scene cut parcels c.args.strip parcel are c.requires.strip c.index-parcels-strip.is);
+    })
+    c.select_strip.ensures.exact)
