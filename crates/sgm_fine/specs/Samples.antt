@@ -69,14 +69,14 @@ has c k = is_some (left_at c k) && is_some (right_at c half k) && is_some (right
     && is_some (right_at c (neg_ℤ half) k)
 
 abbrev pub has_all : Centre → Bool
-has_all c = list_all (λ k. has c k) (range_with_len 0 PLACES)
+has_all c = list_all (λ k. has c k) (range_with_len 0 25)
 
 -- all samples, row by row
 abbrev pub lefts : Centre → List ℕ
-lefts c = map (λ k. unwrap_or (left_at c k) 0) (range_with_len 0 PLACES)
+lefts c = map (λ k. unwrap_or (left_at c k) 0) (range_with_len 0 25)
 
 abbrev pub rights : Centre → ℤ → List ℕ
-rights c offset = map (λ k. unwrap_or (right_at c offset k) 0) (range_with_len 0 PLACES)
+rights c offset = map (λ k. unwrap_or (right_at c offset k) 0) (range_with_len 0 25)
 
 -- whether the three samples around a place of a row are there
 abbrev pub has_rights : (ℤ → Option ℕ) → ℤ → Bool

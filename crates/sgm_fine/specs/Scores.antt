@@ -12,12 +12,11 @@ use Rattle.sgm_fine.specs.declared.scores.Sums.{Sums}
 use Rattle.sgm_fine.specs.declared.scores.Walk.{Walk}
 use Rattle.sgm_fine.specs.declared.scores.WindowSums.{WindowSums}
 use Rattle.sgm_fine.specs.declared.small.SmallWindow.{SmallWindow}
-use Rattle.sgm_fine.specs.declared.sums.TheConstants.{PLACES}
 
 -- how the numbers of two windows vary together: so many times the sum of their products as there
 -- are places, less the product of their sums
 abbrev pub covariance : (ℕ → ℤ) → (ℕ → ℤ) → ℤ
-covariance f g = (pos PLACES *ℤ products f g) -ℤ (over f *ℤ over g)
+covariance f g = (pos 25 *ℤ products f g) -ℤ (over f *ℤ over g)
 
 -- numbers between two of each place: n eighths from the one to the other, eight times as great
 abbrev pub blended : (ℕ → ℤ) → (ℕ → ℤ) → ℕ → ℕ → ℤ

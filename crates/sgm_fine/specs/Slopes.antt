@@ -8,7 +8,6 @@ use Rattle.sgm_base.specs.Values.{Values}
 use Rattle.sgm_fine.specs.Windows.{column_of, products, row_of_place, value_around}
 use Rattle.sgm_fine.specs.declared.slopes.Slope.{Slope}
 use Rattle.sgm_fine.specs.declared.slopes.Slopes.{Slopes}
-use Rattle.sgm_fine.specs.declared.slopes.TheConstants.{REACH}
 
 -- the step from m to a value, where there is one that isn't further away than that
 abbrev pub step_to : ℕ → ℕ → Option ℕ → Option ℤ
@@ -16,9 +15,10 @@ step_to most m (Some v) = if nat_le v (m + most) && nat_le m (v + most) then Som
     else None
 step_to most m None = None
 
--- the step to the place k of the window around the pixel (x, y), whose value is m
+-- the step to the place k of the window around the pixel (x, y), whose value is m: at most two
+-- pixels
 abbrev pub step_at : Values → ℕ → ℕ → ℕ → ℕ → Option ℤ
-step_at map x y m k = step_to REACH m (value_around map 2 x y (k % 5) (k / 5))
+step_at map x y m k = step_to 32 m (value_around map 2 x y (k % 5) (k / 5))
 
 -- the sum of the steps, each by its distance along an axis
 abbrev pub moment : (ℕ → ℤ) → (ℕ → Option ℤ) → ℤ

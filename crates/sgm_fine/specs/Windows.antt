@@ -37,9 +37,9 @@ unfoldable pub sum_below : ℕ → (ℕ → ℤ) → ℤ
 sum_below zero f = pos 0
 sum_below (suc n) f = sum_below n f +ℤ f n
 
--- the sum over all places of a window
+-- the sum over all places of a window: five by five
 abbrev pub over : (ℕ → ℤ) → ℤ
-over f = sum_below PLACES f
+over f = sum_below 25 f
 
 -- the sum of the products of what two functions give
 abbrev pub products : (ℕ → ℤ) → (ℕ → ℤ) → ℤ
