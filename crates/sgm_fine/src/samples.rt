@@ -2,7 +2,7 @@
 
 ghost use Rattle.std.specs.Prelude.{◌≡◌, ℕ, ◌+◌, ◌-◌, ◌*◌, ◌/◌, ◌%◌, ◌^◌, ◌<◌, ◌≤◌, ◌&&◌, ℤ, pos};
 ghost use Rattle.std.specs.Prelude.{◌+ℤ◌, ◌-ℤ◌, ◌*ℤ◌, ◌≤ℤ◌, true, Option, Some, None, is_some};
-ghost use Rattle.std.specs.Prelude.{IfSome};
+ghost use Rattle.std.specs.Prelude.{IfSome, IsTrue};
 ghost use Rattle.sgm_base.specs.Disparities.{IsFirst};
 ghost use Rattle.sgm_base.specs.Ranges.{IsFromTo, Within};
 ghost use Rattle.sgm_base.specs.Values.{Values};
@@ -355,14 +355,20 @@ pub(crate) fn lies_inside(lie: &Lie, width: usize) -> bool
     spans(first, last, width)
 }
 
-/// The samples of a window that lies inside; none where a pixel that is needed is void. A function
-/// by itself, since its numbers stay in registers so.
+/// The samples of a window; none where a pixel that is needed is void or outside. INSIDE says that
+/// the window lies inside, so that nothing tests the edges. A function by itself, since its numbers
+/// stay in registers so.
 #[inline(never)]
-fn samples_inside(left: &Field, right: &Field, at: Pixel, lie: &Lie) -> Option<Window>
+fn samples_of<const INSIDE: bool>(
+    left: &Field,
+    right: &Field,
+    at: Pixel,
+    lie: &Lie,
+) -> Option<Window>
     requires pixel { (at.x < 2 ^ 15) × (at.y < 2 ^ 15) }
     requires lie { IsLie lie.now }
-    requires inside { IsInside left.now right.now at.x at.y }
-    requires among { LiesInside lie.now right.now.width }
+    requires inside { IsTrue INSIDE → IsInside left.now right.now at.x at.y }
+    requires among { IsTrue INSIDE → LiesInside lie.now right.now.width }
     ensures none { (map : Values)
         → HoldsLie lie.now (centre left.now right.now map at.first at.x at.y at.value)
         → is_some result ≡ has_all (centre left.now right.now map at.first at.x at.y at.value) }
@@ -380,43 +386,18 @@ fn samples_inside(left: &Field, right: &Field, at: Pixel, lie: &Lie) -> Option<W
     };
     for j in 0..SIDE {
         for i in 0..SIDE {
-            let place = place_inside(left, right, at, lie, i, j)?;
             let k = SIDE * j + i;
+            let found = if INSIDE {
+                place_inside(left, right, at, lie, i, j)
+            } else {
+                place_at(left, right, at, lie, k)
+            };
+            let place = found?;
             window.left[k] = place.left;
             window.after[k] = place.after;
             window.here[k] = place.here;
             window.before[k] = place.before;
         }
-    }
-    Some(window)
-}
-
-/// The samples of a window that may lie across an edge; none where a pixel that is needed is void
-/// or outside.
-fn samples_across(left: &Field, right: &Field, at: Pixel, lie: &Lie) -> Option<Window>
-    requires pixel { (at.x < 2 ^ 15) × (at.y < 2 ^ 15) }
-    requires lie { IsLie lie.now }
-    ensures none { (map : Values)
-        → HoldsLie lie.now (centre left.now right.now map at.first at.x at.y at.value)
-        → is_some result ≡ has_all (centre left.now right.now map at.first at.x at.y at.value) }
-    ensures some { (map : Values)
-        → HoldsLie lie.now (centre left.now right.now map at.first at.x at.y at.value)
-        → IfSome result
-        (λ w. HoldsSamples w (centre left.now right.now map at.first at.x at.y at.value)) }
-    ensures small { IfSome result IsWindow }
-{
-    let mut window = Window {
-        left: [0; PLACES],
-        after: [0; PLACES],
-        here: [0; PLACES],
-        before: [0; PLACES],
-    };
-    for k in 0..PLACES {
-        let place = place_at(left, right, at, lie, k)?;
-        window.left[k] = place.left;
-        window.after[k] = place.after;
-        window.here[k] = place.here;
-        window.before[k] = place.before;
     }
     Some(window)
 }
@@ -436,8 +417,8 @@ pub(crate) fn samples_at(left: &Field, right: &Field, at: Pixel, lie: &Lie) -> O
 {
     let inside = left.has_window(at.x, at.y) && right.has_rows(at.y);
     if inside && lies_inside(lie, right.width()) {
-        samples_inside(left, right, at, lie)
+        samples_of::<true>(left, right, at, lie)
     } else {
-        samples_across(left, right, at, lie)
+        samples_of::<false>(left, right, at, lie)
     }
 }

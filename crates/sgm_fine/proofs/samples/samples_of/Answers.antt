@@ -1,11 +1,13 @@
-use Rattle.std.proofs.Common.{◌≡◌, ◌+◌, ◌*◌, ◌^◌, ◌<◌, false, is_some, pos, neg_ℤ, ap, sym, ◌∙◌, arith, length-set}
+use Rattle.std.proofs.Common.{◌≡◌, ◌+◌, ◌*◌, ◌^◌, ◌<◌, false, is_some, Option, IfSome, pos, neg_ℤ, ap, subst, sym, ◌∙◌, arith, length-set}
 use Rattle.std.proofs.lemmas.List.Elements.{All-set}
-use Rattle.sgm_fine.specs.Samples.{Centre, centre, half, has, left_at, right_at}
+use Rattle.sgm_fine.specs.Samples.{Centre, HoldsPlace, IsPlace, centre, half, has, left_at, right_at}
+use Rattle.sgm_fine.specs.declared.samples.Place.{Place}
 use Rattle.sgm_fine.proofs.WindowSamples.{all_pass, has_below, list_all_places, list_more, one_fails, renamed_below}
-use Rattle.sgm_fine.proofs.samples.samples_inside.Goals as goal
+use Rattle.sgm_fine.proofs.samples.samples_of.Goals as goal
+use Rattle.sgm_fine.proofs.samples.samples_of.Goals.{then-this-ne0, else-this-ne0}
 
 pub loop-i-init : goal.loop-i-init
-loop-i-init c =
+loop-i-init g c =
     let j = c.loop-j.j in
     let before = c.loop-j.invariant in
     record {
@@ -20,14 +22,18 @@ loop-i-init c =
     }
 
 pub loop-i-preserved : goal.loop-i-preserved
-loop-i-preserved c =
+loop-i-preserved g c =
     let j = c.loop-j.j in
     let i = c.loop-i.i in
     let k = 5 * j + i in
     let w = c.loop-i.window in
     let before = c.loop-i.invariant in
     let s = c.in_ok-place.place in
-    let small = c.in_ok-place.ensures.small in
+    let is = λ (o : Option Place). IfSome o IsPlace in
+    let small = subst is c.in_ok-place.was (elim c.if-this-ne0.branch [
+      | then-this-ne0 w ↦ subst is (sym w.found-is) w.place_inside-found.ensures.small
+      | else-this-ne0 w ↦ subst is (sym w.found-is) w.place_at-found.ensures.small
+    ]) in
     let lt : k < 25 = omega (arith, before.row, c.loop-i-test.true) in
     record {
       row = before.row;
@@ -45,7 +51,11 @@ loop-i-preserved c =
       held = λ map h.
           let p : Centre = centre c.args.left.now c.args.right.now map c.args.at.first c.args.at.x c.args.at.y c.args.at.value in
           let below = before.held map h in
-          let more = c.in_ok-place.ensures.some map h in
+          let holds = λ (o : Option Place). IfSome o (λ s. HoldsPlace s p k) in
+          let more = subst holds c.in_ok-place.was (elim c.if-this-ne0.branch [
+            | then-this-ne0 w ↦ subst holds (sym w.found-is) (w.place_inside-found.ensures.some map h)
+            | else-this-ne0 w ↦ subst holds (sym w.found-is) (w.place_at-found.ensures.some map h)
+          ]) in
           renamed_below (k + 1) (5 * j + (i + 1)) _ p (omega arith) (record {
             left = list_more (left_at p) w.left k s.left (omega (arith, lt, before.long_left)) below.left more.left;
             after = list_more (right_at p half) w.after k s.after (omega (arith, lt, before.long_after)) below.after more.after;
@@ -55,7 +65,7 @@ loop-i-preserved c =
     }
 
 pub loop-j-preserved : goal.loop-j-preserved
-loop-j-preserved c =
+loop-j-preserved g c =
     let j = c.loop-j.j in
     let i = c.loop-i.i in
     let before = c.loop-i.invariant in
@@ -71,15 +81,19 @@ loop-j-preserved c =
     }
 
 pub returns-in_err-place-clause-none : goal.returns-in_err-place-clause-none
-returns-in_err-place-clause-none c = λ map h.
+returns-in_err-place-clause-none g c = λ map h.
     let p : Centre = centre c.args.left.now c.args.right.now map c.args.at.first c.args.at.x c.args.at.y c.args.at.value in
     let k = 5 * c.loop-j.j + c.loop-i.i in
     let lt : k < 25 = omega (arith, c.loop-j-test.true, c.loop-i-test.true) in
-    let fails : has p k ≡ false = sym (c.place_inside.ensures.none map h) ∙ ap is_some c.in_err-place.was in
-    ap is_some c.from_residual.ensures ∙ sym (one_fails (has p) 25 k lt fails)
+    let told = λ (o : Option Place). is_some o ≡ has p k in
+    let fails : false ≡ has p k = subst told c.in_err-place.was (elim c.if-this-ne0.branch [
+      | then-this-ne0 w ↦ subst told (sym w.found-is) (w.place_inside-found.ensures.none map h)
+      | else-this-ne0 w ↦ subst told (sym w.found-is) (w.place_at-found.ensures.none map h)
+    ]) in
+    ap is_some c.from_residual.ensures ∙ sym (one_fails (has p) 25 k lt (sym {b = has p k} fails))
 
 pub returns-clause-none : goal.returns-clause-none
-returns-clause-none c = λ map h.
+returns-clause-none g c = λ map h.
     let p : Centre = centre c.args.left.now c.args.right.now map c.args.at.first c.args.at.x c.args.at.y c.args.at.value in
     let k = 5 * c.loop-j.j in
     let before = c.loop-j.invariant in
@@ -87,7 +101,7 @@ returns-clause-none c = λ map h.
     sym (all_pass (has p) 0 25 (λ n lt. has_below k c.loop-j.window p (before.held map h) n (omega (arith, lt, end))))
 
 pub returns-clause-some : goal.returns-clause-some
-returns-clause-some c = λ map h.
+returns-clause-some g c = λ map h.
     let p : Centre = centre c.args.left.now c.args.right.now map c.args.at.first c.args.at.x c.args.at.y c.args.at.value in
     let k = 5 * c.loop-j.j in
     let w = c.loop-j.window in

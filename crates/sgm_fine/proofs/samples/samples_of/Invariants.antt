@@ -2,11 +2,11 @@ use Rattle.std.proofs.Common.{◌≡◌, ◌+◌, ◌*◌, ◌<◌, ◌≤◌, l
 use Rattle.sgm_base.specs.Values.{Values}
 use Rattle.sgm_fine.specs.Samples.{HoldsLie, IsWindow, centre}
 use Rattle.sgm_fine.proofs.WindowSamples.{HoldsBelow}
-use Rattle.sgm_fine.proofs.samples.samples_inside.Given as goal
+use Rattle.sgm_fine.proofs.samples.samples_of.Given as goal
 
 -- the rows before this one are gathered
 abbrev pub invariant-loop-j : goal.invariant-loop-j
-invariant-loop-j l = record {
+invariant-loop-j g l = record {
   few : l.j ≤ 5;
   long_left : length l.window.left ≡ 25;
   long_after : length l.window.after ≡ 25;
@@ -19,7 +19,7 @@ invariant-loop-j l = record {
 
 -- and of this one the columns before
 abbrev pub invariant-loop-i : goal.invariant-loop-i
-invariant-loop-i l = record {
+invariant-loop-i g l = record {
   row : l.j < 5;
   few : l.i ≤ 5;
   long_left : length l.window.left ≡ 25;
