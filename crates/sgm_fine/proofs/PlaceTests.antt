@@ -70,28 +70,17 @@ best_goes_on q f k c b r score offered s lt at ec er es is = (
   score_taken f (q c && nat_lt score offered) c b r score offered s er es is.1 ec,
 )
 
--- the places of a turn
-pub place_after : (n : ℕ) → n < 8 → negsuc n ≡ get_or order (2 * n + 1) (pos 0)
-place_after zero lt = refl
-place_after (suc zero) lt = refl
-place_after (suc (suc zero)) lt = refl
-place_after (suc (suc (suc zero))) lt = refl
-place_after (suc (suc (suc (suc zero)))) lt = refl
-place_after (suc (suc (suc (suc (suc zero))))) lt = refl
-place_after (suc (suc (suc (suc (suc (suc zero)))))) lt = refl
-place_after (suc (suc (suc (suc (suc (suc (suc zero))))))) lt = refl
-place_after (suc (suc (suc (suc (suc (suc (suc (suc n)))))))) lt = absurd (omega (arith, lt))
-
-pub place_before : (n : ℕ) → n < 8 → pos (n + 1) ≡ get_or order (2 * n + 1 + 1) (pos 0)
-place_before zero lt = refl
-place_before (suc zero) lt = refl
-place_before (suc (suc zero)) lt = refl
-place_before (suc (suc (suc zero))) lt = refl
-place_before (suc (suc (suc (suc zero)))) lt = refl
-place_before (suc (suc (suc (suc (suc zero))))) lt = refl
-place_before (suc (suc (suc (suc (suc (suc zero)))))) lt = refl
-place_before (suc (suc (suc (suc (suc (suc (suc zero))))))) lt = refl
-place_before (suc (suc (suc (suc (suc (suc (suc (suc n)))))))) lt = absurd (omega (arith, lt))
+-- the two places of a turn
+pub places_of : (n : ℕ) → n < 8 → (negsuc n ≡ get_or order (2 * n + 1) (pos 0)) × (pos (n + 1) ≡ get_or order (2 * n + 1 + 1) (pos 0))
+places_of zero lt = (refl, refl)
+places_of (suc zero) lt = (refl, refl)
+places_of (suc (suc zero)) lt = (refl, refl)
+places_of (suc (suc (suc zero))) lt = (refl, refl)
+places_of (suc (suc (suc (suc zero)))) lt = (refl, refl)
+places_of (suc (suc (suc (suc (suc zero))))) lt = (refl, refl)
+places_of (suc (suc (suc (suc (suc (suc zero)))))) lt = (refl, refl)
+places_of (suc (suc (suc (suc (suc (suc (suc zero))))))) lt = (refl, refl)
+places_of (suc (suc (suc (suc (suc (suc (suc (suc n)))))))) lt = absurd (omega (arith, lt))
 
 -- a place near the pixel's own, whose value is one of 16 bits, and from 0 to most where the pixel's is so
 abbrev pub IsNear : ℕ → ℕ → ℤ → Type 0

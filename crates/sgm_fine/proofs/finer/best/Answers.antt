@@ -6,7 +6,7 @@ use Rattle.sgm_fine.specs.Windows.{number}
 use Rattle.sgm_fine.specs.declared.score.Score.{Score}
 use Rattle.sgm_fine.specs.declared.small.SmallWindow.{SmallWindow}
 use Rattle.sgm_fine.proofs.PixelSums.{score_is, together_small}
-use Rattle.sgm_fine.proofs.PlaceTests.{IsBest, best_all, best_first, best_goes_on, best_score, near_own, near_taken, place_after, place_before}
+use Rattle.sgm_fine.proofs.PlaceTests.{IsBest, best_all, best_first, best_goes_on, best_score, near_own, near_taken, places_of}
 use Rattle.sgm_fine.proofs.Walks.{fit_after, fit_before, walk_within}
 use Rattle.sgm_fine.proofs.finer.best.Goals as goal
 
@@ -126,9 +126,9 @@ loop-n-preserved c =
           let few : k + 1 < 17 = omega (arith, lt) in
           let turn : k + 1 + 1 ≡ 2 * (unsigned_abs (to_z w32 (of_z w32 (to_z w32 c.loop-n.n-bits +ℤ pos 1))) - 1) + 1 = omega (arith, next) in
           subst (λ j. IsBest test (place_score p) j second.place (divided second.score)) turn
-          (best_goes_on test (place_score p) (k + 1) (pos (n + 1)) first.place second.place (divided first.score) there (divided second.score) few (place_before n lt)
+          (best_goes_on test (place_score p) (k + 1) (pos (n + 1)) first.place second.place (divided first.score) there (divided second.score) few (places_of n lt).1
           (score_is c.args.parts.now p h (pos (n + 1)) before.fit next_is) two second_is
-          (best_goes_on test (place_score p) k (negsuc n) c.loop-n.best.place first.place old here (divided first.score) (omega (arith, few)) (place_after n lt)
+          (best_goes_on test (place_score p) k (negsuc n) c.loop-n.best.place first.place old here (divided first.score) (omega (arith, few)) (places_of n lt).0
           (score_is c.args.parts.now p h (negsuc n) after.fit is) one first_is (i.held p h)));
     }
 
