@@ -79,8 +79,10 @@ pub record IsPart (part : Part) : Type 0 where
   pub cross : Within (2 ^ 46) part.cross
   pub own : Within (2 ^ 46) part.own
 
-unfoldable pub AreParts : Parts → Type 0
-AreParts parts = IsPart parts.here × IsPart parts.after × IsPart parts.before
+pub record AreParts (parts : Parts) : Type 0 where
+  pub here : IsPart parts.here
+  pub after : IsPart parts.after
+  pub before : IsPart parts.before
 
 -- the right numbers of a window at the place c
 abbrev pub numbers_at : SmallWindow → ℤ → ℕ → ℤ

@@ -1,7 +1,7 @@
 use Rattle.std.proofs.Common.{◌≡◌, ◌+◌, ◌-◌, ◌*◌, ◌<◌, pos, negsuc, ◌+ℤ◌, ◌-ℤ◌, unsigned_abs, if◌then◌else◌, to_z, of_z, w32, arith, Option, Some, None, option_map, unwrap_or, refl, subst, sym, ap, ◌∙◌}
 use Rattle.std.proofs.lemmas.Int.{ints}
 use Rattle.sgm_fine.specs.Finer.{fits, place_score, takes}
-use Rattle.sgm_fine.specs.Scores.{AreParts, HoldsParts, HoldsWalk, divided, score}
+use Rattle.sgm_fine.specs.Scores.{HoldsParts, HoldsWalk, divided, score}
 use Rattle.sgm_fine.specs.Windows.{number}
 use Rattle.sgm_fine.specs.declared.score.Score.{Score}
 use Rattle.sgm_fine.specs.declared.small.SmallWindow.{SmallWindow}
@@ -13,22 +13,6 @@ use Rattle.sgm_fine.proofs.finer.best.Goals as goal
 first_score : (found : Option Score) (other : Score) → divided other ≡ 0 → divided (unwrap_or found other) ≡ unwrap_or (option_map divided found) 0
 first_score (Some score) other e = refl
 first_score None other e = e
-
-pub walk_from-after-requires-clause-here : goal.walk_from-after-requires-clause-here
-unfolding AreParts
-walk_from-after-requires-clause-here c = c.requires.parts.0
-
-pub walk_from-after-requires-clause-side : goal.walk_from-after-requires-clause-side
-unfolding AreParts
-walk_from-after-requires-clause-side c = c.requires.parts.1
-
-pub walk_from-before-requires-clause-here : goal.walk_from-before-requires-clause-here
-unfolding AreParts
-walk_from-before-requires-clause-here c = c.requires.parts.0
-
-pub walk_from-before-requires-clause-side : goal.walk_from-before-requires-clause-side
-unfolding AreParts
-walk_from-before-requires-clause-side c = c.requires.parts.2
 
 pub of-requires : goal.of-requires
 unfolding HoldsParts
@@ -53,20 +37,20 @@ loop-n-init c = record {
 }
 
 pub advanced-after-requires : goal.advanced-after-requires
-unfolding AreParts HoldsParts
+unfolding HoldsParts
 advanced-after-requires c =
     let s = c.requires.small in
     let i = c.loop-n.invariant in
     let p = c.requires.parts in
-    walk_within c.loop-n.after c.args.parts.now.here c.args.parts.now.after _ _ _ (unsigned_abs (to_z w32 c.loop-n.n-bits) - 1) (omega (arith, ints, i.few)) p.0 p.1 s.holds.here s.holds.after (i.after s.window s.holds)
+    walk_within c.loop-n.after c.args.parts.now.here c.args.parts.now.after _ _ _ (unsigned_abs (to_z w32 c.loop-n.n-bits) - 1) (omega (arith, ints, i.few)) p.here p.after s.holds.here s.holds.after (i.after s.window s.holds)
 
 pub advanced-before-requires : goal.advanced-before-requires
-unfolding AreParts HoldsParts
+unfolding HoldsParts
 advanced-before-requires c =
     let s = c.requires.small in
     let i = c.loop-n.invariant in
     let p = c.requires.parts in
-    walk_within c.loop-n.before c.args.parts.now.here c.args.parts.now.before _ _ _ (unsigned_abs (to_z w32 c.loop-n.n-bits) - 1) (omega (arith, ints, i.few)) p.0 p.2 s.holds.here s.holds.before (i.before s.window s.holds)
+    walk_within c.loop-n.before c.args.parts.now.here c.args.parts.now.before _ _ _ (unsigned_abs (to_z w32 c.loop-n.n-bits) - 1) (omega (arith, ints, i.few)) p.here p.before s.holds.here s.holds.before (i.before s.window s.holds)
 
 pub better-best-requires-clause-together : goal.better-best-requires-clause-together
 better-best-requires-clause-together c =

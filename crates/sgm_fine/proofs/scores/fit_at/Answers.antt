@@ -8,9 +8,8 @@ use Rattle.sgm_fine.specs.declared.small.SmallWindow.{SmallWindow}
 use Rattle.sgm_fine.proofs.scores.fit_at.Goals as goal
 
 kept_side : (b : Bool) (r : Part) (parts : Parts) → r ≡ (if b then parts.after else parts.before) → AreParts parts → IsPart r
-unfolding AreParts
-kept_side true r parts e h = subst IsPart (sym e) h.1
-kept_side false r parts e h = subst IsPart (sym e) h.2
+kept_side true r parts e h = subst IsPart (sym e) h.after
+kept_side false r parts e h = subst IsPart (sym e) h.before
 
 held_side : (b : Bool) (r : Part) (parts : Parts) (w : SmallWindow) → r ≡ (if b then parts.after else parts.before) → HoldsParts parts w
     → HoldsPart r (number w.left) (number w.here) (if b then number w.after else number w.before)
@@ -21,10 +20,6 @@ held_side false r parts w e h = subst (λ (p : Part). HoldsPart p (number w.left
 pub fit_between-requires-clause-side : goal.fit_between-requires-clause-side
 fit_between-requires-clause-side c =
     kept_side (int_lt (to_z w32 (of_z w32 c.args.c)) (pos 0)) c.side_of.result c.args.parts.now c.side_of.ensures c.requires.parts
-
-pub fit_between-requires-clause-here : goal.fit_between-requires-clause-here
-unfolding AreParts
-fit_between-requires-clause-here c = c.requires.parts.0
 
 pub returns : goal.returns
 unfolding HoldsParts

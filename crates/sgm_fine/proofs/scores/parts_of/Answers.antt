@@ -1,5 +1,5 @@
 use Rattle.std.proofs.Common.{rules, FitsSigned, w32, ◌∙◌}
-use Rattle.sgm_fine.specs.Scores.{AreParts, HoldsParts}
+use Rattle.sgm_fine.specs.Scores.{HoldsParts}
 use Rattle.sgm_fine.specs.Windows.{number, over, products}
 use Rattle.sgm_fine.proofs.Parts.{covariance_parts, narrow_kept, part_kept}
 use Rattle.sgm_fine.proofs.scores.parts_of.Goals as goal
@@ -25,7 +25,3 @@ returns-clause-holds c w held =
       after = c.part_of-2.ensures.holds l h (number w.after) left here held.after (narrow_kept sums.with_after in_after ∙ held.with_after);
       before = c.part_of-3.ensures.holds l h (number w.before) left here held.before (narrow_kept sums.with_before in_before ∙ held.with_before);
     }
-
-pub returns-clause-kept : goal.returns-clause-kept
-unfolding AreParts
-returns-clause-kept c = (c.part_of.ensures.kept, c.part_of-2.ensures.kept, c.part_of-3.ensures.kept)
