@@ -16,6 +16,7 @@ pub mod Quotients
 pub mod Rights
 pub mod Rises
 pub mod SideSums
+pub mod SlopeSums
 pub mod SmallRights
 pub mod Squares
 pub mod StepLaws
