@@ -68,18 +68,30 @@ are_samples g bands one other x y lie k lt w l h =
       third = h.third ∙ packed_at bands.right other y (k / 5) (start lie k / 16 + 2) _ w.held.right row (omega (arith, low)) (omega arith);
     }
 
+-- what is gathered from the packed rows of such a window
+pub record IsFromRows (g : Gathered) (bands : Bands) (one other : Values) (x y : ℕ) (lie : Lie) : Type 0 where
+  pub lies : LiesWhole bands one other x y lie
+  pub copied : (k : ℕ) → k < 25 → number g.left k ≡ number bands.left (4160 * (k / 5) + (x + k % 5 - 2))
+  pub each : (k : ℕ) → k < 25 → HoldsGathered g bands.right lie k
+
+pub from_rows : (g : Gathered) (bands : Bands) (one other : Values) (x y width : ℕ) (lie : Lie) (left : List ℤ) → ArePacked bands one other y → (2 ≤ x) × (x + 2 < one.width) → width ≡ other.width → LiesInside lie width
+    → g.left ≡ left → ((k : ℕ) → k < 25 → number left k ≡ number bands.left (4160 * (k / 5) + (x + k % 5 - 2))) → ((k : ℕ) → k < 25 → HoldsGathered g bands.right lie k) → IsFromRows g bands one other x y lie
+from_rows g bands one other x y width lie left held columns wide among same copied each = record {
+  lies = record { held = held; from = columns.0; to = columns.1; among = subst (LiesInside lie) wide among };
+  copied = λ k lt. ap (λ xs. number xs k) same ∙ copied k lt;
+  each = each;
+}
+
 at_most : (z : ℤ) (o : Option ℕ) → z ≡ packed o → z ≤ℤ pos 255
 at_most z o e = subst (λ n. n ≤ℤ pos 255) (sym e) (packed_most o)
 
 -- samples that aren't below 0 are whole, and so are the zeros behind
-pub places_whole : (g : Gathered) (bands : Bands) (one other : Values) (x y : ℕ) (lie : Lie) → LiesWhole bands one other x y lie → IsGathered g
-    → ((k : ℕ) → k < 25 → number g.left k ≡ number bands.left (4160 * (k / 5) + (x + k % 5 - 2))) → ((k : ℕ) → k < 25 → HoldsGathered g bands.right lie k)
-    → ((k : ℕ) → k < 32 → pos 0 ≤ℤ number g.left k) → ((k : ℕ) → k < 32 → pos 0 ≤ℤ number g.first k) → ((k : ℕ) → k < 32 → pos 0 ≤ℤ number g.second k)
+pub places_whole : (g : Gathered) (bands : Bands) (one other : Values) (x y : ℕ) (lie : Lie) → IsFromRows g bands one other x y lie → IsGathered g → ((k : ℕ) → k < 32 → pos 0 ≤ℤ number g.left k) → ((k : ℕ) → k < 32 → pos 0 ≤ℤ number g.first k) → ((k : ℕ) → k < 32 → pos 0 ≤ℤ number g.second k)
     → ((k : ℕ) → k < 32 → pos 0 ≤ℤ number g.third k) → (k : ℕ) → k < 32 → IsWhole g k
-places_whole g bands one other x y lie w rest copied each left first second third k lt = elim (cases_lt k 25) [
+places_whole g bands one other x y lie rows rest left first second third k lt = elim (cases_lt k 25) [
   | inl here ↦
-      let is = are_samples g bands one other x y lie k here w (copied k here) (each k here) in
-      let part = (each k here).part in
+      let is = are_samples g bands one other x y lie k here rows.lies (rows.copied k here) (rows.each k here) in
+      let part = (rows.each k here).part in
       record {
         left = (left k lt, at_most _ (value_at one (x + k % 5 - 2) (y + k / 5 - 2)) is.left);
         first = (first k lt, at_most _ (value_at other (start lie k / 16) (y + k / 5 - 2)) is.first);
@@ -165,14 +177,14 @@ holds_rights g bands p lie k next own last lt w h is part whole made =
       | inr later ↦ here_later row u (pos q) f b c s later eb (λ _. ec) ∙ ap (λ z. Some (unsigned_abs z)) (sym (r.later later))
     ]
 
-pub window_whole : (w : SmallWindow) (g : Gathered) (bands : Bands) (p : Centre) (lie : Lie) → LiesWhole bands p.left p.right p.x p.y lie → HoldsLie lie p → w.left ≡ g.left
-    → ((k : ℕ) → k < 25 → number g.left k ≡ number bands.left (4160 * (k / 5) + (p.x + k % 5 - 2))) → ((k : ℕ) → k < 25 → HoldsGathered g bands.right lie k) → ((k : ℕ) → k < 32 → IsWhole g k)
+pub window_whole : (w : SmallWindow) (g : Gathered) (bands : Bands) (p : Centre) (lie : Lie) → IsFromRows g bands p.left p.right p.x p.y lie → HoldsLie lie p → w.left ≡ g.left → ((k : ℕ) → k < 32 → IsWhole g k)
     → ((k : ℕ) → k < 25 → AreBetween (number w.after k) (number w.here k) (number w.before k) (unsigned_abs (number g.first k)) (unsigned_abs (number g.second k)) (unsigned_abs (number g.third k))
     (unsigned_abs (number g.part k))) → HoldsWhole w p
-window_whole w g bands p lie lies h left copied each whole made =
-    let is = λ (k : ℕ) (lt : k < 25). are_samples g bands p.left p.right p.x p.y lie k lt lies (copied k lt) (each k lt) in
+window_whole w g bands p lie rows h left whole made =
+    let lies = rows.lies in
+    let is = λ (k : ℕ) (lt : k < 25). are_samples g bands p.left p.right p.x p.y lie k lt lies (rows.copied k lt) (rows.each k lt) in
     let in_all = λ (k : ℕ) (lt : k < 25). whole k (omega (arith, lt)) in
-    let rights = λ (k : ℕ) (lt : k < 25). holds_rights g bands p lie k _ _ _ lt lies h (is k lt) (each k lt).part (in_all k lt) (made k lt) in
+    let rights = λ (k : ℕ) (lt : k < 25). holds_rights g bands p lie k _ _ _ lt lies h (is k lt) (rows.each k lt).part (in_all k lt) (made k lt) in
     record {
       left = λ k lt. holds_left g bands p lie k lies (is k lt) (in_all k lt) ∙ ap (λ xs. Some (unsigned_abs (number xs k))) (sym left);
       after = λ k lt. (rights k lt).0;
