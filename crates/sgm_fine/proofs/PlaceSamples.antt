@@ -1,7 +1,10 @@
 -- The samples of one place of a window, and where they lie.
-use Rattle.std.proofs.Common.{◌≡◌, ℕ, ◌^◌, Bool, true, false, ◌&&◌, Option, Some, None, is_some, ℤ, pos, ◌+ℤ◌, ◌-ℤ◌, ◌*ℤ◌, ◌≤ℤ◌, to_z, of_z, w32, arith, refl, ap, ap₂, sym, ◌∙◌}
+use Rattle.std.proofs.Common.{◌≡◌, ℕ, ◌^◌, ◌+◌, ◌-◌, ◌/◌, Bool, true, false, ◌&&◌, Option, Some, None, is_some, IfSome, ℤ, pos, neg_ℤ, ◌+ℤ◌, ◌-ℤ◌, ◌*ℤ◌, ◌≤ℤ◌, to_z, of_z, w32, arith, refl, ap, ap₂, subst, sym, ◌∙◌}
 use Rattle.std.proofs.lemmas.Int.{ints}
+use Rattle.std.proofs.lemmas.Option.{IfSome_then}
 use Rattle.sgm_base.specs.Ranges.{Within}
+use Rattle.sgm_fine.specs.Samples.{Centre, HoldsPlace, HoldsSides, half, has, has_rights, left_at, place_of, right_at, sample}
+use Rattle.sgm_fine.specs.declared.samples.Place.{Place}
 
 -- what the code computes as the place of a column less how far a row lies to the left
 pub lowered : (l d : ℤ) → Within (2 ^ 22) l → Within 6600 d → to_z w32 (of_z w32 (to_z w32 (of_z w32 l) -ℤ to_z w32 (of_z w32 d))) ≡ l -ℤ d
@@ -18,9 +21,21 @@ pub place_same : (l l' a a' d d' : ℤ) → l ≡ l' → a ≡ a' → d ≡ d' �
 place_same l l' a a' d d' el ea ed = ap₂ (λ (y z : ℤ). y -ℤ z) (ap₂ (λ (y z : ℤ). y -ℤ z) el ea) ed
 
 -- whether four samples are there
-pub one_and_three : (a b c d : Option ℕ) → (is_some a && (is_some b && is_some c && is_some d)) ≡ (is_some a && is_some b && is_some c && is_some d)
+one_and_three : (a b c d : Option ℕ) → (is_some a && (is_some b && is_some c && is_some d)) ≡ (is_some a && is_some b && is_some c && is_some d)
 one_and_three None b c d = refl
 one_and_three (Some a) b c d = refl
+
+-- the samples of a left one and around a place of a right row are those of a pixel's place k where these are its
+pub has_from : (p : Centre) (k : ℕ) (found : Bool) (one : Option ℕ) (row : ℤ → Option ℕ) (u : ℤ) → found ≡ (is_some one && has_rights row u) → one ≡ left_at p k → row ≡ sample p.right (p.y + k / 5 - 2) → u ≡ place_of p k
+    → found ≡ has p k
+has_from p k found one row u is left same at =
+    is ∙ ap₂ (λ o b. is_some o && b) left (ap₂ has_rights same at) ∙ one_and_three (left_at p k) (right_at p half k) (right_at p (pos 0) k) (right_at p (neg_ℤ half) k)
+
+pub holds_from : (p : Centre) (k : ℕ) (found : Option Place) (one : Option ℕ) (row : ℤ → Option ℕ) (u : ℤ) → IfSome found (λ s. HoldsSides s one row u) → one ≡ left_at p k → row ≡ sample p.right (p.y + k / 5 - 2) → u ≡ place_of p k
+    → IfSome found (λ s. HoldsPlace s p k)
+holds_from p k found one row u held left same at = IfSome_then found held (λ s h.
+    let is = subst (λ r. HoldsSides s one r (place_of p k)) same (subst (HoldsSides s one row) at h) in
+    record { left = sym left ∙ is.left; after = is.after; here = is.here; before = is.before })
 
 pub all_four : (a b c d : Option ℕ) (s t u v : ℕ) → a ≡ Some s → b ≡ Some t → c ≡ Some u → d ≡ Some v → true ≡ (is_some a && is_some b && is_some c && is_some d)
 all_four a b c d s t u v ea eb ec ed = rw (ea, eb, ec, ed) refl

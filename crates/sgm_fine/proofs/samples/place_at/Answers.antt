@@ -1,9 +1,15 @@
-use Rattle.std.proofs.Common.{◌+◌, ◌-◌, ◌/◌, ◌%◌, ◌&&◌, pos, neg_ℤ, Some, ap, ap₂, sym, is_some, subst, arith, ◌∙◌}
+use Rattle.std.proofs.Common.{◌≡◌, ℕ, ◌<◌, ◌/◌, ◌%◌, ◌-ℤ◌, to_z, of_z, w32, refl, sym, arith, ◌∙◌}
 use Rattle.std.proofs.lemmas.Int.{ints}
-use Rattle.std.proofs.lemmas.Option.{IfSome_then}
-use Rattle.sgm_fine.specs.Samples.{Centre, HoldsSides, centre, half, has_rights, left_at, right_at, sample}
-use Rattle.sgm_fine.proofs.PlaceSamples.{lowered, one_and_three}
+use Rattle.sgm_fine.specs.Samples.{Centre, HoldsLie, IsLie, centre, place_of}
+use Rattle.sgm_fine.specs.Windows.{number}
+use Rattle.sgm_fine.specs.declared.samples.Lie.{Lie}
+use Rattle.sgm_fine.proofs.PlaceSamples.{has_from, holds_from, lowered}
 use Rattle.sgm_fine.proofs.samples.place_at.Goals as goal
+
+-- where the place k lies, as the code computes it
+placed : (lie : Lie) (p : Centre) (k : ℕ) → k < 25 → IsLie lie → HoldsLie lie p
+    → to_z w32 (of_z w32 (to_z w32 (of_z w32 (number lie.columns (k % 5))) -ℤ to_z w32 (of_z w32 (number lie.rows (k / 5))))) ≡ place_of p k
+placed lie p k lt is h = lowered _ _ (is.columns (k % 5) (omega arith)) (is.rows (k / 5) (omega (arith, lt))) ∙ h k lt
 
 pub three_at-requires : goal.three_at-requires
 three_at-requires c =
@@ -16,18 +22,12 @@ pub returns-clause-none : goal.returns-clause-none
 returns-clause-none c = λ map h.
     let p : Centre = centre c.args.left.now c.args.right.now map c.args.at.first c.args.at.x c.args.at.y c.args.at.value in
     let k = c.args.k in
-    let at = lowered _ _ (c.requires.lie.columns (k % 5) (omega arith)) (c.requires.lie.rows (k / 5) (omega (arith, c.requires.place))) ∙ h k c.requires.place in
-    let left = sym c.in_ok-sample.was ∙ c.around.ensures in
-    c.place_of.ensures.none _ _ c.three_at.ensures.holds
-    ∙ ap₂ (λ o b. is_some o && b) left (ap (has_rights (sample c.args.right.now (c.args.at.y + k / 5 - 2))) at)
-    ∙ one_and_three (left_at p k) (right_at p half k) (right_at p (pos 0) k) (right_at p (neg_ℤ half) k)
+    let at = placed c.args.lie.now p k c.requires.place c.requires.lie h in
+    has_from p k _ _ _ _ (c.place_of.ensures.none _ _ c.three_at.ensures.holds) (sym c.in_ok-sample.was ∙ c.around.ensures) refl at
 
 pub returns-clause-some : goal.returns-clause-some
 returns-clause-some c = λ map h.
     let p : Centre = centre c.args.left.now c.args.right.now map c.args.at.first c.args.at.x c.args.at.y c.args.at.value in
     let k = c.args.k in
-    let at = lowered _ _ (c.requires.lie.columns (k % 5) (omega arith)) (c.requires.lie.rows (k / 5) (omega (arith, c.requires.place))) ∙ h k c.requires.place in
-    let left = sym c.in_ok-sample.was ∙ c.around.ensures in
-    IfSome_then c.place_of.result (c.place_of.ensures.some _ _ c.three_at.ensures.holds) (λ s held.
-    let is = subst (HoldsSides s (Some c.in_ok-sample.sample) (sample c.args.right.now (c.args.at.y + k / 5 - 2))) at held in
-    record { left = sym left ∙ is.left; after = is.after; here = is.here; before = is.before })
+    let at = placed c.args.lie.now p k c.requires.place c.requires.lie h in
+    holds_from p k _ _ _ _ (c.place_of.ensures.some _ _ c.three_at.ensures.holds) (sym c.in_ok-sample.was ∙ c.around.ensures) refl at

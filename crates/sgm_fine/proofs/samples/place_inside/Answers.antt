@@ -1,11 +1,27 @@
-use Rattle.std.proofs.Common.{◌≡◌, ◌+◌, ◌-◌, ◌*◌, ◌/◌, ◌%◌, ◌&&◌, ◌-ℤ◌, pos, neg_ℤ, ap₂, sym, is_some, subst, arith, ◌∙◌}
+use Rattle.std.proofs.Common.{◌≡◌, ℕ, ◌+◌, ◌-◌, ◌*◌, ◌/◌, ◌%◌, ◌<◌, ◌-ℤ◌, pos, to_z, of_z, w32, ap, ap₂, sym, subst, arith, ◌∙◌}
 use Rattle.std.proofs.lemmas.Int.{ints}
-use Rattle.std.proofs.lemmas.Option.{IfSome_then}
 use Rattle.sgm_base.specs.Ranges.{IsFromTo}
-use Rattle.sgm_fine.specs.Samples.{Centre, HoldsSides, centre, half, has_rights, left_at, place_of, right_at, sample}
+use Rattle.sgm_fine.specs.Samples.{Centre, HoldsLie, IsLie, centre, left_at, place_of, sample}
 use Rattle.sgm_fine.specs.Windows.{number, value_around}
-use Rattle.sgm_fine.proofs.PlaceSamples.{lowered, one_and_three}
+use Rattle.sgm_fine.specs.declared.samples.Lie.{Lie}
+use Rattle.sgm_fine.proofs.PlaceSamples.{has_from, holds_from, lowered}
 use Rattle.sgm_fine.proofs.samples.place_inside.Goals as goal
+
+-- the column i and the row j of a window are those of its place 5 j + i
+column_is : (i j : ℕ) → i < 5 → i ≡ (5 * j + i) % 5
+column_is i j hi = omega (arith, hi)
+
+row_is : (i j : ℕ) → i < 5 → j ≡ (5 * j + i) / 5
+row_is i j hi = omega (arith, hi)
+
+-- where it lies, as the code computes it
+placed : (lie : Lie) (p : Centre) (i j : ℕ) → i < 5 → j < 5 → IsLie lie → HoldsLie lie p
+    → to_z w32 (of_z w32 (to_z w32 (of_z w32 (number lie.columns i)) -ℤ to_z w32 (of_z w32 (number lie.rows j)))) ≡ place_of p (5 * j + i)
+placed lie p i j hi hj is h =
+    lowered _ _ (is.columns i hi) (is.rows j hj) ∙ ap₂ (λ a b. number lie.columns a -ℤ number lie.rows b) (column_is i j hi) (row_is i j hi) ∙ h (5 * j + i) (omega (arith, hi, hj))
+
+around_is : (p : Centre) (i j : ℕ) → i < 5 → value_around p.left 2 p.x p.y i j ≡ left_at p (5 * j + i)
+around_is p i j hi = ap₂ (value_around p.left 2 p.x p.y) (column_is i j hi) (row_is i j hi)
 
 pub three_inside-requires-clause-near : goal.three_inside-requires-clause-near
 three_inside-requires-clause-near c =
@@ -23,28 +39,15 @@ returns-clause-none c = λ map h.
     let p : Centre = centre c.args.left.now c.args.right.now map c.args.at.first c.args.at.x c.args.at.y c.args.at.value in
     let i = c.args.i in
     let j = c.args.j in
-    let k = 5 * j + i in
-    let ei : i ≡ k % 5 = omega (arith, c.requires.place.0) in
-    let ej : j ≡ k / 5 = omega (arith, c.requires.place.0) in
-    let at = lowered _ _ (c.requires.lie.columns i c.requires.place.0) (c.requires.lie.rows j c.requires.place.1)
-    ∙ ap₂ (λ a b. number c.args.lie.now.columns a -ℤ number c.args.lie.now.rows b) ei ej ∙ h k (omega (arith, c.requires.place.0, c.requires.place.1)) in
-    let left = c.around_inside-sample.ensures ∙ ap₂ (λ a b. value_around c.args.left.now 2 c.args.at.x c.args.at.y a b) ei ej in
-    c.place_of.ensures.none _ _ c.three_inside.ensures.holds
-    ∙ ap₂ (λ o b. is_some o && b) left (ap₂ (λ n u. has_rights (sample c.args.right.now (c.args.at.y + n - 2)) u) ej at)
-    ∙ one_and_three (left_at p k) (right_at p half k) (right_at p (pos 0) k) (right_at p (neg_ℤ half) k)
+    let place = c.requires.place in
+    has_from p (5 * j + i) _ _ _ _ (c.place_of.ensures.none _ _ c.three_inside.ensures.holds) (c.around_inside-sample.ensures ∙ around_is p i j place.0)
+    (ap (λ n. sample p.right (p.y + n - 2)) (row_is i j place.0)) (placed c.args.lie.now p i j place.0 place.1 c.requires.lie h)
 
 pub returns-clause-some : goal.returns-clause-some
 returns-clause-some c = λ map h.
     let p : Centre = centre c.args.left.now c.args.right.now map c.args.at.first c.args.at.x c.args.at.y c.args.at.value in
     let i = c.args.i in
     let j = c.args.j in
-    let k = 5 * j + i in
-    let ei : i ≡ k % 5 = omega (arith, c.requires.place.0) in
-    let ej : j ≡ k / 5 = omega (arith, c.requires.place.0) in
-    let at = lowered _ _ (c.requires.lie.columns i c.requires.place.0) (c.requires.lie.rows j c.requires.place.1)
-    ∙ ap₂ (λ a b. number c.args.lie.now.columns a -ℤ number c.args.lie.now.rows b) ei ej ∙ h k (omega (arith, c.requires.place.0, c.requires.place.1)) in
-    let left = c.around_inside-sample.ensures ∙ ap₂ (λ a b. value_around c.args.left.now 2 c.args.at.x c.args.at.y a b) ei ej in
-    IfSome_then c.place_of.result (c.place_of.ensures.some _ _ c.three_inside.ensures.holds) (λ s held.
-    let is = subst (λ n. HoldsSides s c.around_inside-sample.result (sample c.args.right.now (c.args.at.y + n - 2)) (place_of p k)) ej
-    (subst (HoldsSides s c.around_inside-sample.result (sample c.args.right.now (c.args.at.y + j - 2))) at held) in
-    record { left = sym left ∙ is.left; after = is.after; here = is.here; before = is.before })
+    let place = c.requires.place in
+    holds_from p (5 * j + i) _ _ _ _ (c.place_of.ensures.some _ _ c.three_inside.ensures.holds) (c.around_inside-sample.ensures ∙ around_is p i j place.0)
+    (ap (λ n. sample p.right (p.y + n - 2)) (row_is i j place.0)) (placed c.args.lie.now p i j place.0 place.1 c.requires.lie h)
