@@ -25,7 +25,7 @@ one_and_three : (a b c d : Option ℕ) → (is_some a && (is_some b && is_some c
 one_and_three None b c d = refl
 one_and_three (Some a) b c d = refl
 
--- the samples of a left one and around a place of a right row are those of a pixel's place k where these are its
+-- what is found of a left sample and of those around a place of a right row is what the place k of a window has, where these are its own
 pub has_from : (p : Centre) (k : ℕ) (found : Bool) (one : Option ℕ) (row : ℤ → Option ℕ) (u : ℤ) → found ≡ (is_some one && has_rights row u) → one ≡ left_at p k → row ≡ sample p.right (p.y + k / 5 - 2) → u ≡ place_of p k
     → found ≡ has p k
 has_from p k found one row u is left same at =

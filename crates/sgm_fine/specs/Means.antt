@@ -7,8 +7,8 @@ use Rattle.sgm_base.specs.Values.{Values, row_by_row, value_at, values_of}
 use Rattle.sgm_fine.specs.Slopes.{step_to}
 use Rattle.sgm_fine.specs.Windows.{value_around}
 
--- the value of the place k of the square of three by three around a pixel, where it lies within
--- one pixel of the pixel's own
+-- the value of the place k of the square of three by three around a pixel, where it lies no
+-- further than one pixel, in sixteenths, from the pixel's own
 abbrev pub near_at : Values → ℕ → ℕ → ℕ → ℕ → Option ℕ
 near_at map x y m k = option_map (λ step. unsigned_abs (pos m +ℤ step))
     (step_to 16 m (value_around map 1 x y (k % 3) (k / 3)))

@@ -15,8 +15,8 @@ step_to most m (Some v) = if nat_le v (m + most) && nat_le m (v + most) then Som
     else None
 step_to most m None = None
 
--- the step to the place k of the window around the pixel (x, y), whose value is m: at most two
--- pixels
+-- the step to the place k of the window around the pixel (x, y), whose value is m: up to two
+-- pixels, in sixteenths
 abbrev pub step_at : Values → ℕ → ℕ → ℕ → ℕ → Option ℤ
 step_at map x y m k = step_to 32 m (value_around map 2 x y (k % 5) (k / 5))
 
