@@ -124,7 +124,13 @@ fn made_strips<R: Threads + Sync>(
         (map (λ rows. rows.items) strips.items)) }
 {
     let strips = cut.strips as usize;
-    side_by_side(rt, alloc, strips, threads, &|strip| strip_at(alloc, making, cut, strip))
+    side_by_side(
+        rt,
+        alloc,
+        strips,
+        threads,
+        &|strip| strip_at(alloc, making, cut, strip),
+    )
 }
 
 /// What a step makes of a map, made by at most so many threads.

@@ -42,7 +42,13 @@ fn parcels<R: Threads + Sync>(
     ensures level { IfOk result (λ v. All (λ parcel. parcel.done ≡ level_done) v.items) }
 {
     let strips = cut.strips as usize;
-    side_by_side(rt, alloc, strips, threads, &|strip| parcel_at(alloc, scene, cut, strip))
+    side_by_side(
+        rt,
+        alloc,
+        strips,
+        threads,
+        &|strip| parcel_at(alloc, scene, cut, strip),
+    )
 }
 
 /// The six fronts, in order, which have visited no strip.

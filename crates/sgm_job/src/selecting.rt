@@ -48,7 +48,13 @@ fn selected_strips<R: Threads + Sync>(
         planes.now.scene.span.first) cut (map (λ rows. rows.items) strips.items)) }
 {
     let strips = parcels.len();
-    side_by_side(rt, alloc, strips, threads, &|strip| rows_at(alloc, planes, parcels, strip))
+    side_by_side(
+        rt,
+        alloc,
+        strips,
+        threads,
+        &|strip| rows_at(alloc, planes, parcels, strip),
+    )
 }
 
 /// The disparity of each pixel of the left plane, found by at most so many threads.
