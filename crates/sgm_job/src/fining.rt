@@ -137,17 +137,27 @@ fn made_strips<R: Threads + Sync>(
 fn made_map<R: Threads + Sync>(
     rt: &R,
     alloc: Global,
-    making: &Making,
-    cut: Cut,
+    step: Step,
+    planes: &ScenePlanes,
+    map: DispMap,
     threads: usize,
 ) -> Result<DispMap, AllocError>
     requires threads { 0 < threads }
-    requires height { cut.height ≡ making.now.map.now.height }
-    ensures { IfOk result (λ m. m ≡ made making.now.step making.now.left.now making.now.right.now
-        making.now.map.now making.now.span) }
+    ensures { IfOk result (λ m. m
+        ≡ made step planes.now.left planes.now.right map planes.now.scene.span) }
 {
-    let strips = made_strips(rt, alloc, making, cut, threads)?;
-    join_strips(alloc, making.map.size(), &strips)
+    let size = map.size();
+    // In as many strips as there can be, so that no thread waits long for the last one.
+    let cut = Cut::even(size.height, MAX_STRIPS);
+    let making = Making {
+        step,
+        left: &planes.left,
+        right: &planes.right,
+        map: &map,
+        span: planes.scene.span(),
+    };
+    let strips = made_strips(rt, alloc, &making, cut, threads)?;
+    join_strips(alloc, size, &strips)
 }
 
 /// The map, made finer by the planes where `fine` is true, in at most as many threads as workers
@@ -166,21 +176,7 @@ pub(crate) fn finer_map<R: Threads + Sync>(
     if !fine {
         return Ok(map);
     }
-    // In as many strips as there can be, so that no thread waits long for the last one.
-    let cut = Cut::even(map.size().height, MAX_STRIPS);
     let threads = asked.workers as usize;
-    let making = Making {
-        step: Step::Finer,
-        left: &planes.left,
-        right: &planes.right,
-        map: &map,
-        span: planes.scene.span(),
-    };
-    let finer = made_map(rt, alloc, &making, cut, threads)?;
-    let making = Making {
-        step: Step::Mean,
-        map: &finer,
-        ..making
-    };
-    made_map(rt, alloc, &making, cut, threads)
+    let finer = made_map(rt, alloc, Step::Finer, planes, map, threads)?;
+    made_map(rt, alloc, Step::Mean, planes, finer, threads)
 }

@@ -1,6 +1,3 @@
-use Rattle.std.proofs.Common.{ap, ◌∙◌}
-use Rattle.sgm_base.specs.Disparities.{Disparities}
-use Rattle.sgm_fine.specs.Making.{made_finer}
 use Rattle.sgm_job.proofs.Making.{if_ok}
 use Rattle.sgm_job.proofs.StripRows.{made_both}
 use Rattle.sgm_job.proofs.fining.finer_map.Goals as goal
@@ -9,6 +6,5 @@ pub returns : goal.returns
 returns g c =
     let planes = c.args.planes.now in
     if_ok c.made_map-2.result
-    (λ m e. made_both c.args.fine planes.left planes.right c.args.map c.in_ok-finer.finer m c.span.result c.if-not-fine.false c.in_ok-finer.ensures e
-    ∙ ap (λ (s : Disparities). made_finer c.args.fine planes.left planes.right c.args.map s) c.span.ensures)
+    (λ m e. made_both c.args.fine planes.left planes.right c.args.map c.in_ok-finer.finer m planes.scene.span c.if-not-fine.false c.in_ok-finer.ensures e)
     c.made_map-2.ensures
