@@ -1,7 +1,7 @@
 //! What follows from the definitions alone. Each function is a law, and its body is empty.
 
-ghost use Rattle.std.specs.Prelude.{◌≡◌, ◌↔◌, ℕ, List, [], ◌∷◌, Option, Some, Ok, Result, IsTrue};
-ghost use Rattle.std.specs.Prelude.{◌||◌, codes};
+ghost use Rattle.std.specs.Prelude.{◌≡◌, ◌↔◌, ℕ, ◌+◌, List, [], ◌∷◌, Option, Some, Ok, Result};
+ghost use Rattle.std.specs.Prelude.{◌||◌, IsTrue, codes};
 ghost use Rattle.std.specs.List.{list_all};
 ghost use Rattle.sgm_calib.specs.Calibration.{Calibration, plain};
 ghost use Rattle.sgm_calib.specs.Table.{keys, order};
@@ -10,6 +10,8 @@ ghost use Rattle.sgm_calib.specs.Numbers.{numbers, has_path, HasRegionPaths};
 ghost use Rattle.sgm_calib.specs.Paths.{is_of_region};
 ghost use Rattle.sgm_calib.specs.Read.{Reads};
 ghost use Rattle.sgm_calib.specs.declared.keys.CalibFault.{CalibFault};
+ghost use Rattle.sgm_calib.specs.Rows.{Row, key_at};
+ghost use Rattle.sgm_calib.specs.declared.place.TheConstants.{PLAIN, RIGHT_SIDE};
 
 /// Each list of bytes is one calibration or has one first fault, and not two.
 pub fn answers()
@@ -24,10 +26,14 @@ pub fn first_faults()
         → (first_of checks ≡ Some fault) ↔ IsFirst checks fault }
 {}
 
-/// The checks go by the numbers of the keys in the order that the table names, and each key is
-/// printed as its name after the path of its object.
+/// The checks go by the numbers of the keys in the order that the table names, where those of the
+/// right side of the warps have seven more than those of the left; and each key is printed as its
+/// name after the path of its object.
 pub fn numbers_and_paths()
     ensures in_this_order { numbers ≡ order }
+    ensures plain { (row : Row) → key_at PLAIN row ≡ record { number = row.number; index = 0 } }
+    ensures right { (row : Row) → key_at RIGHT_SIDE row
+        ≡ record { number = row.number + 7; index = 0 } }
     ensures paths { IsTrue (list_all (λ row. is_of_region row || has_path row) keys) }
     ensures regions { (index : ℕ) → HasRegionPaths index }
 {}
