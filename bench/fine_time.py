@@ -8,18 +8,24 @@ Each turn runs the program once with `fine` false and once with `fine` true for 
 bench.py, version 3 of the calibration. The table has, for each number of workers, the median seconds of both, the
 median of the turns' differences, that difference for each pixel that has a value, in microseconds, and how many times
 as fast that is as with the first number of workers. The program is the one that the variable SGM names (./sgm without
-it); with --beside another one runs in each turn too.
+it); with --beside another one runs in each turn too. Below it stands how much of a loop in registers as many processes
+as workers do at once, which share nothing, beside one alone: the most that threads can gain on this machine.
 """
 
 import argparse
 import json
+import multiprocessing
 import os
 import re
 import statistics
 import sys
 import tempfile
+import time
 
 import bench
+
+# How long each process goes round the loop that tells what the machine gives, in seconds.
+ROUND = 0.4
 
 
 def calibration(folder, count, fine):
@@ -48,6 +54,24 @@ def turn(program, pair, settings, words, folder):
         fine, values = run(program, pair, settings[True], workers, words.strips, folder)
         found.append((plain, fine, values))
     return found
+
+
+def rounds(seconds):
+    """How often a small loop is done in so many seconds."""
+    count, end = 0, time.perf_counter() + seconds
+    while time.perf_counter() < end:
+        for _ in range(2000):
+            pass
+        count += 1
+    return count
+
+
+def gain(processes):
+    """How many times as much of a loop so many processes do at once as one alone."""
+    with multiprocessing.Pool(processes) as pool:
+        alone = pool.apply(rounds, (ROUND,))
+        together = pool.map(rounds, [ROUND] * processes, chunksize=1)
+    return sum(together) / alone
 
 
 def print_table(name, words, turns):
@@ -83,11 +107,16 @@ def main():
         for _ in range(words.turns):
             for program in programs:
                 turns[program].append(turn(program, pair, settings, words, folder))
+    # Behind all turns: in front of one it would change what the first run finds.
+    gains = [[gain(workers) for workers in words.workers] for _ in range(words.turns)]
     print(f"{words.size}, {words.count} disparities, {words.strips} strips, {words.turns} turns, {bench.processor()}\n")
     bench.row("Program", "Workers", "Plain, s", "Fine, s", "More, s", "More a value, us", "Times as fast")
     bench.row(*["---"] * 7)
     for program in programs:
         print_table(os.path.basename(program), words, turns[program])
+    for at, workers in enumerate(words.workers):
+        least, middle, most = (of([it[at] for it in gains]) for of in (min, statistics.median, max))
+        print(f"\n{workers} at once do {middle:.2f} ({least:.2f} to {most:.2f}) times what one alone does")
     return 0
 
 

@@ -7,11 +7,13 @@
 
 Each edit changes the meaning of a public function by a line or two, and the prover has to refuse it. The gate tries
 the ones that tell most (crates/NAME/must-fail); these are the others, apart so that the gate stays fast. They are
-tried on a copy of the repository's crates, by `rt must-fail`. An edit is a file with a line `file: PATH` (below its
-crate) and pairs of lines `old: TEXT` and `new: TEXT`; each old TEXT stands in that file once.
+tried on a copy of the repository's crates, by `rt must-fail`. What ./sgm and ./sgm_series have proved in this checkout
+is copied too, some 6 GB, and isn't proved anew; without it the crates are proved first. An edit is a file with a line
+`file: PATH` (below its crate) and pairs of lines `old: TEXT` and `new: TEXT`; each old TEXT stands in that file once.
 
-Prints a line for each edit and last `N passed, M failed`. Status: 0 where all were refused (with --apply: where all
-can be applied), 1 where one wasn't, 2 for wrong words.
+Prints a line for each edit and last `N passed, M failed`; one that is refused only because a proof names what it took
+away has failed. Status: 0 where all were refused (with --apply: where all can be applied), 1 where one wasn't, 2 for
+wrong words.
 """
 
 import argparse
@@ -24,8 +26,10 @@ import tempfile
 HERE = os.path.dirname(os.path.abspath(__file__))
 TOP = os.path.realpath(os.path.join(HERE, ".."))
 EDITS = os.path.join(HERE, "edits")
-PARTS = ("src", "specs", "proofs")
+PARTS = ("src", "specs", "proofs", "out")
 REFUSED = ": refused, as it must be"
+# What rt says of an edit that is refused by a name which it takes away, and so perhaps not for what it changes.
+BY_A_NAME = "this says little of the contract"
 
 
 def crates_with_edits():
@@ -70,7 +74,8 @@ def apply(crates):
 
 
 def copy_crates(folder, crates):
-    """Copies what proofs need into an empty folder, with these crates' edits in the place of the gate's."""
+    """Copies what proofs need, and what is proved, into an empty folder, with these crates' edits in the place of the
+    gate's."""
     # The toolchain looks for the repository's top up to a .git.
     os.mkdir(os.path.join(folder, ".git"))
     for name in ("crates.txt", "HANDLES"):
@@ -79,7 +84,7 @@ def copy_crates(folder, crates):
         for part in PARTS:
             source = os.path.join(TOP, "crates", crate, part)
             if os.path.isdir(source):
-                shutil.copytree(source, os.path.join(folder, "crates", crate, part))
+                shutil.copytree(source, os.path.join(folder, "crates", crate, part), symlinks=True)
     for crate in crates:
         shutil.copytree(os.path.join(EDITS, crate), os.path.join(folder, "crates", crate, "must-fail"))
 
@@ -93,7 +98,7 @@ def try_all(crates):
         with subprocess.Popen(words, cwd=folder, stdin=subprocess.DEVNULL, stdout=subprocess.PIPE, text=True) as tried:
             for line in tried.stdout:
                 print(line, end="", flush=True)
-                refused += REFUSED in line
+                refused += REFUSED in line and BY_A_NAME not in line
     return refused, sum(len(edits_of(crate)) for crate in crates) - refused
 
 

@@ -27,7 +27,8 @@ A case is made from the seed and its number alone, so --case runs it again. What
 its folder stays: `given` before the runs, `program` and `reference` after them. --jobs makes so many cases at once,
 whose lines may then come in another order. The program is the one that
 the variable SGM names (./sgm of this repository without it). With --series the cases are whole series, of up to 20
-entries, and the program is the one that SGM_SERIES names (./sgm_series without it).
+entries, and the program is the one that SGM_SERIES names (./sgm_series without it). ./sgm and what is installed answer
+the first words -h and --help themselves: their help is taken as right then.
 """
 
 import argparse
@@ -59,6 +60,7 @@ class Single:
     main = staticmethod(reference.main)
     case_of = staticmethod(random_inputs.case_of)
     line = b"sgm: no command\n"
+    help = os.path.join(HERE, "..", "packaging", "help.txt")
 
 
 class Series:
@@ -68,6 +70,7 @@ class Series:
     main = staticmethod(reference_series.main)
     case_of = staticmethod(random_lists.case_of)
     line = b"sgm_series: no list\n"
+    help = os.path.join(HERE, "..", "packaging", "help_sgm_series.txt")
 
 
 def write_case(folder, case):
@@ -145,6 +148,12 @@ def differences(made, wanted, folders):
             yield f"{name}: {shown(ours.get(name))}, the reference has {shown(theirs.get(name))}"
 
 
+def is_help(program, words, made):
+    """Whether a launcher was asked for its help and has printed it."""
+    with open(program.help, "rb") as file:
+        return words[:1] in (["-h"], ["--help"]) and made == (0, file.read(), b"")
+
+
 def try_case(program, case, folder):
     """The reference's status, and the lines on what differs."""
     given, ours, theirs = (os.path.join(folder, name) for name in ("given", "program", "reference"))
@@ -153,6 +162,8 @@ def try_case(program, case, folder):
     with open(os.path.join(folder, "command"), "wb") as file:
         file.write(os.fsencode(" ".join(map(shlex.quote, [program.path, *case.words]))) + b"\n")
     made, wanted = run_program(program.path, ours, case.words), run_reference(theirs, case.words, program.main)
+    if is_help(program, case.words, made):
+        made = wanted
     return wanted[0], list(differences(made, wanted, (ours, theirs)))
 
 
