@@ -8,8 +8,8 @@ Each turn runs the program once with `fine` false and once with `fine` true for 
 bench.py, version 3 of the calibration. The table has, for each number of workers, the median seconds of both, the
 median of the turns' differences, that difference for each pixel that has a value, in microseconds, and how many times
 as fast that is as with the first number of workers. The program is the one that the variable SGM names (./sgm without
-it); with --beside another one runs in each turn too. Below it stands how much of a loop in registers as many processes
-as workers do at once, which share nothing, beside one alone: the most that threads can gain on this machine.
+it); with --beside another one runs in each turn too. Below it stands how much of a small loop as many processes as
+workers do at once, which share nothing, beside one alone: about as much as threads can gain on this machine.
 """
 
 import argparse

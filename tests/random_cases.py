@@ -150,8 +150,10 @@ def differences(made, wanted, folders):
 
 def is_help(program, words, made):
     """Whether a launcher was asked for its help and has printed it."""
+    if words[:1] not in (["-h"], ["--help"]):
+        return False
     with open(program.help, "rb") as file:
-        return words[:1] in (["-h"], ["--help"]) and made == (0, file.read(), b"")
+        return made == (0, file.read(), b"")
 
 
 def try_case(program, case, folder):
