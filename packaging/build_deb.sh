@@ -5,8 +5,8 @@
 #     packaging/build_deb.sh [--out FOLDER] [--changed]
 #
 # For example: packaging/build_deb.sh --out /tmp/sgm. Without --out both go to packaging/out. Each program is built
-# twice, for every processor (x86-64-v2) and for newer ones (x86-64-v3), by rt run, which builds nothing that isn't
-# proved, and each is started once, so this takes a processor of the newer kind. The checkout has to be clean: with
+# twice, for every processor (x86-64-v2) and for newer ones (x86-64-v3), by first_build.py, which builds nothing that
+# isn't proved and starts each once, so this takes a processor of the newer kind. The checkout has to be clean: with
 # --changed it need not be, and the package says so. Made twice from one commit the files have the same bytes.
 #
 # Needs rt, git, cc, binutils, dpkg-deb, xz and Python. Status: 0 made, 1 not, 2 wrong words.
@@ -98,12 +98,10 @@ build_program() {
     shift
     for processor in x86-64-v2 x86-64-v3; do
         echo "build_deb: $name for $processor" >&2
-        (cd "crates/$crate" && rt run --cpu $processor -- "$@") </dev/null >/dev/null ||
+        packaging/first_build.py --cpu $processor --into "$work/$name" "$name" "$crate" -- "$@" </dev/null >/dev/null ||
             fail "$name: $crate isn't built for $processor, or doesn't run: see the messages above"
-        strip -o "$usr/lib/sgm/$name-$processor" "crates/$crate/out/$crate"
+        strip -o "$usr/lib/sgm/$name-$processor" "$work/$name"
     done
-    # The launcher of the checkout builds what is older than the sources; these builds were proved just now.
-    touch "crates/$crate/out/$crate"
     ! cmp -s "$usr/lib/sgm/$name"-x86-64-v[23] || fail "$name: both builds of $crate are the same"
     cc -O2 -fPIE -pie -fstack-protector-strong -fcf-protection -D_FORTIFY_SOURCE=2 -Wall -Wextra -Werror -s \
         -Wl,-z,relro,-z,now,--build-id=none "-DPROGRAM=\"$name\"" "-DVERSION_LINE=\"$name${version_line#sgm}\"" \

@@ -1,30 +1,31 @@
 #!/usr/bin/env python3
 """Proves the crates of a program side by side, builds it, and tells how far that is.
 
-    packaging/first_build.py [--cpu NAME] PROGRAM CRATE [-- WORD..]
+    packaging/first_build.py [--cpu NAME] [--into FILE] PROGRAM CRATE [-- WORD..]
 
 For example: packaging/first_build.py sgm sgm_cli -- demo 0. So packaging/launcher.sh calls it for
-./sgm. In the crate's folder `rt all check --jobs N` proves the crates below it in N places: one
-and a half for each processor, since a crate keeps its place while it waits for those below it, and
-no more than memory allows. Each of these has one processor, so once those that are left stand one
-on the other it is ended, and `rt check --jobs N` proves them one by one, on all processors as far
-as memory allows. Then `rt run` proves the crate itself, builds the program over that and starts it
-once, with the WORDs. A start after one that was stopped goes on from there.
+./sgm. The crates below the program's are proved on a copy of their sources, in a folder that is
+removed at the end, by `rt ci`: side by side, as many as there are processors and memory for, and
+first those with the longest chain of others behind them. It reads of a crate below only what that
+states, where `rt check` reads its proofs too, and keeps each proved crate beside the toolchain, by
+the checksums of all that its proof read: for a start after one that was stopped, for the other
+program and for the gate. Then `rattle build` proves the program's crate over these libraries and
+compiles it, `rattle-link` links it, and it is started once, with the WORDs. If that ends well it
+becomes crates/CRATE/out/CRATE, or FILE.
 
-All that both say goes to crates/CRATE/out/build.txt. Standard error gets the progress: one line
+All that these say goes to crates/CRATE/out/build.txt. Standard error gets the progress: one line
 that is rewritten where it is a terminal, else a line for each crate when it ends. Nothing goes to
 standard output. Status 1 where a crate isn't proved or the program isn't built; the last lines of
 what was said of it, but for those of what is well, then stand on standard error. SIGINT, SIGTERM
 and SIGHUP end all that was started, and then this with 130, 143 or 129.
 
 How the time left is reckoned: packaging/build_times.txt has the seconds of each crate; one that
-has no line there counts as their mean. rt hands out the crates in one order, those with the
-fewest crates below them first, to N places; those that don't wait share the processors. This is
-gone through with the seconds of the table, which tells when the first crate ends, when the second,
-and so on. The time left is what this still has behind as many crates as have ended, times how much
+has no line there counts as their mean. rt begins as many crates as there are processors, first
+those with the longest chain behind them. This is gone through with the seconds of the table, which
+tells when the first crate ends, when the second, and so on; behind the last is the program's
+building. The time left is what this still has behind as many crates as have ended, times how much
 longer they took here than by the table (as long as no tenth of the whole is done, as long as
-there). A crate that ends within a fifth of its seconds after those below it was proved earlier, and
-counts as none.
+there), less the time since the last of them ended. A crate that was kept counts as none.
 """
 
 import argparse
@@ -33,35 +34,36 @@ import contextlib
 import os
 import re
 import select
+import shutil
 import signal
 import subprocess
 import sys
+import tempfile
 import time
 
 TOP = os.path.normpath(os.path.join(os.path.dirname(os.path.abspath(__file__)), ".."))
 TIMES = os.path.join(TOP, "packaging", "build_times.txt")
-# In the table, what stands for the building of the program behind the last crate.
+# In the table, what stands for the program's own crate: its proof and the building of the program.
 BUILDING = "program"
 # What is said once it is.
 BUILT = "the program is built"
-# Memory of one crate's proof, in kB.
-PLACE = 1_400_000
+# What a proof reads of a crate.
+PARTS = ("src", "specs", "proofs")
+# The machine that a program is linked for.
+TARGET = "x86_64-unknown-linux-gnu"
 # How many of the last lines are shown where something fails, and how much of a line. What is well
 # stands behind the errors and is left out: each function that is proved, and what was loaded.
 LAST, WIDEST = 20, 400
 WELL = re.compile(rb".*: proved|(logic|statements|library|crate) .*=\d+.*")
+# Of what rt ci says: whose proof the next lines are of, and what came of it.
+HEAD = re.compile(rb"== (\w+)(: its tests)?")
+VERDICT = re.compile(rb"rt: (\w+)(: its tests are)? (proved|NOT PROVED|is kept)(: .*)?")
 # Seconds between two looks, and between two rewritings of the line.
 LOOK, REWRITE = 0.2, 1
 # How long what was started has for ending by itself.
 PATIENCE = 2
-# A crate whose proof took less than this share of its seconds was proved earlier.
-KEPT = 0.2
 # The share of the whole from which on the machine's pace is taken from what was done.
 ENOUGH = 0.1
-
-
-class InARow(Exception):
-    """The crates that are left stand one on the other."""
 
 
 class Stopped(Exception):
@@ -165,32 +167,53 @@ def run(command, folder, log, hear, look):
     return child.returncode
 
 
-# Times
+# Crates
 
 
-def crates_of(name):
-    """The crate and those below it as crates.txt has them, each with what it names of these.
-
-    In the order in which rt hands them out.
-    """
+def named_crates():
+    """The crates that crates.txt names, each with its line there and what it uses."""
     named = {}
     with open(os.path.join(TOP, "crates.txt"), encoding="utf-8") as file:
         for line in file:
-            head, colon, uses = line.partition("#")[0].partition(":")
-            if colon and head.strip():
-                named[head.split()[0]] = uses.split()
-    below = {}
+            line = line.partition("#")[0].strip()
+            head, colon, uses = line.partition(":")
+            if colon and head:
+                named[head.split()[0]] = line, uses.split()
+    return named
+
+
+def crates_of(name):
+    """The crate and those below it as crates.txt has them, each with those below it.
+
+    A crate comes after those that it uses.
+    """
+    named, below = named_crates(), {}
 
     def visit(crate):
         if crate not in below:
-            uses = [it for it in named.get(crate, []) if it in named]
+            uses = [it for it in named.get(crate, ("", []))[1] if it in named]
             for it in uses:
                 visit(it)
             below[crate] = list(dict.fromkeys(sum([[*below[it], it] for it in uses], [])))
 
     visit(name)
-    order = sorted(below, key=lambda it: len(below[it]))
-    return {it: below[it] for it in order}
+    return {it: below[it] for it in sorted(below, key=lambda it: len(below[it]))}
+
+
+def copy_crates(names, room):
+    """Copies what the proofs of these crates read to a folder, as a repository of its own."""
+    named = named_crates()
+    with open(os.path.join(room, "crates.txt"), "w", encoding="utf-8") as file:
+        file.writelines(f"{named[it][0]}\n" for it in names)
+    shutil.copy(os.path.join(TOP, "HANDLES"), room)
+    for name in names:
+        for part in PARTS:
+            source = os.path.join(TOP, "crates", name, part)
+            if os.path.isdir(source):
+                shutil.copytree(source, os.path.join(room, "crates", name, part))
+
+
+# Times
 
 
 def seconds_of(crates):
@@ -206,76 +229,55 @@ def seconds_of(crates):
     return {it: table.get(it, mean) for it in [*crates, BUILDING]}
 
 
-def schedule(crates, seconds, places, processors):
-    """The moments at which crates end, one after the other, where each takes its seconds on a
-    processor of its own."""
-    waiting, running, ends, now = list(crates), {}, {}, 0
+def schedule(crates, seconds, places):
+    """The moments at which these crates end, one after the other, where each takes its seconds in
+    one of so many places, and of those that can begin that with the longest chain behind it does.
+    """
+    behind = {}
+    for name in reversed(crates):
+        above = [behind[it] for it in behind if name in crates[it]]
+        behind[name] = seconds[name] + max(above, default=0)
+    waiting, running, ends, now = sorted(crates, key=lambda it: -behind[it]), {}, [], 0
     while waiting or running:
-        held = [it for it in waiting[: places - len(running)] if ends.keys() >= {*crates[it]}]
-        for name in held:
+        can = [it for it in waiting if not {*crates[it]} & {*waiting, *running}]
+        for name in can[: places - len(running)]:
             waiting.remove(name)
-            running[name] = seconds[name]
-        pace = max(len(running) / processors, 1)
-        step = min(running.values())
-        now += step * pace
-        running = {it: left - step for it, left in running.items()}
-        for name in [it for it, left in running.items() if left <= 1e-6]:
-            del running[name]
-            ends[name] = now
-    return sorted(ends.values())
+            running[name] = now + seconds[name]
+        name = min(running, key=lambda it: running[it])
+        now = running.pop(name)
+        ends.append(now)
+    return ends
 
 
 def processors():
     return len(os.sched_getaffinity(0))
 
 
-def as_memory_allows(number):
-    """So many provers, or as many as there is memory for."""
-    with open("/proc/meminfo", encoding="ascii") as file:
-        free = re.search(r"^MemAvailable: *(\d+)", file.read(), re.M)
-    most = int(free[1]) // PLACE if free else 1
-    return max(min(number, most), 1)
-
-
-def places():
-    """In how many places crates are proved."""
-    return as_memory_allows(3 * processors() // 2)
-
-
 class Times:
     """What has ended, and what the table reckons of that and of the rest."""
 
-    def __init__(self, name, number):
-        self.crates, self.places = crates_of(name), number
+    def __init__(self, name):
+        self.name, self.crates = name, crates_of(name)
         self.seconds = seconds_of(self.crates)
-        self.begin, self.first, self.last, self.ended = time.monotonic(), None, 0, {}
+        self.begin, self.last, self.ended = time.monotonic(), 0, {}
 
     def gone(self):
         return time.monotonic() - self.begin
 
-    def hears(self, is_end):
-        """Notes the first line, behind which rt begins with the crates, unless it is an end."""
-        if self.first is None:
-            self.first = 0 if is_end else self.gone()
-
-    def end_of(self, name):
+    def end_of(self, name, is_kept=False):
         now = self.gone()
-        begun = max([self.first, *(self.ended.get(it, 0) for it in self.crates[name])])
-        if now - begun < KEPT * self.seconds[name]:
+        if is_kept:
             self.seconds[name] = 0
         else:
             self.last = now
         self.ended[name] = now
 
-    def row_above(self, name):
-        """The crates that are left, if the first stands on this one, and each on that before it."""
-        left = [it for it in self.crates if it not in self.ended]
-        return left if all(low in self.crates[it] for low, it in zip([name, *left], left)) else []
-
     def left(self):
         """The seconds that are left, as the head of this file says."""
-        moments = [0, *schedule(self.crates, self.seconds, self.places, processors())]
-        done, whole = moments[len(self.ended)], moments[-1] + self.seconds[BUILDING]
+        libraries = {it: below for it, below in self.crates.items() if it != self.name}
+        moments = [0, *schedule(libraries, self.seconds, processors())]
+        done = moments[len(libraries.keys() & self.ended.keys())]
+        whole = moments[-1] + self.seconds[BUILDING]
         pace = self.last / done if done > ENOUGH * whole and self.last else 1
         since = self.gone() - max([0, *self.ended.values()])
         return max((whole - done) * pace - since, 0)
@@ -339,37 +341,35 @@ class Teller:
 
 
 class Listener:
-    """What `rt` says, line by line: which crate has ended, and the last lines of each."""
+    """What is said, line by line: which crate has ended, and the last lines of each."""
 
     def __init__(self, teller):
         self.teller, self.times, self.at, self.failed = teller, teller.times, "", []
-        # What is proved, and the crates that are left once they stand one on the other.
-        self.proved, self.row = set(), []
         self.said = collections.defaultdict(lambda: collections.deque(maxlen=LAST))
 
     def hear(self, line):
-        head = re.fullmatch(rb"== (\w+)", line)
-        name = head[1].decode() if head else ""
-        is_end = name in self.times.crates and name not in self.times.ended
-        self.times.hears(is_end)
-        if is_end or name == "summary":
-            self.at = name
+        head, verdict = HEAD.fullmatch(line), VERDICT.fullmatch(line)
+        if head:
+            self.at = head[1].decode()
+        elif verdict:
+            self.hear_verdict(verdict[1].decode(), *verdict.groups()[1:])
         elif not WELL.fullmatch(line):
             self.said[self.at].append(line)
-        if is_end:
-            self.end_of(name)
-        if line.startswith(b"logic=proved ") and self.at in self.times.crates:
-            self.proved.add(self.at)
-            is_well = self.proved >= self.times.ended.keys()
-            self.row = self.times.row_above(self.at) if is_well else []
-        failed = re.match(rb"(\w+): failed", line)
-        if self.at == "summary" and failed:
-            self.failed.append(failed[1].decode())
-        if re.match(rb"rt: waiting for |\w+: another copy of the repository ", line):
+        if re.match(rb"rt: \w+(: its tests)?: another run on this machine ", line):
             self.teller.say(line.decode(errors="replace"))
 
-    def end_of(self, name):
-        self.times.end_of(name)
+    def hear_verdict(self, name, of_tests, word, why):
+        """A crate's tests count for nothing here, nor does one above another that isn't proved."""
+        self.at = ""
+        if of_tests or name not in self.times.crates:
+            return
+        if word != b"NOT PROVED":
+            self.end_of(name, word == b"is kept")
+        elif not why:
+            self.failed.append(name)
+
+    def end_of(self, name, is_kept=False):
+        self.times.end_of(name, is_kept)
         self.teller.tell(name)
 
     def last(self, at):
@@ -381,60 +381,81 @@ class Listener:
 # The build
 
 
-def prove_side_by_side(listener, folder, log):
-    """Proves the crates until those that are left stand one on the other, if they do."""
+def prove(listener, names, room, log):
+    """Proves these crates in the folder; Failed says which one isn't proved.
 
-    def look():
-        if listener.row:
-            raise InARow
-        listener.teller.show()
-
-    command = ["rt", "all", "check", "--jobs", str(listener.times.places)]
-    with contextlib.suppress(InARow):
-        status = run(command, folder, log, listener.hear, look)
-        if status:
-            at = next((it for it in listener.failed if it in listener.said), listener.at)
-            names = ", ".join(listener.failed)
-            why = f"not proved: {names}" if names else f"`{' '.join(command)}` ended with {status}"
-            raise Failed(why, listener.last(at))
+    `rt ci` runs the tests that stand in them too, which are the gate's matter.
+    """
+    copy_crates(names, room)
+    status = run(["rt", "ci"], room, log, listener.hear, listener.teller.show)
+    if status and not listener.times.ended.keys() >= {*names}:
+        failed = ", ".join(listener.failed)
+        at = next((it for it in listener.failed if it in listener.said), listener.at)
+        why = f"not proved: {failed}" if failed else f"`rt ci` ended with {status}"
+        raise Failed(why, listener.last(at))
 
 
-def prove_one(listener, name, log):
-    """Proves a crate by itself, on all processors: rt would take those that it finds idle when it
-    begins, and something of the crate before may still be running then."""
-    listener.at = name
-    folder = os.path.join(TOP, "crates", name)
-    command = ["rt", "check", "--jobs", str(as_memory_allows(processors()))]
-    if run(command, folder, log, listener.hear, listener.teller.show):
-        raise Failed(f"not proved: {name}", listener.last(name))
-    listener.end_of(name)
+def toolchain():
+    """The toolchain's folder, which holds the page that `rt doc` names."""
+    how = {"stdin": subprocess.DEVNULL, "capture_output": True, "text": True, "check": True}
+    return os.path.dirname(subprocess.run(["rt", "doc"], **how).stdout.strip())
 
 
-def prove(listener, folder, log):
-    """Proves the crates below the program's; Failed says which one isn't proved."""
-    prove_side_by_side(listener, folder, log)
-    for name in listener.row[:-1]:
-        prove_one(listener, name, log)
+def commands_of_build(crate, crates, room, cpu):
+    """What proves and compiles the program's crate, and what links it to the file `program`.
+
+    The libraries stand in the folder where `rt ci` has proved them. The words are those with which
+    it has a program checked and compiled, and the processor.
+    """
+    kit, line = toolchain(), named_crates()[crate][1]
+    rlibs = {it: f"{room}/crates/{it}/out/rlib" for it in crates[crate]}
+    words = ["--crate-name", crate, "src/main.rt"]
+    for name in ["std", *line]:
+        words += ["--extern", f"{name}={rlibs.get(name, f'{kit}/rlibs')}/{name}.rlib"]
+    for folder in [f"{kit}/rlibs", *rlibs.values()]:
+        words += ["-L", f"dependency={folder}"]
+    words += ["--antt-project", f"{kit}/rattle/logic/antt-project.json"]
+    words += ["--logic-built", f"{kit}/logic_built", "--jobs", "1", "--links", f"{crate}="]
+    words += [f"--cpu={cpu}"] if cpu else []
+    words += ["--toolchain", f"{kit}/toolchain", "--backend", "llvm", "-o", f"{room}/program.o"]
+    link = ["--target", TARGET, "--toolchain", f"{kit}/toolchain", "-o", f"{room}/program"]
+    link += [f"{room}/program.o", f"{kit}/c/libos_c.a", f"{kit}/c/liblibc_c.a"]
+    return [f"{kit}/bin/rattle", "build", *words], [f"{kit}/bin/rattle-link", *link]
 
 
-def build(listener, crate, log, words):
-    """Proves the program's crate, builds the program over what is proved, and starts it once."""
+def build(listener, crate, room, log, given):
+    """Proves the program's crate, builds the program over the libraries, and starts it once."""
     teller, listener.at = listener.teller, BUILDING
     teller.phase = "building the program"
     teller.show()
+    commands = commands_of_build(crate, listener.times.crates, room, given.cpu)
     folder = os.path.join(TOP, "crates", crate)
-    status = run(["rt", "run", *words], folder, log, listener.hear, teller.show)
-    if status:
-        why = f"`rt run {' '.join(words)}` ended with {status}"
-        raise Failed(f"not built: {why}", listener.last(BUILDING))
+    for command in (*commands, [f"{room}/program", *given.words]):
+        status = run(command, folder, log, listener.hear, teller.show)
+        if status:
+            begin = " ".join([os.path.basename(command[0]), *command[1:2]])
+            raise Failed(f"not built: `{begin} ..` ended with {status}", listener.last(BUILDING))
     listener.times.ended.setdefault(crate, listener.times.gone())
+
+
+def put(made, to, moment):
+    """Has the file take the place of the one of that name at once, which may be running.
+
+    It gets the time of the moment at which the sources were copied, so one that changes while this
+    builds is newer.
+    """
+    new = f"{to}.new.{os.getpid()}"
+    shutil.copy(made, new)
+    os.utime(new, (moment, moment))
+    os.replace(new, to)
 
 
 def greet(teller, is_first, file):
     """What is going to happen, and where what the prover says is to be read."""
     times = teller.times
     if is_first:
-        number = f"{len(times.crates)} crates, {times.places} at a time"
+        several = "s" * (processors() > 1)
+        number = f"{len(times.crates)} crates on {processors()} processor{several}"
         whole = f"{roughly(times.left())} where none is proved"
         teller.say(f"first build: this proves {number}, {whole} ({file});")
         teller.say("later starts take no time until a source changes")
@@ -454,21 +475,23 @@ def new_file(path):
 
 def make(given):
     """Proves and builds; the status to end with."""
-    folder = os.path.join(TOP, "crates", given.crate)
-    path = os.path.join(folder, "out", "build.txt")
+    folder = os.path.join(TOP, "crates", given.crate, "out")
+    into = given.into or os.path.join(folder, given.crate)
+    path = os.path.join(folder, "build.txt")
     shown = os.path.relpath(path)
     shown = path if shown.startswith("..") else shown
-    teller = Teller(given.program, Times(given.crate, places()))
+    teller = Teller(given.program, Times(given.crate))
     listener = Listener(teller)
-    words = [*(["--cpu", given.cpu] if given.cpu else []), "--", *given.words]
     try:
-        with new_file(path) as log:
-            greet(teller, not os.path.exists(os.path.join(folder, "out", given.crate)), shown)
+        moment = time.time()
+        with new_file(path) as log, tempfile.TemporaryDirectory(prefix="sgm-build-") as room:
+            greet(teller, not os.path.exists(into), shown)
             teller.show()
-            prove(listener, folder, log)
-            build(listener, given.crate, log, words)
+            prove(listener, [it for it in teller.times.crates if it != given.crate], room, log)
+            build(listener, given.crate, room, log, given)
+            put(f"{room}/program", into, moment)
     except Stopped as stopped:
-        teller.say("stopped: the next start goes on where this one was")
+        teller.say("stopped: the next start takes over the crates that are kept")
         return 128 + stopped.args[0]
     except Failed as failed:
         why, last = failed.args
@@ -487,7 +510,8 @@ def make(given):
 def main():
     way = argparse.RawDescriptionHelpFormatter
     parser = argparse.ArgumentParser(description=__doc__, formatter_class=way)
-    parser.add_argument("--cpu", metavar="NAME", help="the processor that `rt run` builds for")
+    parser.add_argument("--cpu", metavar="NAME", help="the processor that the program is for")
+    parser.add_argument("--into", metavar="FILE", help="where the program is put")
     parser.add_argument("program", metavar="PROGRAM", help="the name that messages begin with")
     parser.add_argument("crate", metavar="CRATE", help="the crate that the program is made of")
     parser.add_argument("words", metavar="WORD", nargs="*", help="of the run that tries it")
@@ -498,7 +522,7 @@ def main():
     Signals.note()
     try:
         return make(given)
-    except (OSError, ValueError) as error:
+    except (OSError, ValueError, subprocess.CalledProcessError) as error:
         print(f"first_build: {error}", file=sys.stderr)
         return 1
 

@@ -96,8 +96,7 @@ build() {
     trap - TERM HUP INT
     [ -z "$signal" ] || kill "-$signal" "$$"
     case $status in
-    # A build that changed nothing leaves the file's time as it was.
-    0) touch "$program" ;;
+    0) ;;
     129 | 130 | 143)
         kill "-$((status - 128))" "$$"
         exit "$status"

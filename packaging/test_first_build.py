@@ -1,5 +1,5 @@
 #!/usr/bin/env python3
-"""Tries what first_build.py reckons: which crates, in which order, how many at a time, and the time that is left.
+"""Tries what first_build.py reckons and hears: which crates, what is copied of them, and the time that is left.
 
 What is expected is worked out by hand. How it runs and ends is tried by tests/launcher.sh.
 """
@@ -20,8 +20,7 @@ low: thiserror
 aside: low
 """
 TABLE = "# crate seconds\nlow 10\nleft 60 # slow\nright 20\nother 6\n"
-# What is proved at a time by two: low to 10; left to 70 and right to 30; top, which has the mean of the four, to 94.
-# The program's building takes the mean too.
+# By two at a time low ends at 10, right at 30 and left at 70; then top is built, which takes the mean of the four.
 NAMES = ["low", "left", "right", "top"]
 
 
@@ -29,10 +28,9 @@ class Reckoned(unittest.TestCase):
     def setUp(self):
         folder = tempfile.TemporaryDirectory()
         self.addCleanup(folder.cleanup)
-        self.times = os.path.join(folder.name, "build_times.txt")
-        for path, text in ((os.path.join(folder.name, "crates.txt"), CRATES), (self.times, TABLE)):
-            with open(path, "w", encoding="utf-8") as file:
-                file.write(text)
+        self.top, self.times = folder.name, os.path.join(folder.name, "build_times.txt")
+        self.write("crates.txt", CRATES)
+        self.write("build_times.txt", TABLE)
         self.now = 1000.0
         clock = types.SimpleNamespace(monotonic=lambda: self.now)
         values = {"TOP": folder.name, "TIMES": self.times, "time": clock, "processors": lambda: 2}
@@ -41,17 +39,17 @@ class Reckoned(unittest.TestCase):
             patch.start()
             self.addCleanup(patch.stop)
 
-    def begun(self, places=2):
-        """A build whose first line came two seconds after its start."""
-        times = tool.Times("top", places)
-        self.now += 2
-        times.hears(False)
-        return times
+    def write(self, path, text):
+        """A file of the repository."""
+        path = os.path.join(self.top, path)
+        os.makedirs(os.path.dirname(path), exist_ok=True)
+        with open(path, "w", encoding="utf-8") as file:
+            file.write(text)
 
-    def ends(self, times, name, moment):
+    def ends(self, times, name, moment, is_kept=False):
         """The crate ends so many seconds after the start."""
         self.now = 1000.0 + moment
-        times.end_of(name)
+        times.end_of(name, is_kept)
 
     def test_crates(self):
         below = {"low": [], "left": ["low"], "right": ["low"], "top": ["low", "left", "right"]}
@@ -61,104 +59,112 @@ class Reckoned(unittest.TestCase):
         self.assertEqual(list(tool.crates_of("aside")), ["low", "aside"])
         self.assertEqual(tool.crates_of("unnamed"), {"unnamed": []})
 
+    def test_copied(self):
+        """What proofs read of the crates, and nothing else."""
+        wanted = {"crates/low/src/lib.rt", "crates/low/specs/deep/Lib.antt", "crates/left/proofs/Lib.antt"}
+        for path in (*wanted, "crates/low/must-fail/a.edit", "crates/low/out/a", "crates/right/src/lib.rt", "HANDLES"):
+            self.write(path, path)
+        with tempfile.TemporaryDirectory() as room:
+            tool.copy_crates(["low", "left"], room)
+            found = {}
+            for at, _, names in os.walk(room):
+                for name in names:
+                    with open(os.path.join(at, name), encoding="utf-8") as file:
+                        found[os.path.relpath(os.path.join(at, name), room)] = file.read()
+        lists = {"crates.txt": "low: thiserror\nleft: low\n", "HANDLES": "HANDLES"}
+        self.assertEqual(found, {it: it for it in wanted} | lists)
+
     def test_seconds(self):
         self.assertEqual(tool.seconds_of(NAMES), {"low": 10, "left": 60, "right": 20, "top": 24, "program": 24})
         os.remove(self.times)
         self.assertEqual(tool.seconds_of(["low"]), {"low": 0, "program": 0})
 
     def test_schedule(self):
-        """A crate keeps its place while it waits for those below it."""
+        """B stands before a, as 4 + 20 seconds hang on it, and d before c."""
         crates = {"a": [], "b": [], "c": ["a"], "d": ["b"], "e": ["a", "b", "c", "d"]}
-        seconds = {"a": 10, "b": 4, "c": 5, "d": 6, "e": 3}
-        for number, ends in ((1, [10, 14, 19, 25, 28]), (2, [4, 10, 15, 16, 19]), (3, [4, 10, 10, 15, 18])):
-            self.assertEqual(tool.schedule(crates, seconds, number, number), ends)
-
-    def test_shared_processors(self):
-        """A and b share one processor: b ends when both had 4 seconds, and d then shares it with what is left of a."""
-        crates = {"a": [], "b": [], "d": ["b"]}
-        seconds = {"a": 10, "b": 4, "d": 6}
-        self.assertEqual(tool.schedule(crates, seconds, 2, 1), [8, 20, 20])
-        self.assertEqual(tool.schedule(crates, seconds, 2, 2), [4, 10, 10])
+        seconds = {"a": 10, "b": 4, "c": 5, "d": 20, "e": 3}
+        for number, ends in ((1, [4, 24, 34, 39, 42]), (2, [4, 10, 15, 24, 27]), (3, [4, 10, 15, 24, 27])):
+            self.assertEqual(tool.schedule(crates, seconds, number), ends)
 
     def test_left(self):
-        times = self.begun()
-        self.assertEqual(times.left(), 94 + 24 - 2)
-        self.ends(times, "low", 6)
-        self.assertEqual(times.left(), 108)
-        # A tenth of the whole isn't done, so the table's seconds stand; and time goes on.
+        times = tool.Times("top")
+        self.assertEqual(times.left(), 70 + 24)
+        self.now += 5
+        self.assertEqual(times.left(), 94 - 5)
+        self.ends(times, "low", 20)
+        # A tenth of the whole is done, at half the pace of the table.
+        self.assertEqual(times.left(), 2 * (94 - 10))
         self.now += 40
-        self.assertEqual(times.left(), 68)
-        # Half as fast as by the table.
-        self.ends(times, "right", 60)
-        self.assertEqual(times.left(), 2 * (118 - 30))
-        self.now += 100
-        self.assertEqual(times.left(), 76)
-        self.now += 100
+        self.assertEqual(times.left(), 2 * (94 - 10) - 40)
+        self.ends(times, "right", 90)
+        self.assertEqual(times.left(), 3 * (94 - 30))
+        self.now += 500
         self.assertEqual(times.left(), 0)
-        self.ends(times, "left", 280)
-        self.assertEqual(times.left(), 4 * (118 - 70))
+        self.ends(times, "left", 700)
+        self.assertEqual(times.left(), 10 * 24)
+        times.ended["top"] = 700
+        self.assertEqual(times.left(), 10 * 24)
 
-    def test_proved_earlier(self):
-        """What ends at once counts as none, once the first line has come."""
-        times = self.begun()
-        self.ends(times, "low", 2.5)
-        self.assertEqual(times.left(), 60 + 24 + 24)
-        self.ends(times, "left", 3)
-        self.assertEqual(times.left(), 20 + 24 + 24)
-        # That took its time, three times as much as by the table; of those proved earlier nothing is reckoned.
+    def test_no_pace(self):
+        """Less than a tenth of the whole tells nothing of the machine."""
+        times = tool.Times("top")
+        times.seconds["low"] = 9
+        self.ends(times, "low", 90)
+        self.assertEqual(times.left(), 60 + 24)
+
+    def test_kept(self):
+        """What was kept counts as none, and tells nothing of the machine."""
+        times = tool.Times("top")
+        self.ends(times, "low", 2, is_kept=True)
+        self.assertEqual(times.left(), 60 + 24)
+        self.ends(times, "left", 3, is_kept=True)
+        self.assertEqual(times.left(), 20 + 24)
         self.ends(times, "right", 60)
-        self.assertEqual(times.left(), 3 * (24 + 24))
-        self.ends(times, "top", 61)
         self.assertEqual(times.left(), 3 * 24)
 
-    def test_row(self):
-        """Left and right stand side by side, and top on both."""
-        times = self.begun()
-        self.assertEqual(times.row_above("low"), [])
-        self.ends(times, "low", 10)
-        self.assertEqual(times.row_above("low"), [])
-        self.ends(times, "right", 30)
-        # Left doesn't stand on right, and may have begun long ago.
-        self.assertEqual(times.row_above("right"), [])
-        self.ends(times, "left", 70)
-        self.assertEqual(times.row_above("left"), ["top"])
-        self.ends(times, "top", 94)
-        self.assertEqual(times.row_above("top"), [])
-        times = tool.Times("aside", 2)
-        times.hears(False)
-        self.ends(times, "low", 10)
-        self.assertEqual(times.row_above("low"), ["aside"])
-
     def heard(self, *lines):
-        """The crates that are to be proved one after the other behind these lines of rt."""
-        teller = types.SimpleNamespace(times=self.begun(), tell=lambda name: None)
+        """What hears these lines, and what was told of each crate that ended."""
+        told = []
+        teller = types.SimpleNamespace(times=tool.Times("top"), tell=told.append, say=told.append)
         listener = tool.Listener(teller)
         for line in lines:
             listener.hear(line)
-        return listener.row
+        return listener, told
 
-    def test_row_heard(self):
-        """Where a crate isn't proved, rt itself comes to its end and says which."""
-        good, bad = b"logic=proved functions=3", b"logic=not-proved"
-        low, right, left = (b"== low", good), (b"== right", good), (b"== left", good)
-        self.assertEqual(self.heard(*low, *left, *right), ["top"])
-        self.assertEqual(self.heard(*low, *left, *right[:1]), [])
-        self.assertEqual(self.heard(*low, *left, right[0], bad), [])
-        self.assertEqual(self.heard(*low, right[0], bad, *left), [])
-        self.assertEqual(self.heard(*low, *left, *right, b"== top", good), [])
+    def test_heard(self):
+        """Each crate ends once, by its proof or as it was kept; its tests are no end."""
+        lines = (b"rt: low is kept: an earlier run", b"rt: left: another run on this machine is proving the same; wait")
+        lines += (b"== left: its tests", b"rt: left: its tests are proved", b"== left", b"fn a: proved", b"b")
+        lines += (b"rt: left proved", b"rt: aside proved", b"== right", b"rt: 3 proved")
+        listener, told = self.heard(*lines)
+        self.assertEqual(told, ["low", lines[1].decode(), "left"])
+        self.assertEqual(listener.times.seconds, {"low": 0, "left": 60, "right": 20, "top": 24, "program": 24})
+        self.assertEqual((list(listener.said["left"]), listener.failed), ([b"b"], []))
 
-    def test_one_crate(self):
-        """The first line is the crate's own end."""
-        times = tool.Times("low", 4)
-        self.now += 8
-        times.hears(True)
-        times.end_of("low")
-        self.assertEqual(times.seconds["low"], 10)
+    def test_not_proved(self):
+        """Those whose own proof failed, and not those above them or whose tests did."""
+        lines = (b"== low", b"why", b"rt: low NOT PROVED", b"rt: left NOT PROVED: its library low failed")
+        lines += (b"== right: its tests", b"rt: right: its tests are NOT PROVED")
+        listener, told = self.heard(*lines)
+        self.assertEqual((listener.failed, told), (["low"], []))
+        self.assertEqual(listener.last("low"), "why\n")
 
-    def test_places(self):
-        for number, place, wanted in ((1, 1, 1), (2, 1, 3), (3, 1, 4), (4, 1, 6), (4, 1 << 60, 1)):
-            with mock.patch.object(tool, "processors", lambda: number), mock.patch.object(tool, "PLACE", place):
-                self.assertEqual(tool.places(), wanted)
+    def test_commands(self):
+        """Libraries stand where they were proved, or with the toolchain; the processor is named where it is asked for."""
+        crates = tool.crates_of("top")
+        with mock.patch.object(tool, "toolchain", lambda: "/kit"):
+            build, link = tool.commands_of_build("top", crates, "/room", "x86-64-v3")
+            plain, _ = tool.commands_of_build("top", crates, "/room", None)
+        self.assertEqual((build[:2], link[0]), (["/kit/bin/rattle", "build"], "/kit/bin/rattle-link"))
+        externs = [word for before, word in zip(build, build[1:]) if before == "--extern"]
+        rlib = "/room/crates/{0}/out/rlib/{0}.rlib".format
+        wanted = ["std=/kit/rlibs/std.rlib", f"left={rlib('left')}", f"right={rlib('right')}"]
+        self.assertEqual(externs, [*wanted, "itoa=/kit/rlibs/itoa.rlib"])
+        places = [word for before, word in zip(build, build[1:]) if before == "-L"]
+        folders = ["/kit/rlibs", *[f"/room/crates/{it}/out/rlib" for it in NAMES[:-1]]]
+        self.assertEqual(places, [f"dependency={it}" for it in folders])
+        self.assertEqual([it for it in build if it not in plain], ["--cpu=x86-64-v3"])
+        self.assertEqual(build[build.index("-o") + 1], link[link.index("-o") + 2])
 
     def test_words(self):
         for seconds, text in ((0, "0:00"), (59.9, "0:59"), (61, "1:01"), (3599, "59:59"), (3661, "1:01:01")):

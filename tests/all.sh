@@ -10,10 +10,10 @@
 # servers. The programs are those that the variables SGM and SGM_SERIES name (./sgm and ./sgm_series of this repository
 # without them). Where those of this repository were never built, the tests that need them are skipped, and the line says
 # so; --build builds them first, which takes many minutes. No other test starts them. With them all tests together take
-# about half an hour, half of it compare, package and definitions. The last two ask the toolchain for what is proved: package
-# for what was built in this checkout, definitions for that or for what the gate passed on this machine. Where that is
-# nothing they take many minutes more. Of the edits that stand outside the gate it asks only whether each can be applied;
-# tests/edits.py tries them, for over an hour of processor time.
+# about half an hour, half of it compare, package and definitions. The last two ask the toolchain for what is proved, as a
+# first start or the gate kept it on this machine. Where that is nothing they take many minutes more. Of the edits that
+# stand outside the gate it asks only whether each can be applied; tests/edits.py tries them, for over an hour of
+# processor time.
 #
 # Status: 0 where none failed, 1 where one did, 2 for wrong words. What a test that failed has printed is kept, and
 # the path of the file stands below its line.

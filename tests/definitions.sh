@@ -2,8 +2,8 @@
 # Computes the definitions of specs/ on small arguments, by proofs that only compute, and compares them with
 # plain Python (definitions.py). Every page has to be proved; and with one false value on each page none may be.
 # Skipped where the toolchain (rt) isn't there. The programs take no part. The libraries that hold the definitions
-# are taken as ./sgm proved them in this checkout, or else as the gate (.ci/run) passed them on this machine. Where
-# neither has proved the same files they are proved here first, which takes many minutes.
+# are taken as `rt check` proved them in this checkout, or else as a first start of ./sgm or the gate (.ci/run) proved
+# them on this machine. Where none has proved the same files they are proved here first, which takes many minutes.
 #
 #     tests/definitions.sh
 set -u

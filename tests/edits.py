@@ -7,8 +7,8 @@
 
 Each edit changes the meaning of a public function by a line or two, and the prover has to refuse it. The gate tries
 the ones that tell most (crates/NAME/must-fail); these are the others, apart so that the gate stays fast. They are
-tried on a copy of the repository's crates, by `rt must-fail`. What ./sgm and ./sgm_series have proved in this checkout
-is copied too, some 6 GB, and isn't proved anew; without it the crates are proved first. An edit is a file with a line
+tried on a copy of the repository's crates, by `rt must-fail`. What `rt check` has proved in this checkout is copied
+too, up to 6 GB, and isn't proved anew; where that is nothing the crates are proved first. An edit is a file with a line
 `file: PATH` (below its crate) and pairs of lines `old: TEXT` and `new: TEXT`; each old TEXT stands in that file once.
 
 Prints a line for each edit and last `N passed, M failed`; one that is refused only because a proof names what it took
@@ -89,11 +89,21 @@ def copy_crates(folder, crates):
         shutil.copytree(os.path.join(EDITS, crate), os.path.join(folder, "crates", crate, "must-fail"))
 
 
+def prove_first(folder):
+    """Proves the library above all that have edits, and those below it, side by side, where nothing is proved yet:
+    `rt must-fail` would prove one after the other."""
+    if not os.path.isdir(os.path.join(folder, "crates", "sgm_base", "out")):
+        words = ["rt", "all", "check", "--jobs", str(3 * len(os.sched_getaffinity(0)) // 2)]
+        subprocess.run(words, cwd=os.path.join(folder, "crates", "sgm_series"), stdout=subprocess.DEVNULL, check=True)
+
+
 def try_all(crates):
     """Has the prover try the edits; the numbers of those that it refused and of the others."""
     refused = 0
     with tempfile.TemporaryDirectory(prefix="sgm-edits.") as folder:
         copy_crates(folder, crates)
+        if crates == crates_with_edits():
+            prove_first(folder)
         words = ["rt", "must-fail", *crates]
         with subprocess.Popen(words, cwd=folder, stdin=subprocess.DEVNULL, stdout=subprocess.PIPE, text=True) as tried:
             for line in tried.stdout:

@@ -1,8 +1,8 @@
 #!/usr/bin/env bash
 # Tries ./sgm and ./sgm_series themselves: the answers that they give without the program, when they build and what
 # they tell of that, and what they hand on. Each case has a copy of both in a repository of its own, with a toolchain
-# that is made up: its `rt` notes how it was called, says what it would of each crate, and makes a program that notes
-# its words. So nothing is proved, and the variables SGM and SGM_SERIES have no part.
+# that is made up: its commands note how they were called and say what they would of each crate, and the program that
+# is linked notes its words. So nothing is proved, and the variables SGM and SGM_SERIES have no part.
 #
 #     tests/launcher.sh
 set -u
@@ -10,6 +10,9 @@ set -u
 . "$(dirname "$0")/common.sh"
 passed=0 failed=0
 unset GLIBC_TUNABLES CDPATH
+# What a build leaves behind would be seen here.
+export TMPDIR=$work/temporary
+mkdir "$TMPDIR"
 # What the launcher sets.
 tunables=glibc.malloc.hugetlb=1:glibc.malloc.mmap_threshold=1073741824
 tunables=$tunables:glibc.malloc.arena_max=1:glibc.malloc.top_pad=67108864
@@ -22,22 +25,22 @@ done
 # (what stands on the PATH may be a script that looks for it)
 ln -s "$(python3 -c 'import sys; print(sys.executable)')" "$plain/python3"
 
-# The made-up rt. Its checks and its builds say what is asked for by files of the repository: `broken` has the names of
-# crates that aren't proved, or `rt` where none is looked at, or `run`; where `waits` is there, the second crate's check
-# starts a process that goes on until it is ended, writes its number to the file `child`, and waits, both of them deaf to
-# SIGTERM where it says so; where `beside` is there another rt works; and where `unchanged` is there no program is made.
-# A crate that it has checked says nothing the next time but that it is proved. `rt all` begins the second crate half a
-# minute after the first, long after it should have been ended.
-made_up_rt() {
-    cat <<RT
+# The made-up toolchain, one script under the names of its commands. What it says is asked for by files of the
+# repository: `broken` has the names of crates that aren't proved, or `rt` where none is looked at, or `build`, `link` or
+# `trial` for what fails then, or `tests` where those of the crates do; where `waits` is there, the second crate's proof starts a process that goes on until it is
+# ended, writes its number to the file `child`, and waits, both of them deaf to SIGTERM where it says so; where `beside`
+# is there another rt works; and where `changes` is there a source changes while the first crate is proved. A crate that
+# it has proved is kept the next time.
+made_up_toolchain() {
+    cat <<MADE
 #!/usr/bin/env bash
 repository='$repository' made='$work/made'
-RT
-    cat <<'RT'
-echo "in $PWD: $*" >>"$repository/calls"
-crate=$(basename "$PWD")
+MADE
+    cat <<'MADE'
+tool=$(basename "$0") status=0
+echo "in ${PWD/#$TMPDIR\/*/a folder}: $tool $*" >>"$repository/calls"
 is_broken() { grep -qsx "$1" "$repository/broken"; }
-check() {
+prove() {
     if [ "$1" = middle ] && [ -e "$repository/waits" ]; then
         grep -qx deaf "$repository/waits" && trap '' TERM
         sleep 600 &
@@ -45,50 +48,54 @@ check() {
         echo $! >"$repository/child"
         wait
     fi
-    [ "$command" = all ] && echo "== $1"
-    [ -e "$repository/checked.$1" ] && echo "logic=proved functions=1" && return
-    for number in {1..30}; do echo "checking $1, line $number"; done
+    [ -e "$repository/proved.$1" ] && echo "rt: $1 is kept: it was proved before" && return
+    [ -e "$repository/beside" ] && echo "rt: $1: another run on this machine is proving the same; waiting for it"
+    [ -e "$repository/changes" ] && rm "$repository/changes" && touch "$repository/crates/low/src/lib.rt"
+    echo "== $1"
+    for number in {1..30}; do echo "proving $1, line $number"; done
     if is_broken "$1"; then
         echo "$1/src/lib.rt:1: error: $(printf '%.0s-' {1..600})"
         # What is well stands behind it and isn't shown.
         for number in {1..30}; do echo "fn $1::number_$number: proved"; done
         printf '%s\n' "fn $1::other: not proved" "statements std: modules loaded=2 checked=1"
         echo "library base: modules loaded=2 checked=1"
-        summary+=("$1: failed (1)") status=1
+        echo "rt: $1 NOT PROVED"
+        status=1
     else
-        : >"$repository/checked.$1"
-        echo "logic=proved functions=1"
-        summary+=("$1: ok")
+        : >"$repository/proved.$1"
+        printf '%s\n' "logic=proved functions=1" "rt: $1 proved"
     fi
 }
-[ -e "$repository/beside" ] && echo "rt: waiting for another rt to finish in a folder" >&2
-echo "rt: words" >&2
-echo printed by rt
-command=$1 status=0 summary=()
-case $command in
-all)
+case $tool:$1 in
+rt:doc) echo "$repository/page.md" ;;
+rt:ci)
+    echo "rt: words" >&2
     is_broken rt && echo "low/src/lib.rt:1: no such word" && exit 1
-    for each in low middle "$crate"; do
-        if [ "$status" = 0 ]; then check "$each"; else summary+=("$each: not run, since another failed"); fi
-        [ "$status" = 0 ] && sleep 30
+    for each in $(sed 's/[: ].*//' crates.txt); do
+        [ -e "crates/$each/src" ] || exit 3
+        if [ "$status" = 0 ]; then prove "$each"; else echo "rt: $each NOT PROVED: its library failed"; fi
     done
-    printf '%s\n' '== summary' "${summary[@]}"
+    is_broken tests && status=1
+    echo "so many passed"
     exit "$status"
     ;;
-check)
-    check "$crate"
-    exit "$status"
+rattle:build)
+    echo "said by rattle"
+    is_broken build && echo "no building" && exit 5
     ;;
-run)
-    is_broken run && echo "no linking" && exit 5
-    [ -e "$repository/unchanged" ] || cp "$made" "out/$crate"
+rattle-link:*)
+    is_broken link && echo "no linking" && exit 6
+    while [ "$1" != -o ]; do shift; done
+    cp "$made" "$2"
     ;;
 esac
-RT
+exit 0
+MADE
 }
 
 # A new repository in a folder of that name, which becomes the folder at hand. The program that is tried, once made,
-# prints its words in brackets, where it runs and its GLIBC_TUNABLES, and ends with the status 7.
+# prints its words in brackets, where it runs and its GLIBC_TUNABLES, and ends with the status 7; where it is tried
+# before it is put in its place, it says so and ends well.
 begin() {
     case="$launched: $1"
     repository=$work/$launched/$1
@@ -99,16 +106,23 @@ begin() {
     printf '# crate seconds\nlow 60\nmiddle 130 # both programs\n' >"$repository/packaging/build_times.txt"
     echo 7.8.9 >"$repository/VERSION"
     printf '%s\n' low: 'middle: low itoa' beside: 'sgm_cli: middle' 'sgm_series_cli: low middle' >"$repository/crates.txt"
+    echo "Handles allowed: none." >"$repository/HANDLES"
     touch "$repository"/crates/{{sgm,sgm_series}_cli/src/main.rt,low/src/lib.rt,low/specs/Lib.antt}
-    cat >"$work/made" <<'PROGRAM'
+    cat >"$work/made" <<PROGRAM
 #!/usr/bin/env bash
+repository='$repository'
+PROGRAM
+    cat >>"$work/made" <<'PROGRAM'
+[[ $0 = */out/* ]] || { echo "tried: $*"; ! grep -qsx trial "$repository/broken"; exit; }
 printf '[%s]' "$@"
 printf ' in %s with %s\n' "$PWD" "${GLIBC_TUNABLES-none}"
 sed -n 's/^flags:.*\(.\)$/\1/p' /proc/$$/fdinfo/[12] >"$(dirname "$0")/streams"
 exit 7
 PROGRAM
-    made_up_rt >"$repository/bin/rt"
+    made_up_toolchain >"$repository/bin/rt"
     chmod +x "$work/made" "$repository/bin/rt"
+    ln -s rt "$repository/bin/rattle"
+    ln -s rt "$repository/bin/rattle-link"
     path=$repository/bin:$plain
     cd "$repository" || exit 1
 }
@@ -136,23 +150,23 @@ has_line() {
     is "$1: a line '$3'" $? 0
 }
 
-# What the launcher says of a first build where there is no terminal, once each crate has ended at once: the seconds of
-# the table, of which those without a line count as the mean, 95: the last crate and the building of the program.
+# What the launcher says of a first build where there is no terminal, by the seconds of the table: 60, 130 and, for the
+# building of the program, which has no line there, their mean. Once one crate has ended at once, all will.
 plain_progress() {
     cat <<TEXT
-$launched: first build: this proves 3 crates, N at a time, about 6 minutes where none is proved ($crate/out/build.txt);
+$launched: first build: this proves 3 crates on N processors, about 5 minutes where none is proved ($crate/out/build.txt);
 $launched: later starts take no time until a source changes
-$launched: 1 of 3 crates checked (low), 0:00 gone, about 5 minutes left
-$launched: 2 of 3 crates checked (middle), 0:00 gone, about 3 minutes left
+$launched: 1 of 3 crates checked (low), 0:00 gone, some seconds left
+$launched: 2 of 3 crates checked (middle), 0:00 gone, some seconds left
 $launched: 3 of 3 crates checked, 0:00 gone, the program is built
 TEXT
 }
 
-# What the launcher said, without the number of places and the seconds that differ from run to run.
-said() { sed 's/, [0-9]* at a time/, N at a time/; s/, 0:0[0-9] gone/, 0:00 gone/' <<<"$1"; }
+# What the launcher said, without the number of processors and the seconds that differ from run to run.
+said() { sed 's/ on [0-9]* processors\{0,1\}/ on N processors/; s/, 0:0[0-9] gone/, 0:00 gone/' <<<"$1"; }
 
 # How often it was built, or tried to be.
-calls() { if [ -e "$repository/calls" ]; then grep -c ': all ' "$repository/calls"; else echo 0; fi; }
+calls() { if [ -e "$repository/calls" ]; then grep -c ': rt ci$' "$repository/calls"; else echo 0; fi; }
 # Makes the files at hand older than what is touched next, whatever the file system's clock can tell apart.
 age() { find "$repository" -exec touch -h -d '1 hour ago' {} +; }
 
@@ -176,9 +190,11 @@ was_interrupted() {
     rm waits child
     started demo 0
     is "status of the next start" "$status" 7
-    is "how it goes on" "$(said "$err")" "$(plain_progress)"
-    is "lines of the crate that was checked before" "$(grep -c "^checking low" "$crate/out/build.txt")" 0
-    is "lines of the one that wasn't" "$(grep -c "^checking middle" "$crate/out/build.txt")" 30
+    # What was proved before tells nothing of the time that the rest takes.
+    is "how it goes on" "$(said "$err")" "$(plain_progress | sed 's/\((low),.*\)some seconds/\1about 4 minutes/')"
+    is "lines of the crate that was proved before" "$(grep -c "^proving low" "$crate/out/build.txt")" 0
+    is "lines of the one that wasn't" "$(grep -c "^proving middle" "$crate/out/build.txt")" 30
+    is "what is left behind" "$(ls -A "$TMPDIR")" ""
 }
 
 # A first build is stopped by a signal to the launcher, and by Ctrl-C.
@@ -194,7 +210,7 @@ try_interrupted() {
         status=$? out=$(cat "$work/out") err=$(cat "$work/err")
         is "standard output" "$out" ""
         is "standard error" "$(said "$err")" "$(plain_progress | head -n 3)
-$launched: stopped: the next start goes on where this one was"
+$launched: stopped: the next start takes over the crates that are kept"
         number=$(kill -l "$signal")
         was_interrupted $((128 + number))
     done
@@ -212,9 +228,9 @@ $launched: stopped: the next start goes on where this one was"
     begin "stopped by Ctrl-C"
     touch waits
     on_terminal 120 $'\003'
-    is "the last line" "$(tail -n 1 <<<"$out")" "$launched: stopped: the next start goes on where this one was"
+    is "the last line" "$(tail -n 1 <<<"$out")" "$launched: stopped: the next start takes over the crates that are kept"
     is "the line before" "$(said "$(tail -n 2 <<<"$out" | head -n 1)")" \
-        "$launched: 1 of 3 crates checked, 0:00 gone, about 5 minutes left"
+        "$launched: 1 of 3 crates checked, 0:00 gone, some seconds left"
     was_interrupted 130
 }
 
@@ -242,18 +258,18 @@ try_terminal() {
     is "the last line" "$(said "$(tail -n 2 <<<"$out" | head -n 1)")" "$(plain_progress | tail -n 1 | cut -c1-29)"
 }
 
-# One and a half places for each processor, where there is memory for three.
+# The processors that it may run on.
 try_processors() {
-    local number free some
+    local number some
     has taskset || return
-    free=$(sed -n 's/^MemAvailable: *\([0-9]*\).*/\1/p' /proc/meminfo)
     for number in 1 2; do
-        if [ "$(nproc)" -lt $number ] || [ "$free" -lt 5000000 ]; then continue; fi
+        [ "$(nproc)" -ge $number ] || continue
         begin "$number processors"
         some=$(python3 -c "import os; print(*sorted(os.sched_getaffinity(0))[:$number], sep=',')")
         PATH=$path "$(command -v taskset)" -c "$some" "./$launched" demo 0 >"$work/out" 2>"$work/err"
         is status $? 7
-        is "how rt was called" "$(head -n 1 calls)" "in $repository/$crate: all check --jobs $((3 * number / 2))"
+        is "how many it names" "$(sed -n 's/.* on \([0-9]* processors\{0,1\}\),.*/\1/p' "$work/err")" \
+            "$(echo "1 processor;2 processors" | cut -d';' -f$number)"
     done
 }
 
@@ -296,12 +312,13 @@ try_launcher() {
     is "the program's words" "$out" "[match][a b][][c
 d][*] in $repository with $tunables"
     is "standard error" "$(said "$err")" "$(plain_progress)"
-    is "how rt was called" "$(sed 's/ --cpu x86-64-v3//; s/--jobs [1-9][0-9]*$/--jobs N/' calls)" \
-        "in $repository/$crate: all check --jobs N
-in $repository/crates/middle: check --jobs N
-in $repository/$crate: run -- $trial"
-    is "the lines of the check in the file" "$(grep -c "^checking middle, line" "$crate/out/build.txt")" 30
-    is "the last line of the file" "$(tail -n 1 "$crate/out/build.txt")" "printed by rt"
+    is "how the toolchain was called" "$(sed 's/ --\(crate-name\|target\) .*//' calls)" "in a folder: rt ci
+in $repository: rt doc
+in $repository/$crate: rattle build
+in $repository/$crate: rattle-link"
+    is "the lines of the proof in the file" "$(grep -c "^proving middle, line" "$crate/out/build.txt")" 30
+    is "the last line of the file" "$(tail -n 1 "$crate/out/build.txt")" "tried: $trial"
+    is "what is left behind" "$(ls -A "$TMPDIR")" ""
     started
     is "status without words" "$status" 7
     is "standard error of a later start" "$err" ""
@@ -330,12 +347,20 @@ in $repository/$crate: run -- $trial"
     touch docs/page.md crates/low/must-fail/one.edit README.md
     started demo 1
     is "builds after a change of a page and of an edit" "$(calls)" $((count + 1))
-    # A build that makes the same program and so leaves the file as it is.
+    # A build that makes the same program.
     age
-    touch unchanged crates.txt
+    touch crates.txt
     started demo 1
     started demo 1
     is "builds after one that changed nothing" "$(calls)" $((count + 2))
+    # A source that changes while it is built was copied before.
+    age
+    rm proved.low
+    touch crates.txt changes
+    started demo 1
+    started demo 1
+    started demo 1
+    is "builds where a source changed meanwhile" "$(calls)" $((count + 4))
 
     # The names of the sources that it keeps: of what came since, and where the program was made by someone else.
     count=$(calls)
@@ -385,11 +410,11 @@ in $repository/$crate: run -- $trial"
     is "standard output" "$out" ""
     is "standard error" "$(said "$err")" "$(plain_progress | head -n 3)
 $launched: not proved: middle. What was said last, of which $crate/out/build.txt has all:
-$(printf 'checking middle, line %s\n' {13..30})
+$(printf 'proving middle, line %s\n' {13..30})
 $(printf 'middle/src/lib.rt:1: error: %s' "$(printf '%.0s-' {1..600})" | cut -c1-400) ..
 fn middle::other: not proved
 $launched: can't be built: see the messages above"
-    is "the lines of the check in the file" "$(grep -c "^checking middle, line" "$crate/out/build.txt")" 30
+    is "the lines of the proof in the file" "$(grep -c "^proving middle, line" "$crate/out/build.txt")" 30
     is "whether there is a program (1: no)" "$([ -e "$program" ]; echo $?)" 1
     rm broken
     started demo 0
@@ -406,27 +431,39 @@ $launched: can't be built: see the messages above"
     echo rt >broken
     started demo 0
     is "status where rt ends before any crate" "$status" 1
-    is "standard error" "$(said "$err" | tail -n +3 | sed 's/--jobs [0-9]*/--jobs N/')" \
-        "$launched: \`rt all check --jobs N\` ended with 1. What was said last, of which $crate/out/build.txt has all:
+    is "standard error" "$(said "$err" | tail -n +3)" \
+        "$launched: \`rt ci\` ended with 1. What was said last, of which $crate/out/build.txt has all:
 rt: words
-printed by rt
 low/src/lib.rt:1: no such word
 $launched: can't be built: see the messages above"
-    echo run >broken
+    echo build >broken
     started demo 0
     is "status where the program can't be built" "$status" 1
-    is "standard error" "$(said "$err" | tail -n 5 | sed 's/--cpu x86-64-v3 //')" \
-        "$launched: not built: \`rt run -- $trial\` ended with 5. What was said last, of which $crate/out/build.txt has all:
-rt: words
-printed by rt
-no linking
+    is "standard error" "$(said "$err" | tail -n 4)" \
+        "$launched: not built: \`rattle build ..\` ended with 5. What was said last, of which $crate/out/build.txt has all:
+said by rattle
+no building
 $launched: can't be built: see the messages above"
+    echo link >broken
+    started demo 0
+    is "status where it can't be linked" "$status" 1
+    has_line "standard error" "$err" "$launched: not built: \`rattle-link --target ..\` ended with 6\."
+    echo trial >broken
+    started demo 0
+    is "status where it can't be started" "$status" 1
+    has_line "standard error" "$err" "$launched: not built: \`program ${trial%% *} ..\` ended with 1\."
+    is "whether there is a program (1: no)" "$([ -e "$program" ]; echo $?)" 1
 
     begin "beside another rt"
     touch beside
     started demo 0
     is status "$status" 7
-    has_line "standard error" "$err" "$launched: rt: waiting for another rt to finish in a folder"
+    has_line "standard error" "$err" "$launched: rt: low: another run on this machine is proving the same; waiting for it"
+
+    begin "tests that fail"
+    echo tests >broken
+    started demo 0
+    is "status where all crates are proved" "$status" 7
 
     # A failed build after a good one: the old program isn't started.
     begin stale
@@ -434,7 +471,7 @@ $launched: can't be built: see the messages above"
     age
     touch crates.txt
     echo low >broken
-    rm checked.low
+    rm proved.low
     started demo 0
     is status "$status" 1
     is "standard output" "$out" ""
@@ -503,7 +540,7 @@ started demo 0
 is "builds of both" "$(calls)" 2
 for launched in sgm sgm_series; do started one; done
 is "builds after later starts" "$(calls)" 2
-is "what both are built of" "$(sed -n 's/^in \(.*\): run.*/\1/p' calls)" "$repository/crates/sgm_series_cli
+is "what both are built of" "$(sed -n 's/^in \(.*\): rattle build.*/\1/p' calls)" "$repository/crates/sgm_series_cli
 $repository/crates/sgm_cli"
 
 echo "launcher: $passed passed, $failed failed"

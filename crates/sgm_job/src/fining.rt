@@ -157,6 +157,8 @@ fn made_map<R: Threads + Sync>(
         span: planes.scene.span(),
     };
     let strips = made_strips(rt, alloc, &making, cut, threads)?;
+    // What is made takes the place of the map, which is warm, and needs no new memory.
+    drop(map);
     join_strips(alloc, size, &strips)
 }
 
