@@ -3,9 +3,10 @@
 
     tests/builds.py [PROGRAM..]
 
-The PROGRAMs are builds of one state: by LLVM for one processor or another (`rt run --cpu x86-64-v2`, `x86-64-v3`) and
-by Rattle's own compiler (`rt run --backend rattle`). Without any it is the one that the variable SGM names (./sgm of
-this repository without it), and beside it the build that the gate has left, where there is one.
+The PROGRAMs are builds of one state: by LLVM for one processor or another (as `packaging/first_build.py --cpu
+x86-64-v2 --into FILE` makes them) and by Rattle's own compiler (`rt run --backend rattle`). Without any it is the one
+that the variable SGM names (./sgm of this repository without it), and beside it the build that the gate has left, where
+there is one.
 
 Each matches small pairs with bent warps, penalties that follow the picture, finer disparities, peaks and filling, a
 pose, cells by their means, bridges, and regions with rises and outlines: with each number of strips from 1 to 64 and
