@@ -1,13 +1,14 @@
 -- Rows of codes in memory.
-use Rattle.std.proofs.Common.{◌≡◌, ℕ, ◌+◌, ◌-◌, ◌*◌, ◌/◌, ◌^◌, ◌<◌, ◌≤◌, Bool, false, cond, List, ◌++◌, length, take, drop, get_or, slice_index, Option, Some, None, refl, sym, ap, ◌∙◌, subst, arith, replicate, inl, inr}
+use Rattle.std.proofs.Common.{◌≡◌, ℕ, ◌+◌, ◌-◌, ◌*◌, ◌/◌, ◌^◌, ◌<◌, ◌≤◌, Bool, false, cond, List, ◌++◌, length, take, drop, get_or, slice_index, Option, Some, None, refl, sym, ap, ◌∙◌, subst, arith, replicate, inl, inr, ◌⊎◌}
 use Rattle.std.proofs.lemmas.Bool.{cases_lt}
-use Rattle.std.proofs.Math.Nat.{mul-le-mul_right}
+use Rattle.std.proofs.Math.Nat.{mul_comm}
 use Rattle.std.proofs.lemmas.List.{get_or-drop, get_or-take, get_or_append_left, get_or-append_right, get_or-replicate, get_or_past, length-replicate}
 use Rattle.std.proofs.lemmas.Nat.{pow_pos, row_fits}
 use Rattle.sgm_base.specs.Values.{Values}
 use Rattle.sgm_census.specs.Windows.{WindowSides, IsWindow, greatest_of}
-use Rattle.sgm_census.specs.Codes.{code_at}
-use Rattle.sgm_census.specs.Packed.{bits_of, unpacked, word_place}
+use Rattle.sgm_census.specs.Codes.{code_at, code_by}
+use Rattle.sgm_census.specs.declared.rule.CostRule.{CostRule}
+use Rattle.sgm_census.specs.Packed.{AreBlank, HoldsAll, HoldsEach, bits_of, unpacked, word_place}
 use Rattle.sgm_census.proofs.Centres.{code_at-outside}
 
 unpacked-none : (n : ℕ) (words : List ℕ) (present : List Bool) (place : ℕ) → get_or present place false ≡ false → unpacked n words present place ≡ None
@@ -30,75 +31,124 @@ pub record HoldsRows (plane : Values) (window : WindowSides) (code : ℕ → ℕ
   pub done : (x r : ℕ) → x < plane.width → r < plane.height → r < y → unpacked (greatest_of window) words present (word_place plane.width x r) ≡ code x r
   pub left : (k : ℕ) → y * plane.width ≤ k → get_or present k false ≡ false
 
--- before the first row that has codes
-pub rows_none : (plane : Values) (window : WindowSides) (words : List ℕ) (present : List Bool) (y : ℕ) → IsWindow window.width window.height → y ≡ window.height / 2 → ((k : ℕ) → slice_index words k < 2 ^ greatest_of window) → ((k : ℕ) → get_or present k false ≡ false)
-    → HoldsRows plane window (code_at plane window) words present y
-rows_none plane window words present y w e small none =
+rows_apart : (above q width z : ℕ) → (above + q) * width + z ≡ above * width + (q * width + z)
+rows_apart above q width z = omega arith
+
+-- before the first row
+pub rows_none : (plane : Values) (window : WindowSides) (code : ℕ → ℕ → Option (List Bool)) (count : ℕ) (words : List ℕ) (present : List Bool) → AreBlank (greatest_of window) count words present → HoldsRows plane window code words present 0
+rows_none plane window code count words present b =
+    record { within = b.within; done = λ x r hx hr l. absurd (omega arith); left = λ k l. b.none k }
+
+-- a row in which no window lies in the plane
+pub row_outside : (plane : Values) (window : WindowSides) (y : ℕ) (words : List ℕ) (present : List Bool) → IsWindow window.width window.height → (plane.width ≤ 2 * (window.width / 2)) ⊎ ((y < window.height / 2) ⊎ (plane.height ≤ y + window.height / 2))
+    → AreBlank (greatest_of window) plane.width words present → HoldsEach (greatest_of window) plane.width (λ x. code_at plane window x y) words present
+row_outside plane window y words present w out b =
     record {
-      within = small;
-      done = λ x r h k l. unpacked-none (greatest_of window) words present (word_place plane.width x r) (none (word_place plane.width x r))
-          ∙ sym (code_at-outside plane window x r w (inr (inr (inl (omega arith)))));
-      left = λ k l. none k;
+      each = λ x h. unpacked-none (greatest_of window) words present (plane.width - 1 - x) (b.none (plane.width - 1 - x))
+          ∙ sym (code_at-outside plane window x y w (elim out [
+            | inl narrow ↦ elim (cases_lt x (window.width / 2)) [ inl l ↦ inl l | inr l ↦ inr (inl (omega arith)) ]
+            | inr beyond ↦ inr (inr beyond)
+          ]));
+      within = b.within;
     }
 
--- in a plane that is less wide than the window
-pub rows_narrow : (plane : Values) (window : WindowSides) (words : List ℕ) (present : List Bool) → IsWindow window.width window.height → plane.width ≤ 2 * (window.width / 2) → ((k : ℕ) → get_or present k false ≡ false)
-    → (x y : ℕ) → x < plane.width → y < plane.height → unpacked (greatest_of window) words present (word_place plane.width x y) ≡ code_at plane window x y
-rows_narrow plane window words present w narrow none x y h k =
-    unpacked-none (greatest_of window) words present (word_place plane.width x y) (none (word_place plane.width x y))
-    ∙ sym (code_at-outside plane window x y w (elim (cases_lt x (window.width / 2)) [ inl l ↦ inl l | inr l ↦ inr (inl (omega arith)) ]))
-
--- behind the last row that has codes
-pub rows_all : (plane : Values) (window : WindowSides) (words : List ℕ) (present : List Bool) (y : ℕ) → IsWindow window.width window.height → plane.height ≤ y + window.height / 2 → HoldsRows plane window (code_at plane window) words present y
-    → (x r : ℕ) → x < plane.width → r < plane.height → unpacked (greatest_of window) words present (word_place plane.width x r) ≡ code_at plane window x r
-rows_all plane window words present y w end h x r hx hr = elim (cases_lt r y) [
-  | inl l ↦ h.done x r hx hr l
-  | inr l ↦
-      (let place : y * plane.width ≤ word_place plane.width x r = omega (arith, mul-le-mul_right plane.width l) in
-      unpacked-none (greatest_of window) words present (word_place plane.width x r) (h.left (word_place plane.width x r) place)
-      ∙ sym (code_at-outside plane window x r w (inr (inr (inr (omega arith))))))
-]
-
--- one row more: across columns on each side have no code
-pub rows_more : (plane : Values) (window : WindowSides) (y across : ℕ) (words part_words new_words : List ℕ) (present part_present new_present : List Bool)
-    → IsWindow window.width window.height → y < plane.height → across ≡ window.width / 2 → length part_words + 2 * across ≡ plane.width → length part_present ≡ length part_words
-    → IsWritten (y * plane.width + across) words part_words new_words 0 → IsWritten (y * plane.width + across) present part_present new_present false
+-- a row into which the codes of the windows in the plane were written: across columns on each side
+-- have none
+pub row_inside : (plane : Values) (window : WindowSides) (y across : ℕ) (words part_words new_words : List ℕ) (present part_present new_present : List Bool)
+    → IsWindow window.width window.height → across ≡ window.width / 2 → length part_words + 2 * across ≡ plane.width → length part_present ≡ length part_words
+    → IsWritten across words part_words new_words 0 → IsWritten across present part_present new_present false
+    → AreBlank (greatest_of window) plane.width words present
     → ((k : ℕ) → slice_index part_words k < 2 ^ greatest_of window)
     → ((x : ℕ) → across ≤ x → x + across < plane.width → unpacked (greatest_of window) part_words part_present (length part_words - 1 - (x - across)) ≡ code_at plane window x y)
-    → HoldsRows plane window (code_at plane window) words present y → HoldsRows plane window (code_at plane window) new_words new_present (y + 1)
-rows_more plane window y across words part_words new_words present part_present new_present w hy ea long same ww wp small codes h =
+    → HoldsEach (greatest_of window) plane.width (λ x. code_at plane window x y) new_words new_present
+row_inside plane window y across words part_words new_words present part_present new_present w ea long same ww wp b small codes =
     let n = greatest_of window in
     let width = plane.width in
-    let from = y * width + across in
     record {
-      within = λ k. elim (cases_lt k from) [
-        | inl l ↦ subst (λ v. v < 2 ^ n) (sym (ww.before k l)) (h.within k)
-        | inr l ↦ elim (cases_lt k (from + length part_words)) [
-          | inr j ↦ subst (λ v. v < 2 ^ n) (sym (ww.after k j)) (h.within k)
-          | inl j ↦ (let at : from + (k - from) ≡ k = omega arith in subst (λ i. slice_index new_words i < 2 ^ n) at (subst (λ v. v < 2 ^ n) (sym (ww.inside (k - from) (omega arith))) (small (k - from))))
+      each = λ x h. elim (cases_lt x across) [
+        | inl s ↦ unpacked-none n new_words new_present (width - 1 - x) (wp.after _ (omega arith) ∙ b.none _) ∙ sym (code_at-outside plane window x y w (inl (omega arith)))
+        | inr s ↦ elim (cases_lt (x + across) width) [
+          | inr t ↦ unpacked-none n new_words new_present (width - 1 - x) (wp.before _ (omega arith) ∙ b.none _) ∙ sym (code_at-outside plane window x y w (inr (inl (omega arith))))
+          | inl t ↦
+              (let i = length part_words - 1 - (x - across) in
+              let place : across + i ≡ width - 1 - x = omega arith in
+              unpacked-is n (width - 1 - x) i part_words new_words part_present new_present
+              (ap (λ k. get_or new_words k 0) (sym place) ∙ ww.inside i (omega arith)) (ap (λ k. get_or new_present k false) (sym place) ∙ wp.inside i (omega arith))
+              ∙ codes x s t)
         ]
       ];
-      done = λ x r hx hr l. elim (cases_lt r y) [
-        | inl b ↦
-            (let place : word_place width x r < from = omega (arith, row_fits r width y width b (omega arith)) in
-            unpacked-is n (word_place width x r) (word_place width x r) words new_words present new_present (ww.before _ place) (wp.before _ place) ∙ h.done x r hx hr b)
-        | inr b ↦
-            (let here : r ≡ y = omega arith in
-            subst (λ i. unpacked n new_words new_present (word_place width x i) ≡ code_at plane window x i) (sym here)
-            (elim (cases_lt x across) [
-              | inl s ↦ unpacked-none n new_words new_present (word_place width x y) (wp.after _ (omega arith) ∙ h.left _ (omega arith)) ∙ sym (code_at-outside plane window x y w (inl (omega arith)))
-              | inr s ↦ elim (cases_lt (x + across) width) [
-                | inr t ↦ unpacked-none n new_words new_present (word_place width x y) (wp.before _ (omega arith) ∙ h.left _ (omega arith)) ∙ sym (code_at-outside plane window x y w (inr (inl (omega arith))))
-                | inl t ↦
-                    (let i = length part_words - 1 - (x - across) in
-                    let place : from + i ≡ word_place width x y = omega arith in
-                    unpacked-is n (word_place width x y) i part_words new_words part_present new_present
-                    (ap (λ k. get_or new_words k 0) (sym place) ∙ ww.inside i (omega arith)) (ap (λ k. get_or new_present k false) (sym place) ∙ wp.inside i (omega arith))
-                    ∙ codes x s t)
-              ]
-            ]))
+      within = λ k. elim (cases_lt k across) [
+        | inl l ↦ subst (λ v. v < 2 ^ n) (sym (ww.before k l)) (b.within k)
+        | inr l ↦ elim (cases_lt k (across + length part_words)) [
+          | inr j ↦ subst (λ v. v < 2 ^ n) (sym (ww.after k j)) (b.within k)
+          | inl j ↦ (let at : across + (k - across) ≡ k = omega arith in subst (λ i. slice_index new_words i < 2 ^ n) at (subst (λ v. v < 2 ^ n) (sym (ww.inside (k - across) (omega arith))) (small (k - across))))
+        ]
       ];
-      left = λ k l. wp.after k (omega arith) ∙ h.left k (omega arith);
+    }
+
+pub holds_same : (n width rows m wide high : ℕ) (code : ℕ → ℕ → Option (List Bool)) (words : List ℕ) (present : List Bool) → n ≡ m → width ≡ wide → rows ≡ high → HoldsAll n width rows code words present → HoldsAll m wide high code words present
+holds_same n width rows m wide high code words present en ew er h =
+    subst (λ k. HoldsAll k wide high code words present) en (subst (λ k. HoldsAll n k high code words present) ew (subst (λ k. HoldsAll n width k code words present) er h))
+
+-- what is left of some rows
+pub rest_length : (above below rows width total part : ℕ) → above + below ≡ rows → total ≡ rows * width → part + above * width ≡ total → part ≡ below * width
+rest_length above below rows width total part er et ep =
+    let all : (above + below) * width ≡ rows * width = ap (λ k. k * width) er in
+    omega (arith, all)
+
+-- the first rows of some without codes have none, and neither have the others
+pub blank_front : (n count m l k : ℕ) (words part : List ℕ) (present part_present : List Bool) → n ≡ l → m ≡ k → part ≡ take m words → part_present ≡ take m present → length part ≡ m → length part_present ≡ m → AreBlank n count words present → AreBlank l k part part_present
+blank_front n count m l k words part present part_present en em ew ep lw lp b =
+    record {
+      words_full = lw ∙ em;
+      present_full = lp ∙ em;
+      within = λ i. subst (λ v. slice_index part i < 2 ^ v) en (elim (cases_lt i m) [
+        | inl h ↦ subst (λ v. v < 2 ^ n) (sym (ap (λ us. get_or us i 0) ew ∙ get_or-take m words i 0 h)) (b.within i)
+        | inr h ↦ subst (λ v. v < 2 ^ n) (sym (get_or_past part i 0 (omega arith))) (pow_pos n)
+      ]);
+      none = λ i. elim (cases_lt i m) [
+        | inl h ↦ ap (λ us. get_or us i false) ep ∙ get_or-take m present i false h ∙ b.none i
+        | inr h ↦ get_or_past part_present i false (omega arith)
+      ];
+    }
+
+pub blank_back : (n count m l k : ℕ) (words part : List ℕ) (present part_present : List Bool) → n ≡ l → part ≡ drop m words → part_present ≡ drop m present → length part ≡ k → length part_present ≡ k → AreBlank n count words present → AreBlank l k part part_present
+blank_back n count m l k words part present part_present en ew ep lw lp b =
+    record {
+      words_full = lw;
+      present_full = lp;
+      within = λ i. subst (λ v. slice_index part i < 2 ^ v) en (subst (λ v. v < 2 ^ n) (sym (ap (λ us. get_or us i 0) ew ∙ get_or-drop m words i 0)) (b.within (m + i)));
+      none = λ i. ap (λ us. get_or us i false) ep ∙ get_or-drop m present i false ∙ b.none (m + i);
+    }
+
+-- the rows of both halves
+pub both_hold : (n width above below rows : ℕ) (upper lower code : ℕ → ℕ → Option (List Bool)) (words : List ℕ) (more_words : List ℕ) (present : List Bool) (more_present : List Bool)
+    → above + below ≡ rows → length words ≡ above * width → length present ≡ above * width
+    → ((x r : ℕ) → upper x r ≡ code x r) → ((x r : ℕ) → lower x r ≡ code x (above + r))
+    → HoldsAll n width above upper words present → HoldsAll n width below lower more_words more_present
+    → HoldsAll n width rows code (words ++ more_words) (present ++ more_present)
+both_hold n width above below rows upper lower code words more_words present more_present er lw lp eu el u l =
+    let from = above * width in
+    record {
+      each = λ x r hx hr. elim (cases_lt r above) [
+        | inl h ↦
+            (let place : word_place width x r < from = omega (arith, row_fits r width above width h (omega arith)) in
+            unpacked-is n (word_place width x r) (word_place width x r) words (words ++ more_words) present (present ++ more_present)
+            (get_or_append_left words more_words 0 _ (omega arith)) (get_or_append_left present more_present false _ (omega arith))
+            ∙ u.each x r hx h ∙ eu x r)
+        | inr h ↦
+            (let q = r - above in
+            let here : above + q ≡ r = omega arith in
+            let place : word_place width x r ≡ from + word_place width x q = ap (λ k. k * width + (width - 1 - x)) (sym here) ∙ rows_apart above q width (width - 1 - x) in
+            unpacked-is n (word_place width x r) (word_place width x q) more_words (words ++ more_words) more_present (present ++ more_present)
+            (ap (λ k. get_or (words ++ more_words) k 0) place ∙ get_or-append_right words more_words from (from + word_place width x q) 0 lw (omega arith) ∙ ap (λ k. get_or more_words k 0) (omega arith))
+            (ap (λ k. get_or (present ++ more_present) k false) place ∙ get_or-append_right present more_present from (from + word_place width x q) false lp (omega arith) ∙ ap (λ k. get_or more_present k false) (omega arith))
+            ∙ l.each x q hx (omega arith) ∙ el x q ∙ ap (code x) here)
+      ];
+      within = λ k. elim (cases_lt k from) [
+        | inl h ↦ subst (λ v. v < 2 ^ n) (sym (get_or_append_left words more_words 0 k (omega arith))) (u.within k)
+        | inr h ↦ subst (λ v. v < 2 ^ n) (sym (get_or-append_right words more_words from k 0 lw (omega arith))) (l.within (k - from))
+      ];
     }
 
 -- ---- lists without codes
@@ -132,3 +182,26 @@ written n old front rest part after d ef lf er ea =
           ∙ get_or-drop n old (length part + (k - n - length part)) d
           ∙ ap (λ j. get_or old j d) at;
     }
+
+-- new words and marks have no codes
+pub new_blank : (n width height rows wide : ℕ) (words : List ℕ) (present : List Bool) → words ≡ replicate (width * height) 0 → present ≡ replicate (width * height) false → width ≡ wide → height ≡ rows → AreBlank n (rows * wide) words present
+new_blank n width height rows wide words present ew ep sw sh =
+    let size : width * height ≡ rows * wide = ap (λ k. k * height) sw ∙ ap (λ k. wide * k) sh ∙ mul_comm wide rows in
+    record {
+      words_full = ap length ew ∙ length-replicate (width * height) 0 ∙ size;
+      present_full = ap length ep ∙ length-replicate (width * height) false ∙ size;
+      within = λ k. zeros_small n (width * height) k words ew;
+      none = λ k. marks_unset (width * height) k present ep;
+    }
+
+-- the codes of all rows, as they stand in a plane of codes
+pub holds_whole : (plane : Values) (window other : WindowSides) (rule how : CostRule) (read : Values) (first rows : ℕ) (words words' : List ℕ) (present present' : List Bool) → read ≡ plane → other ≡ window → how ≡ rule → first ≡ 0 → rows ≡ plane.height → words' ≡ words → present' ≡ present
+    → HoldsAll (greatest_of other) read.width rows (λ x r. code_by how read other x (first + r)) words present → HoldsAll (greatest_of window) plane.width plane.height (λ x r. code_by rule plane window x (0 + r)) words' present'
+holds_whole plane window other rule how read first rows words words' present present' er ew eh ef es e1 e2 h =
+    subst (λ us. HoldsAll (greatest_of window) plane.width plane.height (λ x r. code_by rule plane window x (0 + r)) us present') (sym e1)
+    (subst (λ us. HoldsAll (greatest_of window) plane.width plane.height (λ x r. code_by rule plane window x (0 + r)) words us) (sym e2)
+    (subst (λ k. HoldsAll (greatest_of window) plane.width k (λ x r. code_by rule plane window x (0 + r)) words present) es
+    (subst (λ k. HoldsAll (greatest_of window) plane.width rows (λ x r. code_by rule plane window x (k + r)) words present) ef
+    (subst (λ (m : CostRule). HoldsAll (greatest_of window) plane.width rows (λ x r. code_by m plane window x (first + r)) words present) eh
+    (subst (λ (w : WindowSides). HoldsAll (greatest_of w) plane.width rows (λ x r. code_by how plane w x (first + r)) words present) ew
+    (subst (λ (p : Values). HoldsAll (greatest_of other) p.width rows (λ x r. code_by how p other x (first + r)) words present) er h))))))

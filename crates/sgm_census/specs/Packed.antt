@@ -109,6 +109,13 @@ pub record HoldsPlain (plane : Values) (values : List ℕ) (there : List Bool)
   pub width_is : width ≡ plane.width
   pub height_is : height ≡ plane.height
 
+-- so many words, and their marks, in which no code stands yet
+pub record AreBlank (n count : ℕ) (words : List ℕ) (present : List Bool) : Type 0 where
+  pub words_full : length words ≡ count
+  pub present_full : length present ≡ count
+  pub within : (k : ℕ) → slice_index words k < 2 ^ n
+  pub none : (k : ℕ) → slice_index_or present k false ≡ false
+
 -- the words and marks of the codes that a function gives for the columns of a row
 pub record HoldsEach (n width : ℕ) (code : ℕ → Option (List Bool)) (words : List ℕ)
     (present : List Bool) : Type 0 where

@@ -1,16 +1,16 @@
-ghost use Rattle.std.specs.Prelude.{◌≡◌, ℕ, ◌*◌, ◌^◌, ◌<◌, length, map, is_some, unwrap_or};
-ghost use Rattle.std.specs.Prelude.{slice_index, slice_index_or, false, IfOk, OnOk};
-ghost use Rattle.sgm_census.specs.Codes.{Codes, IsCodes, code_at, code_by, codes_of};
-ghost use Rattle.sgm_census.specs.Codes.{smoothed_code_at};
-ghost use Rattle.sgm_census.specs.Packed.{codes_in, IsPacked, HoldsAll, HoldsCodes};
+ghost use Rattle.std.specs.Prelude.{◌≡◌, ◌+◌, ◌*◌, ◌<◌, length, map, is_some, unwrap_or};
+ghost use Rattle.std.specs.Prelude.{false, replicate, IfOk};
+ghost use Rattle.sgm_census.specs.Codes.{Codes, IsCodes, code_by, codes_of};
+ghost use Rattle.sgm_census.specs.Packed.{codes_in, IsPacked, HoldsAll, HoldsCodes, HoldsPlain};
 ghost use Rattle.sgm_census.specs.Windows.{greatest_of};
 
-use crate::pack::{Plain, code_rows};
-use crate::smoothed::smoothed_rows;
+use crate::coding::{Coding, Plain};
+use crate::rows::{own_rows, shared_rows};
 use crate::{CostRule, Window};
 use sgm_base::{Plane, Size};
 use std::alloc::{AllocError, Global};
 use std::marker::Model;
+use std::thread::Threads;
 
 /// For each pixel of a plane its census code, or None where a pixel of its window is void or
 /// outside.
@@ -101,86 +101,72 @@ fn marks_of(alloc: Global, plane: &Plane) -> Result<Vec<bool>, AllocError>
         .collect(alloc)
 }
 
-/// Writes the plain codes of a plane as [`code_rows`] does, with the room that this takes.
-fn plain_codes(
-    alloc: Global,
-    plane: &Plane,
-    window: Window,
-    words: &mut [u64],
-    present: &mut [bool],
-) -> Result<(), AllocError>
-    requires words_length { length words.old ≡ plane.now.width * plane.now.height }
-    requires present_length { length present.old ≡ plane.now.width * plane.now.height }
-    requires within { (k : ℕ) → slice_index words.old k < 2 ^ greatest_of window }
-    requires none { (k : ℕ) → slice_index_or present.old k false ≡ false }
-    ensures { OnOk result
-        (HoldsAll (greatest_of window) plane.now.width plane.now.height
-        (code_at plane.now window) words.new present.new) }
+/// The words and marks of a plane before its codes are written.
+fn blank(alloc: Global, size: Size) -> Result<(Vec<u64>, Vec<bool>), AllocError>
+    ensures { IfOk result (λ made. (made.0.items ≡ replicate (size.width * size.height) 0)
+        × (made.1.items ≡ replicate (size.width * size.height) false)) }
 {
-    let (width, height) = (plane.size().width as usize, plane.size().height as usize);
-    let values = values_of(alloc, plane)?;
-    let there = marks_of(alloc, plane)?;
-    let plain = Plain {
-        values: &values,
-        there: &there,
-        width,
-        height,
-    };
-    let mut bits = vec![in alloc; 0u16; width]?;
-    code_rows(plane, window, plain, bits.as_mut_slice(), words, present);
-    Ok(())
+    let words = vec![in alloc; 0u64; size.pixels()]?;
+    let present = vec![in alloc; false; size.pixels()]?;
+    Ok((words, present))
 }
 
-/// Writes the smoothed codes of a plane as [`smoothed_rows`] does, with the room that this takes.
-fn smoothed_codes(
-    alloc: Global,
-    plane: &Plane,
-    window: Window,
-    words: &mut [u64],
-    present: &mut [bool],
-) -> Result<(), AllocError>
-    requires words_length { length words.old ≡ plane.now.width * plane.now.height }
-    requires present_length { length present.old ≡ plane.now.width * plane.now.height }
-    requires within { (k : ℕ) → slice_index words.old k < 2 ^ greatest_of window }
-    requires none { (k : ℕ) → slice_index_or present.old k false ≡ false }
-    ensures { OnOk result
-        (HoldsAll (greatest_of window) plane.now.width plane.now.height
-        (smoothed_code_at plane.now window) words.new present.new) }
+/// What a plane holds, as codes are made of it.
+fn plain_of<'a>(plane: &Plane, values: &'a [u16], there: &'a [bool]) -> Plain<'a>
+    requires values { values.now ≡ map (λ o. unwrap_or o 0) plane.now.entries }
+    requires there { there.now ≡ map is_some plane.now.entries }
+    ensures { HoldsPlain plane.now result.values.now result.there.now result.width result.height }
 {
-    let (width, height) = (plane.size().width as usize, plane.size().height as usize);
-    let values = values_of(alloc, plane)?;
-    let there = marks_of(alloc, plane)?;
-    let plain = Plain {
-        values: &values,
-        there: &there,
-        width,
-        height,
-    };
-    let mut room = vec![in alloc; 0u16; 2 * width]?;
-    smoothed_rows(plane, window, plain, room.as_mut_slice(), words, present);
-    Ok(())
+    let size = plane.size();
+    Plain {
+        values,
+        there,
+        width: size.width as usize,
+        height: size.height as usize,
+    }
 }
 
-/// Writes the codes of a plane by a rule.
-fn write_codes(
-    alloc: Global,
+/// All rows of a plane, to be coded.
+fn all_rows<'a>(plane: &'a Plane, plain: Plain<'a>, window: Window, rule: CostRule) -> Coding<'a>
+    requires { HoldsPlain plane.now plain.values.now plain.there.now plain.width plain.height }
+    ensures plane { result.plane.now ≡ plane.now }
+    ensures how { (result.window ≡ window) × (result.rule ≡ rule) }
+    ensures rows { (result.first ≡ 0) × (result.rows ≡ plane.now.height) }
+{
+    // Known from here on: what the plane keeps.
+    let size = plane.size();
+    Coding {
+        plane,
+        plain,
+        window,
+        rule,
+        first: 0,
+        rows: size.height as usize,
+    }
+}
+
+/// A plane of codes that are written.
+fn filled(
     plane: &Plane,
     window: Window,
     rule: CostRule,
-    words: &mut [u64],
-    present: &mut [bool],
-) -> Result<(), AllocError>
-    requires words_length { length words.old ≡ plane.now.width * plane.now.height }
-    requires present_length { length present.old ≡ plane.now.width * plane.now.height }
-    requires within { (k : ℕ) → slice_index words.old k < 2 ^ greatest_of window }
-    requires none { (k : ℕ) → slice_index_or present.old k false ≡ false }
-    ensures { OnOk result
-        (HoldsAll (greatest_of window) plane.now.width plane.now.height
-        (code_by rule plane.now window) words.new present.new) }
+    words: Vec<u64>,
+    present: Vec<bool>,
+) -> CodePlane
+    requires words_length { length words.items ≡ plane.now.width * plane.now.height }
+    requires present_length { length present.items ≡ plane.now.width * plane.now.height }
+    requires holds { HoldsAll (greatest_of window) plane.now.width plane.now.height
+        (λ x r. code_by rule plane.now window x (0 + r)) words.items present.items }
+    ensures { result ≡ codes_of plane.now window rule }
 {
-    match rule {
-        CostRule::Plain => plain_codes(alloc, plane, window, words, present),
-        CostRule::Smoothed => smoothed_codes(alloc, plane, window, words, present),
+    // Known from here on: the window's range.
+    let _ = &window.width;
+    CodePlane {
+        size: plane.size(),
+        window,
+        rule,
+        words,
+        present,
     }
 }
 
@@ -198,24 +184,38 @@ pub fn codes(
 ) -> Result<CodePlane, AllocError>
     ensures { IfOk result (λ c. c ≡ codes_of plane.now window rule) }
 {
-    // Known from here on: the window's range.
-    let _ = &window.width;
-    let size = plane.size();
-    let mut words = vec![in alloc; 0u64; size.pixels()]?;
-    let mut present = vec![in alloc; false; size.pixels()]?;
-    write_codes(
+    let values = values_of(alloc, plane)?;
+    let there = marks_of(alloc, plane)?;
+    let (mut words, mut present) = blank(alloc, plane.size())?;
+    let plain = plain_of(plane, &values, &there);
+    let coding = all_rows(plane, plain, window, rule);
+    own_rows(alloc, &coding, words.as_mut_slice(), present.as_mut_slice())?;
+    Ok(filled(plane, window, rule, words, present))
+}
+
+/// The same, made in at most so many threads.
+pub fn codes_by<R: Threads + Sync>(
+    rt: &R,
+    alloc: Global,
+    plane: &Plane,
+    window: Window,
+    rule: CostRule,
+    threads: usize,
+) -> Result<CodePlane, AllocError>
+    ensures { IfOk result (λ c. c ≡ codes_of plane.now window rule) }
+{
+    let values = values_of(alloc, plane)?;
+    let there = marks_of(alloc, plane)?;
+    let (mut words, mut present) = blank(alloc, plane.size())?;
+    let plain = plain_of(plane, &values, &there);
+    let coding = all_rows(plane, plain, window, rule);
+    shared_rows(
+        rt,
         alloc,
-        plane,
-        window,
-        rule,
+        &coding,
+        threads,
         words.as_mut_slice(),
         present.as_mut_slice(),
     )?;
-    Ok(CodePlane {
-        size,
-        window,
-        rule,
-        words,
-        present,
-    })
+    Ok(filled(plane, window, rule, words, present))
 }

@@ -4,14 +4,16 @@
 #![tactic(auto)]
 
 mod code_plane;
+mod coding;
 mod cost;
 pub mod laws;
 mod pack;
+mod rows;
 mod rule;
 mod smoothed;
 mod window;
 
-pub use code_plane::{CodePlane, codes};
+pub use code_plane::{CodePlane, codes, codes_by};
 pub use cost::{cost_at, cost_row};
 pub use rule::CostRule;
 pub use window::Window;

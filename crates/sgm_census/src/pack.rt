@@ -8,22 +8,12 @@ ghost use Rattle.std.specs.Int.{from_bool};
 ghost use Rattle.std.specs.List.{list_all};
 ghost use Rattle.sgm_census.specs.Windows.{greatest_of};
 ghost use Rattle.sgm_census.specs.Codes.{code_at};
-ghost use Rattle.sgm_base.specs.Values.{IsValues};
 ghost use Rattle.sgm_census.specs.Packed.{pushed, lesser, in_rows, all_in, word_to, without};
-ghost use Rattle.sgm_census.specs.Packed.{HoldsAll, HoldsPlain};
+ghost use Rattle.sgm_census.specs.Packed.{AreBlank, HoldsEach};
 
 use crate::Window;
-use sgm_base::{MAX_WINDOW_WIDTH, Plane};
-
-/// A plane's values, row by row, 0 where it is void, whether there is a value, and the plane's
-/// sides.
-#[derive(Clone, Copy)]
-pub(crate) struct Plain<'a> {
-    pub(crate) values: &'a [u16],
-    pub(crate) there: &'a [bool],
-    pub(crate) width: usize,
-    pub(crate) height: usize,
-}
+use crate::coding::{Coding, Plain};
+use sgm_base::MAX_WINDOW_WIDTH;
 
 /// Pushes a bit for each place: whether the value is less than the centre.
 fn push_bits(values: &[u16], centres: &[u16], bits: &mut [u16])
@@ -304,48 +294,41 @@ pub(crate) fn code_marks(plain: Plain, window: Window, top: usize, present: &mut
     present.reverse();
 }
 
-/// Writes the plain codes of the plane, row by row, each row from right to left. What `bits`, as
-/// wide as the plane, holds before does not matter.
-pub(crate) fn code_rows(
-    plane: &Plane,
-    window: Window,
-    plain: Plain,
+/// Writes the plain codes of the row `y`, from right to left. What `bits`, at least as wide as the
+/// plane, holds before does not matter.
+pub(crate) fn plain_row(
+    coding: &Coding,
+    y: usize,
     bits: &mut [u16],
     words: &mut [u64],
     present: &mut [bool],
 )
-    requires holds { HoldsPlain plane.now plain.values.now plain.there.now plain.width
-        plain.height }
-    requires kept { IsValues plane.now }
-    requires bits_length { length bits.old ≡ plane.now.width }
-    requires words_length { length words.old ≡ plane.now.width * plane.now.height }
-    requires present_length { length present.old ≡ plane.now.width * plane.now.height }
-    requires within { (k : ℕ) → slice_index words.old k < 2 ^ greatest_of window }
-    requires none { (k : ℕ) → slice_index_or present.old k false ≡ false }
-    ensures { HoldsAll (greatest_of window) plane.now.width plane.now.height
-        (code_at plane.now window) words.new present.new }
+    requires row { y < coding.now.plane.now.height }
+    requires bits_length { coding.now.plane.now.width ≤ length bits.old }
+    requires blank { AreBlank (greatest_of coding.now.window) coding.now.plane.now.width words.old
+        present.old }
+    ensures { let c = coding.now in HoldsEach (greatest_of c.window) c.plane.now.width
+        (λ x. code_at c.plane.now c.window x y) words.new present.new }
 {
-    let (width, height) = (plain.width, plain.height);
+    let (plain, window) = (coding.plain, coding.window);
     let (across, down) = (window.width as usize / 2, window.height as usize / 2);
-    if width <= 2 * across {
+    if plain.width <= 2 * across || y < down || plain.height.saturating_sub(down) <= y {
         return;
     }
-    let len = width - 2 * across;
+    let len = plain.width - 2 * across;
+    let from = y * plain.width + across;
     let (bits, _) = bits.split_at_mut(len);
-    for y in down..height.saturating_sub(down) {
-        let from = y * width + across;
-        let (_, rest) = words.split_at_mut(from);
-        let (row_words, _) = rest.split_at_mut(len);
-        let (_, rest) = present.split_at_mut(from);
-        let (row_present, _) = rest.split_at_mut(len);
-        code_words(
-            plain,
-            window,
-            y - down,
-            &plain.values[from..from + len],
-            bits,
-            row_words,
-        );
-        code_marks(plain, window, y - down, row_present);
-    }
+    let (_, rest) = words.split_at_mut(across);
+    let (inner, _) = rest.split_at_mut(len);
+    let (_, rest) = present.split_at_mut(across);
+    let (marks, _) = rest.split_at_mut(len);
+    code_words(
+        plain,
+        window,
+        y - down,
+        &plain.values[from..from + len],
+        bits,
+        inner,
+    );
+    code_marks(plain, window, y - down, marks);
 }

@@ -8,14 +8,15 @@ ghost use Rattle.std.specs.Prelude.{true, false, IfSome};
 ghost use Rattle.std.specs.List.{flat_map, range_with_len};
 ghost use Rattle.sgm_base.specs.Values.{IsValues, value_at};
 ghost use Rattle.sgm_census.specs.Codes.{middle_at, smoothed_code_at, three_by_three, value_near};
-ghost use Rattle.sgm_census.specs.Packed.{HoldsEach, HoldsPlain, bits_of, pushed, unpacked};
-ghost use Rattle.sgm_census.specs.Packed.{word_place, word_to};
+ghost use Rattle.sgm_census.specs.Packed.{AreBlank, HoldsEach, HoldsPlain, bits_of, pushed};
+ghost use Rattle.sgm_census.specs.Packed.{unpacked, word_to};
 ghost use Rattle.sgm_census.specs.Smoothing.{HasMiddles, IsInside, IsWhole, word_by};
 ghost use Rattle.sgm_census.specs.Windows.{greatest_of};
 ghost use Rattle.sgm_lanes.specs.Middles.{middle_of};
 
 use crate::Window;
-use crate::pack::{Plain, all_set, code_marks, code_words, without_centre};
+use crate::coding::{Coding, Plain};
+use crate::pack::{all_set, code_marks, code_words, without_centre};
 use sgm_base::Plane;
 use sgm_lanes::{middle, middles};
 
@@ -327,41 +328,29 @@ fn inner_marks(plain: Plain, window: Window, y: usize, present: &mut [bool])
     code_marks(plain, window, y - down, inner);
 }
 
-/// Writes the smoothed codes of the plane, row by row, each row from right to left. What `room`,
-/// twice as wide as the plane, holds before does not matter.
-pub(crate) fn smoothed_rows(
-    plane: &Plane,
-    window: Window,
-    plain: Plain,
+/// Writes the smoothed codes of the row `y`, from right to left. What `room`, twice as wide as the
+/// plane, holds before does not matter.
+pub(crate) fn smoothed_row(
+    coding: &Coding,
+    y: usize,
     room: &mut [u16],
     words: &mut [u64],
     present: &mut [bool],
 )
-    requires holds { HoldsPlain plane.now plain.values.now plain.there.now plain.width
-        plain.height }
-    requires room_length { length room.old ≡ 2 * plane.now.width }
-    requires words_length { length words.old ≡ plane.now.width * plane.now.height }
-    requires present_length { length present.old ≡ plane.now.width * plane.now.height }
-    requires within { (k : ℕ) → slice_index words.old k < 2 ^ greatest_of window }
-    requires none { (k : ℕ) → slice_index_or present.old k false ≡ false }
-    ensures each { (x y : ℕ) → x < plane.now.width → y < plane.now.height
-        → unpacked (greatest_of window) words.new present.new (word_place plane.now.width x y)
-        ≡ smoothed_code_at plane.now window x y }
-    ensures within { (k : ℕ) → slice_index words.new k < 2 ^ greatest_of window }
+    requires row { y < coding.now.plane.now.height }
+    requires room_length { length room.old ≡ 2 * coding.now.plane.now.width }
+    requires blank { AreBlank (greatest_of coding.now.window) coding.now.plane.now.width words.old
+        present.old }
+    ensures { let c = coding.now in HoldsEach (greatest_of c.window) c.plane.now.width
+        (λ x. smoothed_code_at c.plane.now c.window x y) words.new present.new }
 {
+    let (plane, plain, window) = (coding.plane, coding.plain, coding.window);
     // Known from here on: what the plane keeps, and the window's range.
     let _ = plane.size();
     let _ = &window.width;
-    let (width, height) = (plain.width, plain.height);
-    let (middles, bits) = room.split_at_mut(width);
-    for y in 0..height {
-        let (_, rest) = words.split_at_mut(y * width);
-        let (row_words, _) = rest.split_at_mut(width);
-        let (_, rest) = present.split_at_mut(y * width);
-        let (row_present, _) = rest.split_at_mut(width);
-        row_middles(plane, plain, y, middles);
-        inner_words(plain, window, y, middles, bits, row_words);
-        inner_marks(plain, window, y, row_present);
-        complete(plane, window, y, middles, row_words, row_present);
-    }
+    let (middles, bits) = room.split_at_mut(plain.width);
+    row_middles(plane, plain, y, middles);
+    inner_words(plain, window, y, middles, bits, words);
+    inner_marks(plain, window, y, present);
+    complete(plane, window, y, middles, words, present);
 }

@@ -10,7 +10,7 @@ ghost use Rattle.sgm_job.specs.Matching.{IsMade, IsPair, Passes};
 use crate::pair::{Coded, CodedPair, ScenePlanes};
 use sgm_base::Image;
 use sgm_calib::Calib;
-use sgm_census::{CostRule, Window, codes};
+use sgm_census::{CostRule, Window, codes, codes_by};
 use sgm_rectify::{Warp, rectify, rectify_by};
 use sgm_strip::{Guide, Scene};
 use std::alloc::{AllocError, Global};
@@ -72,7 +72,7 @@ pub(crate) fn prepare_each(
 }
 
 /// Both images, each by its warp: the planes one after the other by at most so many threads, and
-/// then their codes side by side where there is a thread for it.
+/// then their codes side by side, each by half of them.
 pub(crate) fn prepare_both<R: Threads + Sync>(
     rt: &R,
     alloc: Global,
@@ -89,10 +89,11 @@ pub(crate) fn prepare_both<R: Threads + Sync>(
     let rule = calib.rule();
     let left_plane = rectify_by(rt, alloc, left, calib.left(), threads)?;
     let right_plane = rectify_by(rt, alloc, right, calib.right(), threads)?;
+    let (few, others) = (threads / 2, threads - threads / 2);
     let (left_codes, right_codes) = join(
         rt,
-        || codes(alloc, &left_plane, window, rule),
-        || codes(alloc, &right_plane, window, rule),
+        || codes_by(rt, alloc, &left_plane, window, rule, few),
+        || codes_by(rt, alloc, &right_plane, window, rule, others),
     );
     let left_made = Coded {
         plane: left_plane,

@@ -4,9 +4,10 @@
 ghost use Rattle.std.specs.Prelude.{◌≡◌, ◌*◌, ◌<◌, ◌≤◌, length, IsTrue};
 
 use sgm_base::{Plane, Size, Span};
-use sgm_census::{CodePlane, CostRule, Window, codes, cost_row};
-use std::alloc::Global;
+use sgm_census::{CodePlane, CostRule, Window, codes, codes_by, cost_row};
+use std::alloc::{AllocError, Global};
 use std::test::Fail;
+use std::thread::Threads;
 
 // Three equal rows each.
 const LEFT: [u16; 15] = [90, 10, 50, 20, 40, 90, 10, 50, 20, 40, 90, 10, 50, 20, 40];
@@ -31,6 +32,15 @@ fn codes_of_entries(
     Ok(codes(alloc, &plane, window, CostRule::Plain)?)
 }
 
+/// Entries with these values, none of them void.
+fn entries_of(alloc: Global, values: &[u16]) -> Result<Vec<Option<u16>>, AllocError> {
+    let mut entries = Vec::new(alloc);
+    for value in values {
+        entries.push(Some(*value))?;
+    }
+    Ok(entries)
+}
+
 /// The codes of a plane with these values, row by row, none of them void.
 fn codes_of(
     alloc: Global,
@@ -38,11 +48,23 @@ fn codes_of(
     values: &[u16],
     window: (u32, u32),
 ) -> Result<CodePlane, Fail> {
-    let mut entries = Vec::new(alloc);
-    for value in values {
-        entries.push(Some(*value))?;
-    }
+    let entries = entries_of(alloc, values)?;
     codes_of_entries(alloc, sides, entries, window)
+}
+
+/// The codes of a plane of 5 x 3 with these values and a window of 3 x 3, made in at most so many
+/// threads.
+fn shared_codes<R: Threads + Sync>(
+    rt: &R,
+    alloc: Global,
+    values: &[u16],
+    threads: usize,
+) -> Result<CodePlane, Fail> {
+    let (size, window) = sides_of((5, 3), (3, 3))?;
+    let entries = entries_of(alloc, values)?;
+    let plane = Plane::make(size, entries).ok_or("entries")?;
+    let rule = CostRule::Plain;
+    Ok(codes_by(rt, alloc, &plane, window, rule, threads)?)
 }
 
 /// Whether two planes have the same sides and the same window, and the row `y`.
@@ -143,6 +165,17 @@ fn costs_of_a_pair(rt: HostRuntime) -> Result<(), Fail> {
         (2, [8, 8, 8, 8, 8, 8, 8, 8, 8, 8]),
     ] {
         assert!(rt; pair_has_costs(rt.alloc(), 0, *y, want)?);
+    }
+    Ok(())
+}
+
+#[test]
+fn threads_that_share_the_rows_change_no_code(rt: HostRuntime) -> Result<(), Fail> {
+    for threads in 0..8 {
+        let left = shared_codes(&rt, rt.alloc(), &LEFT, threads)?;
+        let right = shared_codes(&rt, rt.alloc(), &RIGHT, threads)?;
+        let want = [8, 8, 6, 8, 6, 0, 6, 0, 8, 8];
+        assert!(rt; have_costs(&left, &right, (0, 2), 1, &want));
     }
     Ok(())
 }
