@@ -3,10 +3,10 @@
 # of the parts that are shared among them. A part that one thread did alone would give the same files, so that nothing
 # but the count tells.
 #
-# Each image is rectified by all workers, two at least, and then both are coded side by side, by one thread more. Costs,
-# fronts and selection are shared among all workers, the caller's thread among them, so each of these takes one thread
-# less than there are workers; so do finer disparities, their means, and the points of a grid. `demo` and a `match` with
-# all of these are tried, with one, two, four and eight workers, so that each has as many strips and rows.
+# Each image is rectified by all workers, two at least, and then both are coded by as many. Costs, fronts and selection
+# are shared among all workers. The caller's thread is among them, so each of these takes one thread less than there are
+# workers; so do finer disparities, their means, and the points of a grid. `demo` and a `match` with all of these are
+# tried, with one, two, four and eight workers, so that each has as many strips and rows.
 #
 # The program is the one that the variable SGM names (./sgm of this repository without it); gcc builds the library that
 # counts, which takes the place of the C library's call.
@@ -56,8 +56,8 @@ of() {
         exit 1
     }
     [ ! -e made ] || made=$(stat -c %s made)
-    # Each image is rectified by two threads or by all workers, and then both are coded side by side.
-    images=$((2 * ((workers > 2 ? workers : 2) - 1) + 1))
+    # Each image is rectified by two threads or by all workers, and then both are coded by as many.
+    images=$((3 * ((workers > 2 ? workers : 2) - 1)))
     runs=$((runs + 1))
     if [ "$made" != $((images + parts * (workers - 1))) ]; then
         failed=$((failed + 1))
