@@ -1,8 +1,8 @@
 -- New tickets of which the last is taken.
-use Rattle.std.proofs.Common.{◌≡◌, ℕ, zero, suc, List, [], ◌∷◌, ◌++◌, length, refl, ap, ◌∙◌, IfSome, Option, Some, None}
+use Rattle.std.proofs.Common.{◌≡◌, ℕ, zero, suc, List, [], ◌∷◌, ◌++◌, ap, ◌∙◌, Option, Some, None}
 use Rattle.std.specs.List.{slice_get}
 use Rattle.std.specs.Option.{option_to_list}
-use Rattle.sgm_draws.specs.Tickets.{AreNew, parts_of, TicketParts}
+use Rattle.sgm_draws.specs.Tickets.{AreNew}
 use Rattle.sgm_draws.specs.declared.draws.Draws.{Draws}
 use Rattle.sgm_draws.specs.declared.ticket.Ticket.{Ticket}
 
@@ -14,14 +14,6 @@ get-longer [] ys i a e = absurd (none_some a e)
 get-longer (x ∷ xs) ys zero a e = e
 get-longer (x ∷ xs) ys (suc i) a e = get-longer xs ys i a e
 
-get-last : {A : Type 0} (xs : List A) (a : A) → slice_get (xs ++ a ∷ []) (length xs) ≡ Some a
-get-last [] a = refl
-get-last (x ∷ xs) a = get-last xs a
-
 module _ (draws : Draws) (old new : List Ticket) where
   pub rest_new : (r : Option Ticket) → old ≡ new ++ option_to_list r → AreNew draws old → AreNew draws new
   rest_new r e h i t at = h i t (ap (λ (xs : List Ticket). slice_get xs i) e ∙ get-longer new (option_to_list r) i t at)
-
-  pub last_unused : (r : Option Ticket) → old ≡ new ++ option_to_list r → AreNew draws old → IfSome r (λ t. (parts_of t).seen ≡ 0)
-  last_unused None e h = tt
-  last_unused (Some t) e h = ap (λ (p : TicketParts). p.seen) (h (length new) t (ap (λ (xs : List Ticket). slice_get xs (length new)) e ∙ get-last new t)).1

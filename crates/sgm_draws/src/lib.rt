@@ -14,6 +14,3 @@ mod view;
 pub use draws::Draws;
 pub use limits::{MAX_NUMBERS, MAX_TICKETS};
 pub use ticket::Ticket;
-
-#[cfg(test)]
-mod tests;

@@ -7,8 +7,6 @@ mod merge;
 mod same_cells;
 mod shared;
 mod tally;
-#[cfg(test)]
-mod tests;
 
 pub use limits::MAX_ENTRIES;
 pub use merge::Merge;

@@ -8,6 +8,3 @@ mod rule;
 
 pub use pass::QueuePass;
 pub use queue::Queue;
-
-#[cfg(test)]
-mod tests;

@@ -1,7 +1,7 @@
-//! The tests of the crates that a survey is made of, from `sgm_base` to `sgm_job`, which call them
-//! from outside; those of strips and workers are in `sgm_board_tests`. They stand apart from them,
-//! since a crate that has tests is proved a second time with them, and in one crate, since each
-//! check reads the libraries anew.
+//! The tests of the crates that a survey is made of, from `sgm_base` to `sgm_job`, and of
+//! `sgm_merge`, which call them from outside; those of strips and workers are in
+//! `sgm_board_tests`. They stand apart from them, since a crate that has tests is proved a second
+//! time with them, and in one crate, since each check reads the libraries anew.
 #![tactic(auto)]
 
 #[cfg(test)]
@@ -30,6 +30,8 @@ mod io;
 mod job;
 #[cfg(test)]
 mod lanes;
+#[cfg(test)]
+mod merge;
 #[cfg(test)]
 mod path;
 #[cfg(test)]

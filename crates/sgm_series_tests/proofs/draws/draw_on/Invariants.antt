@@ -1,6 +1,6 @@
 use Rattle.std.proofs.Common.{◌<◌}
 use Rattle.sgm_draws.specs.Tickets.{IsTicketOf, count_of, parts_of}
-use Rattle.sgm_draws.proofs.tests.draw_on.Given as goal
+use Rattle.sgm_series_tests.proofs.draws.draw_on.Given as goal
 
 abbrev pub invariant-loop-draw : goal.invariant-loop-draw
 invariant-loop-draw l = record {

@@ -1,6 +1,6 @@
 //! A queue in one thread's hands.
 
-use crate::Queue;
+use sgm_queue::Queue;
 use std::test::Fail;
 
 #[test]

@@ -1,8 +1,8 @@
 ghost use Rattle.std.specs.Prelude.{◌≤◌};
 ghost use Rattle.sgm_grid.specs.declared.limits.TheConstants.{MAX_BRIDGE};
 
-use crate::{Merge, fits};
 use sgm_grid::{AscError, GridSpec, Keep, bridge, read_asc};
+use sgm_merge::{Merge, fits};
 use std::alloc::{AllocError, Global};
 
 #[derive(Debug, Drop)]

@@ -1,7 +1,7 @@
 ghost use Rattle.std.specs.Prelude.{◌≡◌, ◌<◌, IfSome};
 ghost use Rattle.sgm_draws.specs.Tickets.{AreNew, IsTicketOf, count_of, parts_of};
 
-use super::{Draws, Ticket};
+use sgm_draws::{Draws, Ticket};
 use std::alloc::{AllocError, Global};
 use std::test::Fail;
 
