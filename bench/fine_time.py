@@ -7,25 +7,24 @@
 Each turn runs the program once with `fine` false and once with `fine` true for each number of workers, on the pair of
 bench.py, version 3 of the calibration. The table has, for each number of workers, the median seconds of both, the
 median of the turns' differences, that difference for each pixel that has a value, in microseconds, and how many times
-as fast that is as with the first number of workers. The program is the one that the variable SGM names (./sgm without
-it); with --beside another one runs in each turn too. Below it stands how much of a small loop as many processes as
-workers do at once, which share nothing, beside one alone: about as much as threads can gain on this machine.
+as fast that is as with the first number of workers. The last column is what the machine gives: in the same turns as
+many runs of one worker each as there are workers, which share nothing, are started at once without and with finer
+disparities, and by the difference of the seconds until the last of them has ended they do so many times as much as
+one run alone. The program is the one that the variable SGM names (./sgm without it); with --beside another one runs in
+each turn too.
 """
 
 import argparse
 import json
-import multiprocessing
 import os
 import re
 import statistics
+import subprocess
 import sys
 import tempfile
 import time
 
 import bench
-
-# How long each process goes round the loop that tells what the machine gives, in seconds.
-ROUND = 0.4
 
 
 def calibration(folder, count, fine):
@@ -39,49 +38,59 @@ def calibration(folder, count, fine):
     return name
 
 
+def command(program, pair, settings, workers, strips, out):
+    return [program, "match", *pair, settings, out, f"strips={strips}", f"workers={workers}"]
+
+
 def run(program, pair, settings, workers, strips, folder):
     """The seconds of a run, and how many pixels have a value."""
-    command = [program, "match", *pair, settings, os.path.join(folder, "out"), f"strips={strips}", f"workers={workers}"]
-    seconds, _, said, _ = bench.measured(command)
+    words = command(program, pair, settings, workers, strips, os.path.join(folder, "out"))
+    seconds, _, said, _ = bench.measured(words)
     return seconds, int(re.fullmatch(r"valid (\d+) of \d+\n", said)[1])
 
 
+def apart(program, pair, settings, runs, strips, folder):
+    """The seconds until so many runs of one worker each, which are started at once, have all ended."""
+    words = [command(program, pair, settings, 1, strips, os.path.join(folder, f"out-{at}")) for at in range(runs)]
+    begin = time.perf_counter()
+    started = [subprocess.Popen(it, stdout=subprocess.DEVNULL) for it in words]
+    statuses = [it.wait() for it in started]
+    if any(statuses):
+        sys.exit(f"fine_time: runs at once ended with {statuses}")
+    return time.perf_counter() - begin
+
+
 def turn(program, pair, settings, words, folder):
-    """The seconds without and with finer disparities of each number of workers, and the values."""
+    """The seconds without and with finer disparities of each number of workers, those of as many runs, and the values.
+
+    A single worker needs no runs at once.
+    """
     found = []
     for workers in words.workers:
         plain, _ = run(program, pair, settings[False], workers, words.strips, folder)
         fine, values = run(program, pair, settings[True], workers, words.strips, folder)
-        found.append((plain, fine, values))
+        both = (plain, fine)
+        if workers > 1:
+            both = tuple(apart(program, pair, settings[it], workers, words.strips, folder) for it in (False, True))
+        found.append((plain, fine, values, *both))
     return found
 
 
-def rounds(seconds):
-    """How often a small loop is done in so many seconds."""
-    count, end = 0, time.perf_counter() + seconds
-    while time.perf_counter() < end:
-        for _ in range(2000):
-            pass
-        count += 1
-    return count
-
-
-def gain(processes):
-    """How many times as much of a loop so many processes do at once as one alone."""
-    with multiprocessing.Pool(processes) as pool:
-        alone = pool.apply(rounds, (ROUND,))
-        together = pool.map(rounds, [ROUND] * processes, chunksize=1)
-    return sum(together) / alone
+def more_of(turns, at, side):
+    """The median of what finer disparities take more; the seconds without them stand at the side."""
+    return statistics.median(it[at][side + 1] - it[at][side] for it in turns)
 
 
 def print_table(name, words, turns):
     first = None
     for at, workers in enumerate(words.workers):
         plain, fine = (statistics.median(it[at][side] for it in turns) for side in (0, 1))
-        more = statistics.median(it[at][1] - it[at][0] for it in turns)
+        more = more_of(turns, at, 0)
         each = more / turns[0][at][2] * 1e6
-        first = first or each
-        bench.row(name, str(workers), *(f"{it:.3f}" for it in (plain, fine, more, each)), f"{first / each:.1f}")
+        first = first or (each, more, workers)
+        gain, of_runs = f"{first[0] / each:.1f}", workers * first[1] / more_of(turns, at, 3)
+        runs = f"{of_runs:.1f}" if first[2] == 1 else ""
+        bench.row(name, str(workers), *(f"{it:.3f}" for it in (plain, fine, more, each)), gain, runs)
 
 
 def words_of():
@@ -107,16 +116,11 @@ def main():
         for _ in range(words.turns):
             for program in programs:
                 turns[program].append(turn(program, pair, settings, words, folder))
-    # Behind all turns: in front of one it would change what the first run finds.
-    gains = [[gain(workers) for workers in words.workers] for _ in range(words.turns)]
     print(f"{words.size}, {words.count} disparities, {words.strips} strips, {words.turns} turns, {bench.processor()}\n")
-    bench.row("Program", "Workers", "Plain, s", "Fine, s", "More, s", "More a value, us", "Times as fast")
-    bench.row(*["---"] * 7)
+    bench.row("Program", "Workers", "Plain, s", "Fine, s", "More, s", "More a value, us", "Times as fast", "Runs at once")
+    bench.row(*["---"] * 8)
     for program in programs:
         print_table(os.path.basename(program), words, turns[program])
-    for at, workers in enumerate(words.workers):
-        least, middle, most = (of([it[at] for it in gains]) for of in (min, statistics.median, max))
-        print(f"\n{workers} at once do {middle:.2f} ({least:.2f} to {most:.2f}) times what one alone does")
     return 0
 
 

@@ -96,8 +96,13 @@ def add_step(length):
     return f"{joined(made)} | {joined(map(sum, zip(sums, made)))}"
 
 
+def add_step_back(length):
+    """The greater indices come first, and nothing else is written."""
+    return add_step(length)
+
+
 # Each kernel with its least length.
-KERNELS = ((hamming, 0), (hamming_to, 0), (add, 0), (least, 1), (step, 1), (add_step, 1))
+KERNELS = ((hamming, 0), (hamming_to, 0), (add, 0), (least, 1), (step, 1), (add_step, 1), (add_step_back, 1))
 
 
 def cases():

@@ -3,7 +3,8 @@
 //!
 //! The numbers are drawn one list after the other, in the order of the kernel's parameters, each
 //! list whole; what a kernel writes over is drawn last. The answer is what was written, one space
-//! between two numbers, after `add_step` the values, ` | ` and the sums; or the least value.
+//! between two numbers, after `add_step` the values, ` | ` and the sums; or the least value. After
+//! `add_step_back` stands what `add_step` gives where the greater indices come first.
 //! `tests/kernels.py` works the answers out.
 
 ghost use Rattle.std.specs.Prelude.{◌≡◌, ◌≤◌, ◌<◌, nat_le, IfOk, vec_len};
@@ -166,7 +167,11 @@ fn step_text(alloc: Global, length: usize, mut drawn: Numbers) -> Result<String,
     all_text(alloc, &into)
 }
 
-fn add_step_text(alloc: Global, length: usize, mut drawn: Numbers) -> Result<String, AllocError>
+fn add_step_text<const BACK: bool>(
+    alloc: Global,
+    length: usize,
+    mut drawn: Numbers,
+) -> Result<String, AllocError>
     requires { 0 < length }
 {
     let prev = drawn.numbers(alloc, length, PATH_VALUE)?;
@@ -177,7 +182,7 @@ fn add_step_text(alloc: Global, length: usize, mut drawn: Numbers) -> Result<Str
         return String::from_str(alloc, "out of range");
     }
     let floor = least(&prev);
-    add_step(
+    add_step::<BACK>(
         &prev,
         floor,
         &costs,
@@ -204,7 +209,8 @@ fn text_of(alloc: Global, name: &str, length: usize) -> Result<String, AllocErro
         "add" => add_text(alloc, length, drawn),
         "least" if length > 0 => least_text(alloc, length, drawn),
         "step" if length > 0 => step_text(alloc, length, drawn),
-        "add_step" if length > 0 => add_step_text(alloc, length, drawn),
+        "add_step" if length > 0 => add_step_text::<false>(alloc, length, drawn),
+        "add_step_back" if length > 0 => add_step_text::<true>(alloc, length, drawn),
         _ => String::from_str(alloc, "no such kernel"),
     }
 }

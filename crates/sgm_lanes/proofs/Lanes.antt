@@ -1,11 +1,12 @@
 -- Facts of each lane.
-use Rattle.std.proofs.Common.{◌≡◌, ℕ, suc, ◌+◌, ◌<◌, ◌≤◌, ◌-◌, ◌⊎◌, List, [], ◌∷◌, ◌++◌, length, get_or, arith, cond, ltb, min, ◌∙◌, sym, ap, subst, inl, ⊎_elim, length-append, map, count_ones, bit_xor, Fits, w8, ◌^◌}
+use Rattle.std.proofs.Common.{◌≡◌, ℕ, suc, ◌+◌, ◌<◌, ◌≤◌, ◌-◌, ◌⊎◌, List, [], ◌∷◌, ◌++◌, length, get_or, arith, cond, ltb, min, ◌∙◌, sym, ap, subst, inl, inr, ⊎_elim, length-append, map, count_ones, bit_xor, Fits, w8, ◌^◌, ◌*◌, Bool, true, false}
 use Rattle.std.proofs.Math.Facts.{Fits-of_lt}
 use Rattle.std.proofs.lemmas.List.{get_or-map, length-map}
 use Rattle.std.proofs.lemmas.Nat.{ones-le, xor_lt}
 use Rattle.std.proofs.lemmas.Bool.{cases_lt}
 use Rattle.std.proofs.lemmas.Simd.{pick_l-range_with_len, get_or-chunk, get_or-zip2, length-zip2, Each1-from_get_or}
 use Rattle.std.specs.List.{range_with_len, Contains}
+use Rattle.sgm_lanes.specs.Steps.{nth_of}
 use Rattle.std.specs.Simd.Lanes.{Each1, Each2, pick_l, zip2}
 
 -- what holds of each two lanes holds of the two vectors
@@ -75,3 +76,78 @@ chunk_added first old new values new_values lanes at next is added left value_in
     subst (λ n. get_or new n 0 ≡ get_or first n 0 + get_or new_values n 0) same
     (omega (arith, inside i few, left (at + i) (omega arith), value_inside i few)))
     (cases_lt k at)
+
+-- ---- chunks that come in either order
+-- what holds beside a chunk, and of the chunk that is written, holds at each place
+pub chunk_or : (P : ℕ → ℕ → Type 0) (old new lanes : List ℕ) (at k : ℕ) → ((k < at) ⊎ (at + 16 ≤ k) → P k (get_or old k 0)) → ((i : ℕ) → i < 16 → P (at + i) (get_or lanes i 0))
+    → ((i : ℕ) → i < 16 → get_or new (at + i) 0 ≡ get_or lanes i 0) → ((k : ℕ) → (k < at) ⊎ (at + 16 ≤ k) → get_or new k 0 ≡ get_or old k 0)
+    → P k (get_or new k 0)
+chunk_or P old new lanes at k beside made inside outside =
+    ⊎_elim (λ (x : k < at). subst (P k) (sym (outside k (inl x))) (beside (inl x)))
+    (λ (x : at ≤ k). ⊎_elim
+    (λ (y : k < at + 16). let i = k - at in let same : at + i ≡ k = omega arith in let few : i < 16 = omega arith in
+    subst (λ n. P n (get_or new n 0)) same (subst (P (at + i)) (sym (inside i few)) (made i few)))
+    (λ (y : at + 16 ≤ k). subst (P k) (sym (outside k (inr y))) (beside (inr y)))
+    (cases_lt k (at + 16)))
+    (cases_lt k at)
+
+-- the same of sums, to which the chunk is added
+pub chunk_added_or : (first old new values new_values lanes : List ℕ) (at k : ℕ) → ((k < at) ⊎ (at + 16 ≤ k) → get_or old k 0 ≡ get_or first k 0 + get_or values k 0)
+    → ((i : ℕ) → i < 16 → get_or old (at + i) 0 ≡ get_or first (at + i) 0)
+    → ((i : ℕ) → i < 16 → get_or new_values (at + i) 0 ≡ get_or lanes i 0) → ((k : ℕ) → (k < at) ⊎ (at + 16 ≤ k) → get_or new_values k 0 ≡ get_or values k 0)
+    → ((i : ℕ) → i < 16 → get_or new (at + i) 0 ≡ get_or old (at + i) 0 + get_or lanes i 0) → ((k : ℕ) → (k < at) ⊎ (at + 16 ≤ k) → get_or new k 0 ≡ get_or old k 0)
+    → get_or new k 0 ≡ get_or first k 0 + get_or new_values k 0
+chunk_added_or first old new values new_values lanes at k beside left value_inside value_outside inside outside =
+    ⊎_elim (λ (x : k < at). omega (arith, beside (inl x), value_outside k (inl x), outside k (inl x)))
+    (λ (x : at ≤ k). ⊎_elim
+    (λ (y : k < at + 16). let i = k - at in let same : at + i ≡ k = omega arith in let few : i < 16 = omega arith in
+    subst (λ n. get_or new n 0 ≡ get_or first n 0 + get_or new_values n 0) same
+    (omega (arith, inside i few, left i few, value_inside i few)))
+    (λ (y : at + 16 ≤ k). omega (arith, beside (inr y), value_outside k (inr y), outside k (inr y)))
+    (cases_lt k (at + 16)))
+    (cases_lt k at)
+
+-- the places of the chunks that have come are those from low on, below high
+abbrev pub low : Bool → ℕ → ℕ → ℕ
+low true chunks n = 16 * (chunks - n)
+low false chunks n = 0
+
+abbrev pub high : Bool → ℕ → ℕ → ℕ
+high true chunks n = 16 * chunks
+high false chunks n = 16 * n
+
+-- the next chunk is none of them
+pub yet_to_come : (b : Bool) (chunks n m k : ℕ) → n < chunks → m ≡ nth_of b chunks n → 16 * m ≤ k → k < 16 * m + 16 → (k < low b chunks n) ⊎ (high b chunks n ≤ k)
+yet_to_come true chunks n m k lt is le few = inl (omega (arith, lt, is, few))
+yet_to_come false chunks n m k lt is le few = inr (omega (arith, is, le))
+
+-- and a place that has come with it and lies beside it had come before
+pub came_before : (b : Bool) (chunks n m k : ℕ) → n < chunks → m ≡ nth_of b chunks n → low b chunks (n + 1) ≤ k → k < high b chunks (n + 1) → (k < 16 * m) ⊎ (16 * m + 16 ≤ k)
+    → (low b chunks n ≤ k) × (k < high b chunks n)
+came_before true chunks n m k lt is le few beside =
+    ⊎_elim (λ (x : k < 16 * m). absurd (omega (arith, lt, is, le, x))) (λ (x : 16 * m + 16 ≤ k). (omega (arith, lt, is, x), few)) beside
+came_before false chunks n m k lt is le few beside =
+    ⊎_elim (λ (x : k < 16 * m). (omega arith, omega (arith, is, x))) (λ (x : 16 * m + 16 ≤ k). absurd (omega (arith, is, few, x))) beside
+
+-- what hasn't come with it hadn't come before, and lies beside it
+pub hadnt_come : (b : Bool) (chunks n m k : ℕ) → n < chunks → m ≡ nth_of b chunks n → (k < low b chunks (n + 1)) ⊎ (high b chunks (n + 1) ≤ k)
+    → ((k < 16 * m) ⊎ (16 * m + 16 ≤ k)) × ((k < low b chunks n) ⊎ (high b chunks n ≤ k))
+hadnt_come true chunks n m k lt is out =
+    ⊎_elim (λ (x : k < 16 * (chunks - (n + 1))). (inl (omega (arith, lt, is, x)), inl (omega (arith, lt, x))))
+    (λ (x : 16 * chunks ≤ k). (inr (omega (arith, lt, is, x)), inr x)) out
+hadnt_come false chunks n m k lt is out =
+    ⊎_elim (λ (x : k < 0). absurd (omega (arith, x))) (λ (x : 16 * (n + 1) ≤ k). (inr (omega (arith, is, x)), inr (omega (arith, x)))) out
+
+-- once all have come
+pub all_came : (b : Bool) (chunks k : ℕ) → k < 16 * chunks → (low b chunks chunks ≤ k) × (k < high b chunks chunks)
+all_came true chunks k lt = (omega arith, lt)
+all_came false chunks k lt = (omega arith, lt)
+
+pub none_above : (b : Bool) (chunks k : ℕ) → 16 * chunks ≤ k → high b chunks chunks ≤ k
+none_above true chunks k le = le
+none_above false chunks k le = le
+
+-- before the first none has come
+pub none_yet : (b : Bool) (chunks k : ℕ) → low b chunks 0 ≤ k → k < high b chunks 0 → k < k
+none_yet true chunks k le lt = omega (arith, le, lt)
+none_yet false chunks k le lt = omega (arith, lt)

@@ -1,5 +1,5 @@
 -- What one step asks of its arguments, and what it writes.
-use Rattle.std.specs.Prelude.{◌≡◌, ℕ, ◌≤◌, List, length, slice_index, All}
+use Rattle.std.specs.Prelude.{◌≡◌, ℕ, ◌-◌, ◌≤◌, List, length, slice_index, All, Bool, true, false}
 use Rattle.sgm_base.specs.declared.limits.TheConstants.{MAX_COST, MAX_PATH_VALUE, MAX_PENALTY}
 use Rattle.sgm_energy.specs.Step.{IsStepped}
 
@@ -18,3 +18,9 @@ pub record CanStep (prev : List ℕ) (floor : ℕ) (cost : List ℕ) (p1 p2 : �
 abbrev pub StepsTo : List ℕ → ℕ → List ℕ → ℕ → ℕ → ℕ → ℕ → Type 0
 StepsTo prev floor cost p1 p2 d value =
     IsStepped (slice_index prev) (length prev) p1 p2 floor (slice_index cost d) d value
+
+-- the number of the chunk that is the i-th to come, where they come from the last to the first, or
+-- from the first to the last
+abbrev pub nth_of : Bool → ℕ → ℕ → ℕ
+nth_of true chunks i = chunks - 1 - i
+nth_of false chunks i = i

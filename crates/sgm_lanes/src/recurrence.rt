@@ -3,7 +3,7 @@ ghost use Rattle.std.specs.Prelude.{◌≡◌, ℕ, ◌+◌, ◌-◌, ◌*◌, �
 ghost use Rattle.std.specs.Prelude.{slice_index, EachIndex, All, Contains, IsTrue, nat_lt};
 ghost use Rattle.std.specs.Prelude.{if◌then◌else◌};
 ghost use Rattle.sgm_energy.specs.Step.{IsStepped};
-ghost use Rattle.sgm_lanes.specs.Steps.{CanStep, StepsTo};
+ghost use Rattle.sgm_lanes.specs.Steps.{CanStep, StepsTo, nth_of};
 
 use crate::lane::{
     LANES, increase, lesser, load, load_bytes, minus, neighbours_left, neighbours_right, plus,
@@ -103,10 +103,23 @@ fn put<const ADD: bool>(lanes: u16x16, at: usize, into: &mut [u16], sums: &mut [
     }
 }
 
-/// The step at the indices of the whole chunks. The first and the last are apart so that nothing
-/// branches between them.
+/// Which of so many chunks is the `i`-th to come: where `BACK` says so they come from the last to
+/// the first.
 #[inline(always)]
-fn step_chunks<const ADD: bool>(terms: &Terms, into: &mut [u16], sums: &mut [u16])
+fn nth<const BACK: bool>(chunks: usize, i: usize) -> usize
+    requires inside { i < chunks }
+    ensures value { result ≡ nth_of BACK chunks i }
+    ensures inside { result < chunks }
+    ensures between { 0 < i → i + 1 < chunks → (0 < result) × (result + 1 < chunks) }
+{
+    if BACK { chunks - 1 - i } else { i }
+}
+
+/// The step at the indices of the whole chunks. The first and the last are apart so that nothing
+/// branches between them. Where `BACK` says so the last comes first: where the pixels of a row come
+/// from right to left, memory is then gone through in one direction, and fetched ahead.
+#[inline(always)]
+fn step_chunks<const ADD: bool, const BACK: bool>(terms: &Terms, into: &mut [u16], sums: &mut [u16])
     requires same_length { length terms.now.prev.now ≡ length into.old }
     requires sums_length { IsTrue ADD → length sums.old ≡ length into.old }
     requires room { IsTrue ADD
@@ -123,16 +136,17 @@ fn step_chunks<const ADD: bool>(terms: &Terms, into: &mut [u16], sums: &mut [u16
     if chunks == 0 {
         return;
     }
-    let first = chunk(terms, 0, lefts(prev, 0), rights(prev, 0));
-    put::<ADD>(first, 0, into, sums);
+    let at = LANES * nth::<BACK>(chunks, 0);
+    let first = chunk(terms, at, lefts(prev, at), rights(prev, at));
+    put::<ADD>(first, at, into, sums);
     for number in 1..chunks - 1 {
-        let at = LANES * number;
+        let at = LANES * nth::<BACK>(chunks, number);
         let inner = chunk(terms, at, load(prev, at - 1), load(prev, at + 1));
         put::<ADD>(inner, at, into, sums);
     }
     if 1 < chunks {
-        let at = LANES * (chunks - 1);
-        let last = chunk(terms, at, load(prev, at - 1), rights(prev, at));
+        let at = LANES * nth::<BACK>(chunks, chunks - 1);
+        let last = chunk(terms, at, lefts(prev, at), rights(prev, at));
         put::<ADD>(last, at, into, sums);
     }
 }
@@ -190,9 +204,9 @@ fn step_rest(terms: &Terms, start: usize, into: &mut [u16])
 }
 
 /// The step at all indices, and where `ADD` says so each value is added to the sum at its place
-/// while it is at hand.
+/// while it is at hand. `BACK` is whether the chunks come from the last to the first.
 #[inline(always)]
-fn advance<const ADD: bool>(terms: &Terms, into: &mut [u16], sums: &mut [u16])
+fn advance<const ADD: bool, const BACK: bool>(terms: &Terms, into: &mut [u16], sums: &mut [u16])
     requires same_length { length terms.now.prev.now ≡ length into.old }
     requires sums_length { IsTrue ADD → length sums.old ≡ length into.old }
     requires room { IsTrue ADD
@@ -203,7 +217,7 @@ fn advance<const ADD: bool>(terms: &Terms, into: &mut [u16], sums: &mut [u16])
         → EachIndex sums.new (λ k. slice_index sums.new k
         ≡ slice_index sums.old k + slice_index into.new k) }
 {
-    step_chunks::<ADD>(terms, into, sums);
+    step_chunks::<ADD, BACK>(terms, into, sums);
     let rest = LANES * (terms.prev.len() / LANES);
     step_rest(terms, rest, into);
     if ADD {
@@ -234,13 +248,14 @@ pub fn step(prev: &[u16], floor: u16, cost: &[u8], p1: u16, p2: u16, into: &mut 
         p1,
         p2,
     };
-    advance::<false>(&terms, into, &mut []);
+    advance::<false, false>(&terms, into, &mut []);
 }
 
 /// One step as [`step`] makes it, whose values are added to the sums at their places while they are
 /// at hand. All four slices have one length, and each sum has room for the greatest path value.
+/// `BACK` is whether the greater indices come first, which changes nothing but the time.
 #[inline(always)]
-pub fn add_step(
+pub fn add_step<const BACK: bool>(
     prev: &[u16],
     floor: u16,
     cost: &[u8],
@@ -270,5 +285,5 @@ pub fn add_step(
         p1,
         p2,
     };
-    advance::<true>(&terms, into, sums);
+    advance::<true, BACK>(&terms, into, sums);
 }

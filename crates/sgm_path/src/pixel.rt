@@ -81,9 +81,10 @@ pub(crate) fn begin_at<const ADD: bool>(
     }
 }
 
-/// The values of the pixel that begins at `at`, from those of the pixel before.
+/// The values of the pixel that begins at `at`, from those of the pixel before. `BACK` is whether
+/// the pixels to whose sums values are added come from right to left.
 #[inline(always)]
-fn follow<const ADD: bool>(
+fn follow<const ADD: bool, const BACK: bool>(
     row: &RowPass,
     far: u16,
     prev: &[u16],
@@ -108,15 +109,17 @@ fn follow<const ADD: bool>(
     if ADD {
         let (_, rest) = sums.split_at_mut(at);
         let (here, _) = rest.split_at_mut(row.count);
-        add_step(prev, least(prev), costs, p1, far, into, here);
+        add_step::<BACK>(prev, least(prev), costs, p1, far, into, here);
     } else {
         step(prev, least(prev), costs, p1, far, into);
     }
 }
 
 /// The values of the pixel that begins at `at`, from those of a pixel of the same row on its left.
+/// Values are added to sums in rows that are gone through from right to left. `ADAPTIVE` and
+/// `COUNT` are the row's, so that one place calls this and the compiler puts it there.
 #[inline(always)]
-pub(crate) fn from_left<const ADD: bool>(
+pub(crate) fn from_left<const ADAPTIVE: bool, const ADD: bool, const COUNT: usize>(
     row: &RowPass,
     far: u16,
     from: usize,
@@ -136,12 +139,12 @@ pub(crate) fn from_left<const ADD: bool>(
 {
     let (front, back) = values.split_at_mut(at);
     let (here, _) = back.split_at_mut(row.count);
-    follow::<ADD>(row, far, &front[from..from + row.count], at, here, sums);
+    follow::<ADD, true>(row, far, &front[from..from + row.count], at, here, sums);
 }
 
 /// The same from those of a pixel on its right.
 #[inline(always)]
-pub(crate) fn from_right<const ADD: bool>(
+pub(crate) fn from_right<const ADAPTIVE: bool, const ADD: bool, const COUNT: usize>(
     row: &RowPass,
     far: u16,
     from: usize,
@@ -163,13 +166,13 @@ pub(crate) fn from_right<const ADD: bool>(
     let (front, back) = values.split_at_mut(end);
     let (_, here) = front.split_at_mut(at);
     let gap = from - end;
-    follow::<ADD>(row, far, &back[gap..gap + row.count], at, here, sums);
+    follow::<ADD, false>(row, far, &back[gap..gap + row.count], at, here, sums);
 }
 
 /// The same from those that the pixel itself still has from the row before. What `spare` holds does
 /// not matter.
 #[inline(always)]
-pub(crate) fn from_itself<const ADD: bool>(
+pub(crate) fn from_itself<const ADAPTIVE: bool, const ADD: bool, const COUNT: usize>(
     row: &RowPass,
     far: u16,
     at: usize,
@@ -191,6 +194,6 @@ pub(crate) fn from_itself<const ADD: bool>(
     let (here, _) = back.split_at_mut(row.count);
     let (made, _) = spare.split_at_mut(row.count);
     // Made beside and copied back: that took less time than the step made in place from a copy.
-    follow::<ADD>(row, far, here, at, made, sums);
+    follow::<ADD, false>(row, far, here, at, made, sums);
     here.copy_from_slice(made);
 }

@@ -56,11 +56,11 @@ fn step_at<const ADAPTIVE: bool, const ADD: bool, const COUNT: usize>(
         Some(z) => {
             let far = far_at::<ADAPTIVE>(row.pen, row.guide[x], row.guide_before[z]);
             if z < x {
-                from_left::<ADD>(row, far, z * row.count, at, values, sums);
+                from_left::<ADAPTIVE, ADD, COUNT>(row, far, z * row.count, at, values, sums);
             } else if x < z {
-                from_right::<ADD>(row, far, z * row.count, at, values, sums);
+                from_right::<ADAPTIVE, ADD, COUNT>(row, far, z * row.count, at, values, sums);
             } else {
-                from_itself::<ADD>(row, far, at, values, spare, sums);
+                from_itself::<ADAPTIVE, ADD, COUNT>(row, far, at, values, spare, sums);
             }
         }
     }

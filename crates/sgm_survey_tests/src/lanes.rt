@@ -51,8 +51,8 @@ fn values_are_added(rt: HostRuntime) {
     assert!(rt; sums == [36_558; 17]);
 }
 
-/// Whether the step from at most 17 values gives these, alone and where it adds.
-fn steps_to(prev: &[u16], cost: &[u8], p1: u16, p2: u16, want: &[u16]) -> bool
+/// Whether the step from at most 17 values gives these, and adds them.
+fn adds_step<const BACK: bool>(prev: &[u16], cost: &[u8], p1: u16, p2: u16, want: &[u16]) -> bool
     requires some { 0 < length prev.now }
     requires few { length prev.now ≤ 17 }
     requires cost_length { length cost.now ≡ length prev.now }
@@ -60,11 +60,9 @@ fn steps_to(prev: &[u16], cost: &[u8], p1: u16, p2: u16, want: &[u16]) -> bool
     requires values { All (λ x. x < 4063) prev.now }
     requires costs { All (λ c. c ≤ 62) cost.now }
 {
-    let (mut room, mut again, mut sums) = ([0u16; 17], [0u16; 17], [0u16; 17]);
+    let (mut again, mut sums) = ([0u16; 17], [0u16; 17]);
     let (count, floor) = (prev.len(), least(prev));
-    let into = &mut room[..count];
-    step(prev, floor, cost, p1, p2, into);
-    add_step(
+    add_step::<BACK>(
         prev,
         floor,
         cost,
@@ -73,7 +71,25 @@ fn steps_to(prev: &[u16], cost: &[u8], p1: u16, p2: u16, want: &[u16]) -> bool
         &mut again[..count],
         &mut sums[..count],
     );
-    &*into == want && &again[..count] == want && &sums[..count] == want
+    &again[..count] == want && &sums[..count] == want
+}
+
+/// Whether the step from at most 17 values gives these, alone and where it adds, in both orders.
+fn steps_to(prev: &[u16], cost: &[u8], p1: u16, p2: u16, want: &[u16]) -> bool
+    requires some { 0 < length prev.now }
+    requires few { length prev.now ≤ 17 }
+    requires cost_length { length cost.now ≡ length prev.now }
+    requires penalties { (p1 ≤ p2) × (p2 ≤ 4000) }
+    requires values { All (λ x. x < 4063) prev.now }
+    requires costs { All (λ c. c ≤ 62) cost.now }
+{
+    let mut room = [0u16; 17];
+    let (count, floor) = (prev.len(), least(prev));
+    let into = &mut room[..count];
+    step(prev, floor, cost, p1, p2, into);
+    let forwards = adds_step::<false>(prev, cost, p1, p2, want);
+    let back = adds_step::<true>(prev, cost, p1, p2, want);
+    &*into == want && forwards && back
 }
 
 #[test]
