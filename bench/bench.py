@@ -36,7 +36,7 @@ NEEDED = set("avx avx2 bmi1 bmi2 f16c fma abm movbe".split())
 # What the launcher sets, so that programs that are started without it are measured alike.
 TUNABLES = ":".join(
     "glibc.malloc." + setting
-    for setting in ("hugetlb=1", "mmap_threshold=1073741824", "arena_max=1", "top_pad=67108864")
+    for setting in ("hugetlb=1", "mmap_threshold=1073741824", "top_pad=67108864")
 )
 CASES = [(640, 480, 64), (1280, 720, 64), (1280, 720, 128), (1920, 1080, 64), (1920, 1080, 128)]
 DEEPEST = 60

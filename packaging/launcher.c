@@ -20,7 +20,7 @@ extern const char help_begin[] __asm__("help_begin");
 extern const char help_end[] __asm__("help_end");
 
 static const char variable[] = "GLIBC_TUNABLES";
-static const char *const settings[] = {"hugetlb=1", "mmap_threshold=1073741824", "arena_max=1", "top_pad=67108864"};
+static const char *const settings[] = {"hugetlb=1", "mmap_threshold=1073741824", "top_pad=67108864"};
 
 static int fails(const char *what) {
     fprintf(stderr, PROGRAM ": %s: %s\n", what, strerror(errno));

@@ -113,15 +113,15 @@ hand_on() { [ -z "$signal" ] || [ -z "$builder" ] || kill "-$signal" "$builder" 
 
 # Settings of the C library by which new memory takes less of the time (docs/SPEED.md has what each saves):
 # huge pages, which are used where the system allows it (madvise or always in
-# /sys/kernel/mm/transparent_hugepage/enabled); one heap for all threads, which has huge pages throughout, where
-# a heap or a mapping of its own would begin and end in small ones; and 64 MB asked for at a time. What the
-# variable has stays, and nothing is added where it says otherwise of huge pages.
+# /sys/kernel/mm/transparent_hugepage/enabled); blocks of all sizes from the heaps, which have huge pages
+# throughout, where a mapping of its own would begin and end in small ones; and 64 MB asked for at a time. What
+# the variable has stays, and nothing is added where it says otherwise of huge pages.
 ask_for_huge_pages() {
     case :${GLIBC_TUNABLES-}: in
     *:glibc.malloc.hugetlb=*) return ;;
     esac
     wanted=
-    for setting in hugetlb=1 mmap_threshold=1073741824 arena_max=1 top_pad=67108864; do
+    for setting in hugetlb=1 mmap_threshold=1073741824 top_pad=67108864; do
         case :${GLIBC_TUNABLES-}: in
         *:glibc.malloc."${setting%=*}"=*) ;;
         *) wanted=$wanted:glibc.malloc.$setting ;;

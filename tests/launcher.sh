@@ -15,7 +15,7 @@ export TMPDIR=$work/temporary
 mkdir "$TMPDIR"
 # What the launcher sets.
 tunables=glibc.malloc.hugetlb=1:glibc.malloc.mmap_threshold=1073741824
-tunables=$tunables:glibc.malloc.arena_max=1:glibc.malloc.top_pad=67108864
+tunables=$tunables:glibc.malloc.top_pad=67108864
 # The commands that the launcher and the made-up rt use, and git where it is there: a folder without another rt.
 plain=$work/commands
 mkdir "$plain"
@@ -501,12 +501,12 @@ $launched: can't be built: see the messages above"
     started demo 0
     for pair in "" glibc.malloc.check=3 glibc.malloc.hugetlb=0 glibc.malloc.hugetlb=2 \
         glibc.malloc.check=3:glibc.malloc.hugetlb=0 glibc.malloc.hugetlb=0:glibc.malloc.check=3 \
-        glibc.malloc.mmap_threshold=4096 glibc.malloc.arena_max=4; do
+        glibc.malloc.mmap_threshold=4096 glibc.malloc.top_pad=4096; do
         case $pair in
         "") wanted=$tunables ;;
         *hugetlb*) wanted=$pair ;;
         *mmap_threshold*) wanted=$pair:${tunables/glibc.malloc.mmap_threshold=1073741824:/} ;;
-        *arena_max*) wanted=$pair:${tunables/glibc.malloc.arena_max=1:/} ;;
+        *top_pad*) wanted=$pair:${tunables/:glibc.malloc.top_pad=67108864/} ;;
         *) wanted=$pair:$tunables ;;
         esac
         GLIBC_TUNABLES=$pair started demo 0

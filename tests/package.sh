@@ -152,7 +152,7 @@ cp "$made"/lib/sgm/{sgm,sgm_series}-x86-64-v3
 ln -s "$made"/bin/{sgm,sgm_series} "$work/links/"
 cd "$work/links" || exit 1
 tunables=glibc.malloc.hugetlb=1:glibc.malloc.mmap_threshold=1073741824
-tunables=$tunables:glibc.malloc.arena_max=1:glibc.malloc.top_pad=67108864
+tunables=$tunables:glibc.malloc.top_pad=67108864
 for launcher in {"$made/bin",.}/{sgm,sgm_series}; do
     is "the program's words" "$("$launcher" match 'a b' '' '*')" "[match][a b][][*] in $PWD with $tunables"
     "$launcher" >/dev/null
@@ -165,7 +165,7 @@ done <<TABLE
 glibc.malloc.check=3 glibc.malloc.check=3:$tunables
 glibc.malloc.hugetlb=2 glibc.malloc.hugetlb=2
 glibc.malloc.check=3:glibc.malloc.hugetlb=0 glibc.malloc.check=3:glibc.malloc.hugetlb=0
-glibc.malloc.arena_max=4 glibc.malloc.arena_max=4:${tunables/glibc.malloc.arena_max=1:/}
+glibc.malloc.top_pad=4096 glibc.malloc.top_pad=4096:${tunables/:glibc.malloc.top_pad=67108864/}
 TABLE
 is "with an empty one" "$(GLIBC_TUNABLES='' ./sgm | sed 's/.* with //')" "$tunables"
 ./sgm >&- 2>/dev/null

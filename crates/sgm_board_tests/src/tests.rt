@@ -3,6 +3,7 @@
 mod boards;
 mod making;
 mod selecting;
+mod starting;
 mod strips;
 mod sums;
 mod taking;

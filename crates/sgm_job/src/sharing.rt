@@ -5,10 +5,10 @@ ghost use Rattle.std.specs.Prelude.{None, Some, map, slice_index_or};
 ghost use Rattle.std.specs.Option.{option_or};
 ghost use Rattle.sgm_job.specs.Sharing.{AreMade, AreOwn};
 
-use sgm_work::empty_places;
+use sgm_work::{empty_places, in_threads};
 use std::alloc::{AllocError, Global};
 use std::sync::atomic::{AtomicUsize, Ordering};
-use std::thread::{Threads, map_indices};
+use std::thread::Threads;
 
 /// Hands out each number below a count once.
 #[derive(Drop)]
@@ -97,24 +97,30 @@ fn all_of<X: Drop>(alloc: Global, places: Vec<Option<X>>) -> Result<Vec<X>, Allo
     Ok(all)
 }
 
-/// What each of at most so many threads makes, until all numbers are handed out.
+/// What each of at most so many threads makes, until all numbers are handed out; None where one got
+/// no memory.
 fn crew_pieces<R: Threads + Sync, X: Send + Drop, F: Fn(usize) -> Option<X> + Sync>(
     rt: &R,
     alloc: Global,
     count: usize,
     threads: usize,
     make: &F,
-) -> Result<Vec<Result<Vec<Option<X>>, AllocError>>, AllocError>
+) -> Result<Vec<Option<Vec<Option<X>>>>, AllocError>
     requires accepts { (k : ℕ) → k < count → F.pre make.now k }
-    ensures { IfOk result (λ crew. All (λ own. IfOk own (AreOwn F.Fn make.now count)) crew.items) }
+    ensures { IfOk result
+        (λ crew. All (λ own. IfSome own (AreOwn F.Fn make.now count)) crew.items) }
 {
     let numbers = Numbers::below(count);
-    map_indices(
+    let mut crew = empty_places(alloc, threads.min(count))?;
+    in_threads(
         rt,
-        alloc,
-        threads.min(count),
-        &|_| own_pieces(alloc, &numbers, make),
-    )
+        &|_, own: &mut Option<Vec<Option<X>>>|
+            requires { (k : ℕ) → k < numbers.count → F.pre make.now k }
+            ensures { IfSome own.new (AreOwn F.Fn make.entry.now numbers.count) }
+        { *own = own_pieces(alloc, &numbers, make).ok() },
+        crew.as_mut_slice(),
+    );
+    Ok(crew)
 }
 
 /// The pieces of all numbers below `count`, as `make` gives them, made by at most so many threads.
@@ -134,7 +140,10 @@ pub(crate) fn side_by_side<R: Threads + Sync, X: Send + Drop, F: Fn(usize) -> Op
     let crew = crew_pieces(rt, alloc, count, threads, make)?;
     let mut places = empty_places(alloc, count)?;
     for own in crew {
-        put_own(own?, places.as_mut_slice());
+        let Some(own) = own else {
+            return Err(AllocError);
+        };
+        put_own(own, places.as_mut_slice());
     }
     all_of(alloc, places)
 }

@@ -6,3 +6,4 @@ pub mod Visiting
 pub mod Glancing
 pub mod Threads
 pub mod Crews
+pub mod Starts

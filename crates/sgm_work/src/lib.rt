@@ -7,6 +7,7 @@ mod gate;
 mod matching;
 mod places;
 mod scanning;
+mod starting;
 mod working;
 
 pub use finishing::{CALLER, finish};
@@ -14,4 +15,5 @@ pub use gate::{Came, Gate, OpenGate, come};
 pub use matching::{Matched, match_all};
 pub use places::empty_places;
 pub use scanning::scan;
+pub use starting::in_threads;
 pub use working::work;

@@ -16,13 +16,14 @@ ghost use Rattle.sgm_work.specs.Crews.{AllCanWork, CanWork, GathersFrom, pass_of
 
 use crate::finishing::finish;
 use crate::gate::Gate;
+use crate::starting::in_threads;
 use crate::working::work;
 use crossbeam_utils::CachePadded;
 use sgm_base::{Size, Span};
 use sgm_board::{Board, Pass};
 use sgm_strip::{Front, Parcel, Row};
 use std::alloc::{AllocError, Global};
-use std::thread::{Threads, for_each_mut};
+use std::thread::Threads;
 
 /// What the matching of a scene ends with.
 #[derive(Drop)]
@@ -84,8 +85,7 @@ fn run_all<R: Threads + Sync, G: Gate + Sync>(
         → IsSamePass (parts_of (pass_of (slice_index_or crew.old k d)))
         (parts_of (pass_of (slice_index_or crew.new k d))) }
 {
-    let threads = crew.len();
-    for_each_mut(rt, crew, threads, &|_, worker| run(board, worker, gate));
+    in_threads(rt, &|_, worker| run(board, worker, gate), crew);
 }
 
 /// One of the workers, whose pass is joined with those of all others.
