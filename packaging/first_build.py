@@ -64,6 +64,8 @@ LOOK, REWRITE = 0.2, 1
 PATIENCE = 2
 # The share of the whole from which on the machine's pace is taken from what was done.
 ENOUGH = 0.1
+# How many processes at most prove the program's crate, which is the last, and the memory of each.
+MOST, EACH = 4, 1500 << 20
 
 
 class Stopped(Exception):
@@ -253,6 +255,13 @@ def processors():
     return len(os.sched_getaffinity(0))
 
 
+def provers():
+    """How many processes prove the program's crate: one for each processor, as memory allows."""
+    with open("/proc/meminfo", encoding="ascii") as file:
+        free = next(int(it.split()[1]) << 10 for it in file if it.startswith("MemAvailable:"))
+    return max(min(MOST, processors(), free // EACH), 1)
+
+
 class Times:
     """What has ended, and what the table reckons of that and of the rest."""
 
@@ -405,7 +414,7 @@ def commands_of_build(crate, crates, room, cpu):
     """What proves and compiles the program's crate, and what links it to the file `program`.
 
     The libraries stand in the folder where `rt ci` has proved them. The words are those with which
-    it has a program checked and compiled, and the processor.
+    it has a program checked and compiled, but for the number of processes, and the processor.
     """
     kit, line = toolchain(), named_crates()[crate][1]
     rlibs = {it: f"{room}/crates/{it}/out/rlib" for it in crates[crate]}
@@ -415,7 +424,7 @@ def commands_of_build(crate, crates, room, cpu):
     for folder in [f"{kit}/rlibs", *rlibs.values()]:
         words += ["-L", f"dependency={folder}"]
     words += ["--antt-project", f"{kit}/rattle/logic/antt-project.json"]
-    words += ["--logic-built", f"{kit}/logic_built", "--jobs", "1", "--links", f"{crate}="]
+    words += ["--logic-built", f"{kit}/logic_built", "--jobs", f"{provers()}", "--links", f"{crate}="]
     words += [f"--cpu={cpu}"] if cpu else []
     words += ["--toolchain", f"{kit}/toolchain", "--backend", "llvm", "-o", f"{room}/program.o"]
     link = ["--target", TARGET, "--toolchain", f"{kit}/toolchain", "-o", f"{room}/program"]

@@ -14,7 +14,7 @@ use Rattle.sgm_calib.specs.Table as table
 use Rattle.sgm_calib.specs.declared.keys.CalibFault.{CalibFault}
 use Rattle.sgm_calib.specs.declared.keys.CalibFault.TheVariants.{Missing}
 use Rattle.sgm_calib.specs.declared.keys.Key.{Key}
-use Rattle.sgm_job.specs.Survey.{region_tallies}
+use Rattle.sgm_ground.specs.Tallying.{region_tallies}
 use Rattle.sgm_words.specs.declared.files.Input.TheVariants as input
 use Rattle.sgm_outcome.specs.declared.outcome.Refusal.{Refusal}
 use Rattle.sgm_outcome.specs.declared.outcome.Refusal.TheVariants as refusal

@@ -19,7 +19,7 @@ use crate::made::report;
 use crate::stops::TextsError;
 use sgm_calib::{Calib, CalibFault, Key};
 use sgm_grid::{Grid, GridSpec};
-use sgm_job::tally_ground;
+use sgm_ground::tally_ground;
 use sgm_list::{MAX_ENTRIES, NamesError, read_names};
 use std::alloc::{AllocError, Global};
 

@@ -1,10 +1,4 @@
-pub mod Crossing
-pub mod Grounds
-pub mod Making
-pub mod Passing
-pub mod Pieces
-pub mod Places
-pub mod Pointing
 pub mod Finals
+pub mod Grounds
+pub mod Passing
 pub mod Surveying
-pub mod StripRows

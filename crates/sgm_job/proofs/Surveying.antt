@@ -9,7 +9,8 @@ use Rattle.sgm_energy.specs.Pens.{guide_of}
 use Rattle.sgm_base.specs.Refining.{Refining}
 use Rattle.sgm_strip.specs.Scenes.{SceneParts, scene_of}
 use Rattle.sgm_job.specs.Answers.{matched_in}
-use Rattle.sgm_job.specs.Survey.{Prepared, final, prepared_of, left_plane, refined_disparities, right_plane}
+use Rattle.sgm_map.specs.Maps.{refined_disparities}
+use Rattle.sgm_job.specs.Survey.{Prepared, final, prepared_of, left_plane, right_plane}
 
 -- the refined disparities of two planes, as they are matched
 abbrev pub matched_planes : Values → Values → Calibration → ℕ → Refining → Values

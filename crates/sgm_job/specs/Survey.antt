@@ -1,7 +1,7 @@
 -- The survey of a pair of images: the disparities, the grid of heights and the tallies, or why the
 -- pair is refused.
 use Rattle.std.specs.Prelude.{ℕ, ◌*◌, Bool, false, ◌==◌, nat_lt, ◌&&◌, not, if◌then◌else◌, List}
-use Rattle.std.specs.Prelude.{map, Option, Some, None, option_map, Result, Ok, Err}
+use Rattle.std.specs.Prelude.{Option, Some, None, option_map, Result, Ok, Err}
 use Rattle.std.specs.Option.{option_or}
 use Rattle.sgm_base.specs.declared.limits.TheConstants.{MAX_VOLUME}
 use Rattle.sgm_base.specs.declared.side.Side.{Side}
@@ -15,20 +15,18 @@ use Rattle.sgm_energy.specs.Rays.{Problem}
 use Rattle.sgm_census.specs.declared.rule.CostRule.{CostRule}
 use Rattle.sgm_census.specs.declared.rule.CostRule.TheVariants.{Plain, Smoothed}
 use Rattle.sgm_census.specs.Matching.{plane_problem}
-use Rattle.sgm_select.specs.Selection.{disparities_of, matches_of}
-use Rattle.sgm_fine.specs.Making.{made_finer}
 use Rattle.sgm_base.specs.Refining.{Refining}
-use Rattle.sgm_refine.specs.Refined.{refined}
 use Rattle.sgm_rectify.specs.declared.warp.Warp.{Warp}
 use Rattle.sgm_rectify.specs.Faults.{warp_fault}
 use Rattle.sgm_rectify.specs.Rectified.{rectified_values, sides_of}
 use Rattle.sgm_grid.specs.Bridges.{bridged}
 use Rattle.sgm_grid.specs.Cells.{Cells}
 use Rattle.sgm_report.specs.Areas.{Area}
-use Rattle.sgm_report.specs.Tallies.{tally_of}
 use Rattle.sgm_report.specs.declared.volumes.RegionTally.{RegionTally}
 use Rattle.sgm_calib.specs.Calibration.{Calibration, station_of}
-use Rattle.sgm_job.specs.Heights.{grid_of}
+use Rattle.sgm_map.specs.Maps.{made_disparities, refined_disparities}
+use Rattle.sgm_ground.specs.Heights.{grid_of}
+use Rattle.sgm_ground.specs.Tallying.{region_tallies}
 use Rattle.sgm_job.specs.declared.job.SurveyFault.{SurveyFault}
 use Rattle.sgm_job.specs.declared.job.SurveyFault.TheVariants as fault
 
@@ -47,24 +45,13 @@ problem left right calib =
     plane_problem (left_plane left calib)
     (right_plane right calib) calib.window calib.rule calib.span calib.penalties left.maxval
 
--- the disparities of two planes, made finer where that is asked for
-abbrev pub made_disparities : Problem → Values → Values → Disparities → Bool → Values
-made_disparities g left right span fine =
-    made_finer fine left right (disparities_of g left right span.first) span
-
--- those of the left image
+-- the disparities of the left image, made finer where that is asked for
 abbrev pub disparities : Picture → Picture → Calibration → Values
 disparities left right calib =
     made_disparities (problem left right calib) (left_plane left calib)
     (right_plane right calib) calib.span calib.fine
 
--- the disparities of two planes, refined
-abbrev pub refined_disparities : Problem → Values → Values → Disparities → Bool → Refining → Values
-refined_disparities g left right span fine refine =
-    refined (made_disparities g left right span fine)
-    (matches_of g span.first) left span.first span.count refine
-
--- those of the left image
+-- the same, refined
 abbrev pub final : Picture → Picture → Calibration → Refining → Values
 final left right calib refine =
     refined_disparities (problem left right calib) (left_plane left calib)
@@ -105,10 +92,6 @@ measured calib disp =
 -- the same with its bridges
 abbrev pub ground : Calibration → Values → Option Cells
 ground calib disp = option_map (bridged calib.gridding.bridge) (measured calib disp)
-
--- the tallies of regions over a grid with its bridges, each over at most so many cells to each side
-abbrev pub region_tallies : ℕ → Cells → List Area → List RegionTally
-region_tallies most grid areas = map (tally_of (bridged most grid) grid) areas
 
 -- where there is a grid and regions are asked for
 abbrev pub tallies_of : ℕ → Option Cells → Option (List Area) → Option (List RegionTally)

@@ -5,28 +5,24 @@ ghost use Rattle.sgm_base.specs.declared.limits.TheConstants.{MAX_DISPARITY, MAX
 ghost use Rattle.sgm_base.specs.declared.limits.TheConstants.{MAX_WORKERS};
 ghost use Rattle.sgm_census.specs.Matching.{matching_problem};
 ghost use Rattle.sgm_energy.specs.Pens.{guide_of};
-ghost use Rattle.sgm_strip.specs.Scenes.{problem_of};
 ghost use Rattle.sgm_base.specs.Refining.{plain};
-ghost use Rattle.sgm_job.specs.Survey.{is_too_large, pair_fault, prepared, refined_disparities};
+ghost use Rattle.sgm_map.specs.Maps.{refined_disparities};
+ghost use Rattle.sgm_job.specs.Survey.{is_too_large, pair_fault, prepared};
 ghost use Rattle.sgm_job.specs.Survey.{side_fault, surveyed};
 ghost use Rattle.sgm_job.specs.Answers.{Answers, Prepares};
 
-use crate::asked::Asked;
-use crate::fining::finer_map;
 use crate::ground::ground_of;
-use crate::matching::complete_parcels;
-use crate::pair::{CodedPair, ScenePlanes};
+use crate::pair::CodedPair;
 use crate::planes::{guided_scene, prepare_both, prepare_each};
-use crate::refining::refined_map;
-use crate::selecting::select_all;
 use sgm_base::{DispMap, Image, MAX_VOLUME, Refine, Side, Size};
 use sgm_calib::Calib;
 use sgm_census::CostRule;
 use sgm_grid::Grid;
+use sgm_map::{Asked, scene_map};
 use sgm_rectify::{Warp, WarpFault};
 use sgm_report::RegionTally;
 use sgm_strip::Scene;
-use sgm_work::Gate;
+use sgm_work::{Gate, complete_parcels};
 use std::alloc::{AllocError, Global};
 use std::thread::Threads;
 
@@ -119,26 +115,6 @@ fn pair_fault(left: Size, right: Size, calib: &Calib) -> Option<SurveyFault>
     }
 }
 
-/// The refined disparity of each pixel of the left plane of a scene, made finer before that where
-/// `fine` is true.
-fn scene_map<R: Threads + Sync, G: Gate + Sync>(
-    rt: &R,
-    alloc: Global,
-    planes: &ScenePlanes,
-    fine: bool,
-    asked: Asked,
-    gate: &G,
-) -> Result<DispMap, AllocError>
-    ensures { IfOk result (λ m. m ≡ refined_disparities (problem_of planes.now.scene)
-        planes.now.left planes.now.right planes.now.scene.span fine asked.refine) }
-{
-    let refine = asked.refine;
-    let parcels = complete_parcels(rt, alloc, &planes.scene, asked.strips, asked.workers, gate)?;
-    let map = select_all(rt, alloc, planes, &parcels, asked.workers as usize)?;
-    let finer = finer_map(rt, alloc, fine, planes, map, asked)?;
-    refined_map(alloc, planes, &parcels, finer, refine)
-}
-
 /// The refined disparity of each pixel of the left image of a pair.
 fn disparity_map<R: Threads + Sync, G: Gate + Sync>(
     rt: &R,
@@ -158,7 +134,9 @@ fn disparity_map<R: Threads + Sync, G: Gate + Sync>(
     // Known from here on: the range of the span.
     let _ = &span.count;
     let planes = guided_scene(alloc, pair, calib)?;
-    scene_map(rt, alloc, &planes, calib.fine(), asked, gate)
+    let scene = &planes.scene;
+    let parcels = complete_parcels(rt, alloc, scene, asked.strips, asked.workers, gate)?;
+    scene_map(rt, alloc, &planes, &parcels, calib.fine(), asked)
 }
 
 /// In how many threads both images are rectified: one for each worker, or one for each image.

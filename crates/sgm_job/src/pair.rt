@@ -1,4 +1,4 @@
-//! What stands between the images and the scene, and between the scene and the disparities.
+//! What stands between the images and the scene.
 
 ghost use Rattle.std.specs.Prelude.{◌≡◌, ◌≤◌};
 ghost use Rattle.std.proofs.Props.{props};
@@ -6,7 +6,6 @@ ghost use Rattle.sgm_base.specs.Values.{AtMost};
 
 use sgm_base::Plane;
 use sgm_census::CodePlane;
-use sgm_strip::Scene;
 
 /// A rectified image, and the codes of its pixels.
 #[derive(Drop)]
@@ -30,16 +29,4 @@ pub(crate) struct CodedPair {
     ghost same_rule: { left.codes.rule ≡ right.codes.rule },
     ghost some: { 1 ≤ maxval },
     ghost values: { AtMost maxval left.plane.entries } by { Prim.hlevel props },
-}
-
-/// A scene, and the rectified images whose codes it has, all of one size.
-#[derive(Drop)]
-pub(crate) struct ScenePlanes {
-    pub(crate) scene: Scene,
-    pub(crate) left: Plane,
-    pub(crate) right: Plane,
-    ghost left_width: { left.width ≡ scene.left.width },
-    ghost left_height: { left.height ≡ scene.left.height },
-    ghost right_width: { right.width ≡ scene.left.width },
-    ghost right_height: { right.height ≡ scene.left.height },
 }

@@ -7,10 +7,11 @@ ghost use Rattle.sgm_rectify.specs.Rectified.{sides_of};
 ghost use Rattle.sgm_strip.specs.Scenes.{scene_of};
 ghost use Rattle.sgm_job.specs.Matching.{IsMade, IsPair, Passes};
 
-use crate::pair::{Coded, CodedPair, ScenePlanes};
+use crate::pair::{Coded, CodedPair};
 use sgm_base::Image;
 use sgm_calib::Calib;
 use sgm_census::{CostRule, Window, codes, codes_by};
+use sgm_map::ScenePlanes;
 use sgm_rectify::{Warp, rectify, rectify_by};
 use sgm_strip::{Guide, Scene};
 use std::alloc::{AllocError, Global};

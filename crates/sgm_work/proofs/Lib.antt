@@ -6,4 +6,5 @@ pub mod Visiting
 pub mod Glancing
 pub mod Threads
 pub mod Crews
-pub mod Starts
+pub mod Crossing
+pub mod Making

@@ -3,3 +3,4 @@ pub mod Left
 pub mod Worked
 pub mod Tries
 pub mod Crews
+pub mod Made

@@ -5,15 +5,13 @@
 mod finishing;
 mod gate;
 mod matching;
-mod places;
+mod parcels;
 mod scanning;
-mod starting;
 mod working;
 
 pub use finishing::{CALLER, finish};
 pub use gate::{Came, Gate, OpenGate, come};
 pub use matching::{Matched, match_all};
-pub use places::empty_places;
+pub use parcels::complete_parcels;
 pub use scanning::scan;
-pub use starting::in_threads;
 pub use working::work;

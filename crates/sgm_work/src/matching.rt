@@ -16,12 +16,12 @@ ghost use Rattle.sgm_work.specs.Crews.{AllCanWork, CanWork, GathersFrom, pass_of
 
 use crate::finishing::finish;
 use crate::gate::Gate;
-use crate::starting::in_threads;
 use crate::working::work;
 use crossbeam_utils::CachePadded;
 use sgm_base::{Size, Span};
 use sgm_board::{Board, Pass};
 use sgm_strip::{Front, Parcel, Row};
+use sgm_threads::in_threads;
 use std::alloc::{AllocError, Global};
 use std::thread::Threads;
 

@@ -1,7 +1,8 @@
 //! That each place has its call, and that these run at once.
 
 use sgm_recorders::Meeting;
-use sgm_work::{Gate, in_threads};
+use sgm_threads::in_threads;
+use sgm_work::Gate;
 use std::test::Fail;
 
 #[test]

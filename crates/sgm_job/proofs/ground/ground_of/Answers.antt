@@ -1,7 +1,8 @@
 use Rattle.std.proofs.Common.{ap, sym, ◌∙◌}
 use Rattle.sgm_grid.specs.Cells.{Cells}
-use Rattle.sgm_job.specs.Heights.{points_of}
-use Rattle.sgm_job.proofs.Grounds.{gridded_spec, regions_inside}
+use Rattle.sgm_ground.specs.Heights.{points_of}
+use Rattle.sgm_ground.proofs.Grounds.{gridded_spec}
+use Rattle.sgm_job.proofs.Grounds.{regions_inside}
 use Rattle.sgm_job.proofs.ground.ground_of.Goals as goal
 
 pub tally_ground-requires-clause-regions : goal.tally_ground-requires-clause-regions

@@ -6,9 +6,9 @@ use Rattle.sgm_census.specs.Matching.{matching_problem}
 use Rattle.sgm_energy.specs.Pens.{guide_of}
 use Rattle.sgm_strip.specs.Scenes.{SceneParts, problem_of}
 use Rattle.sgm_select.proofs.Strips.{low_from}
-use Rattle.sgm_job.specs.Survey.{refined_disparities}
-use Rattle.sgm_job.proofs.Making.{if_ok}
-use Rattle.sgm_job.proofs.Finals.{final_low}
+use Rattle.sgm_map.specs.Maps.{refined_disparities}
+use Rattle.sgm_threads.proofs.Pieces.{if_ok}
+use Rattle.sgm_map.proofs.Finals.{final_low}
 use Rattle.sgm_job.proofs.job.disparity_map.Goals as goal
 
 pub returns-clause-exact : goal.returns-clause-exact

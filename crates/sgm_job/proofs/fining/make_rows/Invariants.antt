@@ -1,6 +1,0 @@
-use Rattle.sgm_job.specs.Fining.{HoldsMade}
-use Rattle.sgm_job.proofs.fining.make_rows.Given as goal
-
--- the rows before this one are written
-abbrev pub invariant-loop-place : goal.invariant-loop-place
-invariant-loop-place l = HoldsMade l.making.step l.making.left.now l.making.right.now l.making.map.now l.making.span l.first l.place l.into

@@ -1,0 +1,3 @@
+pub mod Fining
+pub mod Maps
+pub mod Selecting
