@@ -876,8 +876,8 @@ def texts(draw):
             "sgm_base.Values": "values_of",
             "sgm_base.specs.declared.side.Side.TheVariants": "Left Right",
             "sgm_pgm.Write": "",
-            "sgm_app.Pair": "",
-            "sgm_app.Texts": "",
+            "sgm_stages.Pair": "",
+            "sgm_stages.Texts": "",
         },
     )
     for width, height in [(1, 1), (3, 2), (10, 1)]:
@@ -981,9 +981,10 @@ def calls(draw):
             "sgm_job.Survey": "",
             "sgm_outcome.specs.declared.outcome.Refusal": "Refusal",
             "sgm_outcome.Lines": "refusal_line",
+            "sgm_stages.Refusals": "",
             "sgm_app.Refusals": "",
             "sgm_app.Certificates": "certificate_for",
-            "sgm_app.Changing": "GridTexts change_for",
+            "sgm_stages.Changing": "GridTexts change_for",
         },
         COLUMNS + "abbrev with_line : {X : Type 0} → Result X Refusal → Result X (List ℕ)\n"
         "with_line (Ok made) = Ok made\n"
@@ -1127,7 +1128,7 @@ def names(draw):
             **SETTINGS,
             "sgm_outcome.specs.declared.outcome.Refusal": "Refusal",
             "sgm_outcome.Lines": "list_line refusal_line",
-            "sgm_app.Merging": "MergePlan plan_for",
+            "sgm_stages.Merging": "MergePlan plan_for",
         },
         COLUMNS + "abbrev with_line : Result MergePlan Refusal → Result MergePlan (List ℕ)\n"
         "with_line (Ok plan) = Ok plan\n"
@@ -1223,7 +1224,7 @@ def merges(draw):
             "sgm_merge.Fits": "fits",
             "sgm_merge.Merged": "merged cut_to",
             "sgm_merge.Merging": "no_entries with_entry grid_in",
-            "sgm_app.Merging": "merge_texts",
+            "sgm_stages.Merging": "merge_texts",
         },
         COLUMNS,
     )
@@ -1283,9 +1284,9 @@ def entries(draw):
             "sgm_words.specs.declared.files.Output.TheVariants": "Heights Report",
             "sgm_outcome.specs.declared.outcome.Outcome.TheVariants": "Usage Refused ReadFault",
             "sgm_outcome.Lines": "line_of",
-            "sgm_app.Merging": "",
-            "sgm_app.Outputs": "OutputFile",
-            "sgm_app.Verdict": "Verdict usage absent refused files plan_carried_out",
+            "sgm_stages.Merging": "",
+            "sgm_stages.Outputs": "OutputFile",
+            "sgm_stages.Verdict": "Verdict usage absent refused files plan_carried_out",
         },
         COLUMNS + "abbrev with_line : Verdict → Result (List OutputFile × List ℕ) (List ℕ)\n"
         "with_line (usage fault) = Err (line_of (Usage fault))\n"

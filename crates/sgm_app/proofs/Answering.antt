@@ -12,20 +12,21 @@ use Rattle.sgm_words.specs.Operands.{Operands}
 use Rattle.sgm_outcome.specs.declared.outcome.Outcome.{Outcome}
 use Rattle.sgm_outcome.specs.declared.outcome.Refusal.{Refusal}
 use Rattle.sgm_app.specs.Calls.{MatchCallsFor}
-use Rattle.sgm_app.specs.Ends.{ShownBy, NoneBefore}
-use Rattle.sgm_app.specs.Gather.{AtHand}
-use Rattle.sgm_app.specs.Inputs.{InputBytes}
-use Rattle.sgm_app.specs.Judge.{CalibReads, StopsFor}
-use Rattle.sgm_app.specs.Made.{texts_in}
-use Rattle.sgm_app.specs.Stops.{texts_outcome}
-use Rattle.sgm_app.specs.Outputs.{files_of}
-use Rattle.sgm_app.specs.Texts.{Texts}
-use Rattle.sgm_app.specs.Verdict.{Verdict, files, refused, texts_for, calib_of, pair_fetched, unless_refused}
-use Rattle.sgm_app.specs.declared.made.MadeTexts.{MadeTexts}
-use Rattle.sgm_app.specs.declared.stops.TextsError.{TextsError}
-use Rattle.sgm_app.specs.declared.stops.TextsError.TheVariants.{Refused, NoMemory}
-use Rattle.sgm_app.proofs.Reading.{image_reads, calib_reads}
-use Rattle.sgm_app.proofs.Steps.{shown_along}
+use Rattle.sgm_stages.specs.Ends.{ShownBy, NoneBefore}
+use Rattle.sgm_stages.specs.Gather.{AtHand}
+use Rattle.sgm_stages.specs.Inputs.{InputBytes}
+use Rattle.sgm_stages.specs.Judge.{CalibReads, StopsFor}
+use Rattle.sgm_stages.specs.Made.{texts_in}
+use Rattle.sgm_stages.specs.Stops.{texts_outcome}
+use Rattle.sgm_stages.specs.Outputs.{files_of}
+use Rattle.sgm_stages.specs.Texts.{Texts}
+use Rattle.sgm_stages.specs.Verdict.{Verdict, files, refused, calib_of, pair_fetched, unless_refused}
+use Rattle.sgm_app.specs.Verdict.{texts_for}
+use Rattle.sgm_stages.specs.declared.made.MadeTexts.{MadeTexts}
+use Rattle.sgm_stages.specs.declared.stops.TextsError.{TextsError}
+use Rattle.sgm_stages.specs.declared.stops.TextsError.TheVariants.{Refused, NoMemory}
+use Rattle.sgm_stages.proofs.Reading.{image_reads, calib_reads}
+use Rattle.sgm_stages.proofs.Steps.{shown_along}
 use Rattle.sgm_app.proofs.VerdictLaws.{none_matched}
 
 -- the inputs were fetched: whatever comes next is the verdict

@@ -15,13 +15,15 @@ use Rattle.sgm_job.specs.declared.job.SurveyError.{SurveyError}
 use Rattle.sgm_job.specs.declared.job.SurveyError.TheVariants as survey
 use Rattle.sgm_outcome.specs.declared.outcome.Refusal.{Refusal}
 use Rattle.sgm_outcome.specs.declared.outcome.Refusal.TheVariants.{NotInside}
-use Rattle.sgm_app.specs.Judge.{StopsFor, judged_for, certificate_of_judged}
+use Rattle.sgm_stages.specs.Judge.{StopsFor, judged_for}
+use Rattle.sgm_app.specs.Judge.{certificate_of_judged}
 use Rattle.sgm_app.specs.Stops.{survey_stop}
-use Rattle.sgm_app.specs.Refusals.{or_refused, ◌>>=◌, refusal_of, unless}
+use Rattle.sgm_stages.specs.Refusals.{or_refused, ◌>>=◌, unless}
+use Rattle.sgm_app.specs.Refusals.{refusal_of}
 use Rattle.sgm_app.specs.Certificates.{certificate_for, inside_refusal, is_inside}
-use Rattle.sgm_app.specs.declared.judge.Judged.{Judged}
-use Rattle.sgm_app.specs.declared.stops.TextsError.{TextsError}
-use Rattle.sgm_app.proofs.Steps.{goes_on, stops_on, stops_along}
+use Rattle.sgm_stages.specs.declared.judge.Judged.{Judged}
+use Rattle.sgm_stages.specs.declared.stops.TextsError.{TextsError}
+use Rattle.sgm_stages.proofs.Steps.{goes_on, stops_on, stops_along}
 
 -- ---- what comes after each step
 

@@ -22,21 +22,23 @@ use Rattle.sgm_outcome.specs.declared.outcome.Outcome.{Outcome}
 use Rattle.sgm_outcome.specs.declared.outcome.Outcome.TheVariants.{Done, Usage, Refused, ReadFault, WriteFault, NoMemory}
 use Rattle.sgm_grid.specs.Cells.{Cells}
 use Rattle.sgm_grid.specs.declared.grid_spec.GridSpec.{GridSpec}
-use Rattle.sgm_app.specs.Changing.{GridTexts, change_for}
-use Rattle.sgm_app.specs.Merging.{MergePlan, entry_for, merge_texts}
-use Rattle.sgm_app.specs.Readings.{grid_reading}
-use Rattle.sgm_app.specs.Texts.{Texts}
+use Rattle.sgm_stages.specs.Changing.{GridTexts, change_for}
+use Rattle.sgm_stages.specs.Merging.{MergePlan, entry_for, merge_texts}
+use Rattle.sgm_stages.specs.Readings.{grid_reading}
+use Rattle.sgm_stages.specs.Texts.{Texts}
 use Rattle.sgm_app.specs.Certificates.{certificate_for}
-use Rattle.sgm_app.specs.Outputs.{OutputFile, IsNamed, files_of, change_files_of, merge_files_of}
-use Rattle.sgm_app.specs.Verdict.{Verdict, usage, absent, refused, files, fetched, calib_fetched, most_bytes, pair_fetched, grids_fetched, merge_fetched, entries_fetched, merged_by, plan_carried_out, plan_of, texts_for, demo_for, unless_refused, calib_of, demoed, outputs_of, IsFiles}
+use Rattle.sgm_stages.specs.Outputs.{OutputFile, IsNamed, files_of, change_files_of, merge_files_of}
+use Rattle.sgm_stages.specs.Verdict.{Verdict, usage, absent, refused, files, fetched, calib_fetched, most_bytes, pair_fetched, grids_fetched, merge_fetched, entries_fetched, merged_by, plan_carried_out, plan_of, unless_refused, calib_of, outputs_of, IsFiles}
+use Rattle.sgm_app.specs.Verdict.{texts_for, demo_for, demoed}
 use Rattle.sgm_app.specs.Calls.{TraceCallsFor, ReadCallsFor}
-use Rattle.sgm_app.specs.Ends.{FilesStand, NoneBefore, order_of, ShownBy, Faults, ReadRose, FileRose, CountsShow, OutCountsShow, RunCounts, run_names, told_by}
-use Rattle.sgm_app.specs.Deliver.{FilesPut}
+use Rattle.sgm_stages.specs.Ends.{FilesStand, NoneBefore, order_of, ShownBy, Faults, ReadRose, FileRose, CountsShow, OutCountsShow, RunCounts, run_names, told_by}
+use Rattle.sgm_stages.proofs.Alone.{SummaryAlone}
 use Rattle.sgm_app.specs.Complete.{NoReadRose, OnlyReadRose, NoWriteRose, IsUnlessMemory, RunComplete, IsNoFileFault, NoneRose}
-use Rattle.sgm_app.proofs.Holding.{Distinct, in_none}
-use Rattle.sgm_app.proofs.FirstAbsent.{IsFirstAbsent, first_absent, first_absent_entry, first_absent_grid, of_a_trace, same_order}
-use Rattle.sgm_app.proofs.Named.{all_named, all_distinct, all_change_named, all_change_distinct, all_merge_named, all_merge_distinct}
-use Rattle.sgm_app.proofs.VerdictLaws.{present_matched, present_traced, present_changed}
+use Rattle.sgm_stages.proofs.Holding.{Distinct, in_none}
+use Rattle.sgm_stages.proofs.FirstAbsent.{IsFirstAbsent, first_absent, first_absent_entry, first_absent_grid, of_a_trace, same_order}
+use Rattle.sgm_stages.proofs.Named.{all_named, all_distinct, all_change_named, all_change_distinct, all_merge_named, all_merge_distinct}
+use Rattle.sgm_stages.proofs.VerdictLaws.{present_changed}
+use Rattle.sgm_app.proofs.VerdictLaws.{present_matched, present_traced}
 
 -- the files of a verdict have the names of their outputs, which differ
 pub record IsProper (names : FileNames) (v : Verdict) : Type 0 where
@@ -241,24 +243,6 @@ decided a b = elim (bytes_eq a b) as (λ t. bytes_eq a b ≡ t → (a ≡ b) ⊎
 alone_files : (wanted : Result (List ℕ) Refusal) → outputs_of (unless_refused wanted (λ summary. files [] summary)) ≡ []
 alone_files (Err refusal) = refl
 alone_files (Ok summary) = refl
-
--- a fault of writing is one of the summary
-abbrev pub SummaryAlone : Outcome → Type 0
-SummaryAlone (WriteFault output) = output ≡ Summary
-SummaryAlone Done = Unit {0}
-SummaryAlone (Usage fault) = Unit {0}
-SummaryAlone (Refused refusal) = Unit {0}
-SummaryAlone (ReadFault i) = Unit {0}
-SummaryAlone NoMemory = Unit {0}
-
--- a run that touches no file, and is to write none, leaves them as they should stand
-pub none_put : (v : Verdict) (outcome : Outcome) (old : Held) → outputs_of v ≡ [] → SummaryAlone outcome → FilesPut outcome v old old
-none_put v Done old none only = rw none refl
-none_put v (Usage fault) old none only = refl
-none_put v (Refused refusal) old none only = refl
-none_put v (ReadFault i) old none only = refl
-none_put v (WriteFault output) old none only = inr (only, rw none refl)
-none_put v NoMemory old none only = inl refl
 
 -- a demo writes no file
 pub demo_outputs : (number : ℕ) (refine : Refining) (v : Verdict) → demoed number refine ≡ v → outputs_of v ≡ []

@@ -18,10 +18,12 @@ use Rattle.sgm_words.specs.declared.options.Options.TheVariants as options
 use Rattle.sgm_words.specs.declared.files.Input.{Input}
 use Rattle.sgm_words.specs.declared.files.Input.TheVariants as input
 use Rattle.sgm_list.specs.Names.{names_reading}
-use Rattle.sgm_app.specs.Merging.{plan_for}
-use Rattle.sgm_app.specs.Readings.{Readings, IsReading, AreReadings}
-use Rattle.sgm_app.specs.Verdict.{Verdict, usage, pair_fetched, grids_fetched, merge_fetched, matched, traced, changed, plan_carried_out, plan_of, demoed, fetched, calib_fetched, calib_of}
-use Rattle.sgm_app.specs.Calls.{PairCallsFor, MergeCallsFor, ReadCallsFor, CallsFor}
+use Rattle.sgm_stages.specs.Merging.{plan_for}
+use Rattle.sgm_stages.specs.Readings.{Readings, IsReading, AreReadings}
+use Rattle.sgm_stages.specs.Verdict.{Verdict, usage, pair_fetched, grids_fetched, merge_fetched, changed, plan_carried_out, plan_of, fetched, calib_fetched, calib_of}
+use Rattle.sgm_app.specs.Verdict.{matched, traced, demoed}
+use Rattle.sgm_stages.specs.Calls.{MergeCallsFor}
+use Rattle.sgm_app.specs.Calls.{PairCallsFor, ReadCallsFor, CallsFor}
 
 -- ---- some verdict
 

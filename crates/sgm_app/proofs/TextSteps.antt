@@ -8,15 +8,18 @@ use Rattle.sgm_calib.specs.declared.keys.CalibFault.{CalibFault}
 use Rattle.sgm_base.specs.Refining.{Refining}
 use Rattle.sgm_job.specs.Survey.{Survey, surveyed}
 use Rattle.sgm_outcome.specs.declared.outcome.Refusal.{Refusal}
-use Rattle.sgm_app.specs.Pair.{pair_image}
-use Rattle.sgm_app.specs.Judge.{StopsFor, judged_for, texts_of_judged, demo_of_judged}
-use Rattle.sgm_app.specs.Texts.{Texts, texts_of, demo_text}
-use Rattle.sgm_app.specs.Refusals.{or_refused, ◌>>=◌, refusal_of}
+use Rattle.sgm_stages.specs.Pair.{pair_image}
+use Rattle.sgm_stages.specs.Judge.{StopsFor, judged_for}
+use Rattle.sgm_app.specs.Judge.{texts_of_judged, demo_of_judged}
+use Rattle.sgm_stages.specs.Texts.{Texts, demo_text}
+use Rattle.sgm_app.specs.Texts.{texts_of}
+use Rattle.sgm_stages.specs.Refusals.{or_refused, ◌>>=◌}
+use Rattle.sgm_app.specs.Refusals.{refusal_of}
 use Rattle.sgm_app.specs.Verdict.{texts_for, demo_for}
 use Rattle.sgm_app.specs.declared.demo.TheConstants.{DEMO_WIDTH, DEMO_HEIGHT}
-use Rattle.sgm_app.specs.declared.judge.Judged.{Judged}
-use Rattle.sgm_app.specs.declared.stops.TextsError.{TextsError}
-use Rattle.sgm_app.proofs.Steps.{goes_on, stops_on, stops_along}
+use Rattle.sgm_stages.specs.declared.judge.Judged.{Judged}
+use Rattle.sgm_stages.specs.declared.stops.TextsError.{TextsError}
+use Rattle.sgm_stages.proofs.Steps.{goes_on, stops_on, stops_along}
 
 -- ---- what comes after each step
 

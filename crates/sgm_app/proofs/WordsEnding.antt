@@ -9,12 +9,13 @@ use Rattle.sgm_words.specs.declared.usage.UsageFault.{UsageFault}
 use Rattle.sgm_outcome.specs.declared.outcome.Outcome.{Outcome}
 use Rattle.sgm_outcome.specs.declared.outcome.Outcome.TheVariants as outcome
 use Rattle.sgm_app.specs.Calls.{ReadCallsFor}
-use Rattle.sgm_app.specs.Ends.{OutUntouched, RunCounts, RunWriting, run_names}
-use Rattle.sgm_app.specs.Moments.{Moment, told_at}
-use Rattle.sgm_app.specs.RunEnds.{OptionsCallFor, RunEnds, VerdictEnds, WordsEnd}
-use Rattle.sgm_app.specs.Unfinished.{LeavesUnfinished, RunUnfinished, UnfinishedStands}
-use Rattle.sgm_app.specs.Verdict.{Verdict, usage}
-use Rattle.sgm_app.proofs.Ending.{same_faults}
+use Rattle.sgm_stages.specs.Ends.{OutUntouched, RunCounts, RunWriting, run_names}
+use Rattle.sgm_stages.specs.Moments.{Moment, told_at}
+use Rattle.sgm_stages.specs.RunEnds.{RunEnds, VerdictEnds}
+use Rattle.sgm_app.specs.RunEnds.{OptionsCallFor, WordsEnd}
+use Rattle.sgm_stages.specs.Unfinished.{LeavesUnfinished, RunUnfinished, UnfinishedStands}
+use Rattle.sgm_stages.specs.Verdict.{Verdict, usage}
+use Rattle.sgm_stages.proofs.Ending.{same_faults}
 
 -- ---- from the end of a command
 

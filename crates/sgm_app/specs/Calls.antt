@@ -7,17 +7,18 @@ use Rattle.sgm_energy.specs.declared.dir.Dir.{Dir}
 use Rattle.sgm_base.specs.Refining.{Refining}
 use Rattle.sgm_calib.specs.Calibration.{Calibration}
 use Rattle.sgm_calib.specs.declared.keys.CalibFault.{CalibFault}
-use Rattle.sgm_calib.specs.Read.{Reads as ReadsCalib}
-use Rattle.sgm_words.specs.Operands.{Operands, operands, ChangeOperands, change_operands}
-use Rattle.sgm_words.specs.Operands.{MergeOperands, merge_operands}
+use Rattle.sgm_words.specs.Operands.{Operands, operands, change_operands}
+use Rattle.sgm_words.specs.Operands.{merge_operands}
 use Rattle.sgm_words.specs.Words.{read_of}
 use Rattle.sgm_words.specs.declared.options.Options.{Options}
 use Rattle.sgm_words.specs.declared.options.Options.TheVariants as options
 use Rattle.sgm_words.specs.declared.usage.UsageFault.{UsageFault}
-use Rattle.sgm_app.specs.Readings.{Readings, AreReadings, IsReading}
-use Rattle.sgm_app.specs.Verdict.{Verdict, usage, pair_fetched, grids_fetched, merge_fetched}
-use Rattle.sgm_app.specs.Verdict.{calib_of, plan_of, matched, traced, changed, plan_carried_out}
+use Rattle.sgm_stages.specs.Readings.{Readings, AreReadings}
+use Rattle.sgm_stages.specs.Verdict.{Verdict, usage, pair_fetched}
+use Rattle.sgm_stages.specs.Verdict.{calib_of}
+use Rattle.sgm_app.specs.Verdict.{matched, traced}
 use Rattle.sgm_app.specs.Verdict.{demoed}
+use Rattle.sgm_stages.specs.Calls.{ChangeCallsFor, MergeCallsFor}
 
 -- A match or a trace of these operands calls for the verdict: it is that of some readings of the
 -- inputs, from which `judged` says what they call for.
@@ -37,16 +38,6 @@ MatchCallsFor asked refine held v = PairCallsFor asked (matched asked.out refine
 -- verdict
 abbrev pub TraceCallsFor : Operands → Dir → ℕ → ℕ → ℕ → Held → Verdict → Type 0
 TraceCallsFor asked dir x y d held v = PairCallsFor asked (traced dir x y d) held v
-
--- a change of these operands calls for the verdict
-abbrev pub ChangeCallsFor : ChangeOperands → Held → Verdict → Type 0
-ChangeCallsFor asked held v = grids_fetched asked held (changed asked held) ≡ v
-
--- a merge of these operands calls for the verdict: it is that of some reading of the calibration
-pub record MergeCallsFor (asked : MergeOperands) (held : Held) (v : Verdict) : Type 0 where
-  pub calib : Result Calibration CalibFault
-  pub is_reading : IsReading ReadsCalib (held asked.calib) calib
-  pub is : merge_fetched asked held (plan_carried_out asked.out held (plan_of asked held calib)) ≡ v
 
 -- the words, as they are read, call for the verdict
 abbrev pub ReadCallsFor : Result Options UsageFault → List (List ℕ) → Held → Verdict → Type 0

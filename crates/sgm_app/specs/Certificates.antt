@@ -12,7 +12,8 @@ use Rattle.sgm_calib.specs.declared.keys.CalibFault.{CalibFault}
 use Rattle.sgm_job.specs.Survey.{prepared}
 use Rattle.sgm_outcome.specs.declared.outcome.Refusal.{Refusal}
 use Rattle.sgm_outcome.specs.declared.outcome.Refusal.TheVariants.{Pgm, Calib, NotInside}
-use Rattle.sgm_app.specs.Refusals.{or_refused, ◌>>=◌, refusal_of, unless}
+use Rattle.sgm_stages.specs.Refusals.{or_refused, ◌>>=◌, unless}
+use Rattle.sgm_app.specs.Refusals.{refusal_of}
 
 -- the pixel is one of the image, and the index is below the count
 abbrev pub is_inside : Problem → ℕ → ℕ → ℕ → Bool

@@ -11,9 +11,9 @@ use Rattle.sgm_outcome.specs.declared.outcome.Refusal.{Refusal}
 use Rattle.sgm_outcome.specs.declared.outcome.Outcome.{Outcome}
 use Rattle.sgm_outcome.specs.declared.outcome.Outcome.TheVariants.{Done, Usage, Refused, ReadFault}
 use Rattle.sgm_outcome.specs.declared.outcome.Outcome.TheVariants.{WriteFault, NoMemory}
-use Rattle.sgm_app.specs.Outputs.{OutputFile}
-use Rattle.sgm_app.specs.Verdict.{Verdict, absent, refused, IsFiles, outputs_of}
-use Rattle.sgm_app.specs.Ends.{Faults, run_names}
+use Rattle.sgm_stages.specs.Outputs.{OutputFile}
+use Rattle.sgm_stages.specs.Verdict.{Verdict, absent, refused, IsFiles, outputs_of}
+use Rattle.sgm_stages.specs.Ends.{Faults, run_names}
 
 -- no count of reading an input's name rose
 abbrev pub NoReadRose : FileNames → Faults → Faults → Type 0

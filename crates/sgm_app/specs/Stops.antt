@@ -1,31 +1,10 @@
--- The outcome that a stop of a stage ends the run with.
+-- The stop that a survey without an answer makes.
 use Rattle.sgm_job.specs.declared.job.SurveyError.{SurveyError}
 use Rattle.sgm_job.specs.declared.job.SurveyError.TheVariants as survey
-use Rattle.sgm_outcome.specs.declared.outcome.Refusal.TheVariants.{TooLong}
-use Rattle.sgm_outcome.specs.declared.outcome.Outcome.{Outcome}
-use Rattle.sgm_outcome.specs.declared.outcome.Outcome.TheVariants as outcome
 use Rattle.sgm_app.specs.Refusals.{refusal_of}
-use Rattle.sgm_app.specs.declared.stops.FetchStop.{FetchStop}
-use Rattle.sgm_app.specs.declared.stops.FetchStop.TheVariants as fetch
-use Rattle.sgm_app.specs.declared.stops.TextsError.{TextsError}
-use Rattle.sgm_app.specs.declared.stops.TextsError.TheVariants as texts
-use Rattle.sgm_app.specs.declared.stops.WriteStop.{WriteStop}
-use Rattle.sgm_app.specs.declared.stops.WriteStop.TheVariants as write
+use Rattle.sgm_stages.specs.declared.stops.TextsError.{TextsError}
+use Rattle.sgm_stages.specs.declared.stops.TextsError.TheVariants as texts
 
-abbrev pub fetch_outcome : FetchStop → Outcome
-fetch_outcome (fetch.Unread input) = outcome.ReadFault input
-fetch_outcome (fetch.TooLong input) = outcome.Refused (TooLong input)
-fetch_outcome fetch.NoMemory = outcome.NoMemory
-
-abbrev pub texts_outcome : TextsError → Outcome
-texts_outcome (texts.Refused refusal) = outcome.Refused refusal
-texts_outcome texts.NoMemory = outcome.NoMemory
-
-abbrev pub write_outcome : WriteStop → Outcome
-write_outcome (write.Unwritten output) = outcome.WriteFault output
-write_outcome write.NoMemory = outcome.NoMemory
-
--- the stop that a survey without an answer makes
 abbrev pub survey_stop : SurveyError → TextsError
 survey_stop (survey.Fault fault) = texts.Refused (refusal_of fault)
 survey_stop survey.NoMemory = texts.NoMemory

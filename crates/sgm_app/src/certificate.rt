@@ -8,15 +8,16 @@ ghost use Rattle.sgm_strip.specs.Scenes.{problem_of};
 ghost use Rattle.sgm_trace.specs.Texts.{trace_text};
 ghost use Rattle.sgm_calib.specs.Calibration.{Calibration};
 ghost use Rattle.sgm_calib.specs.declared.keys.CalibFault.{CalibFault};
-ghost use Rattle.sgm_app.specs.Judge.{CalibReads, StopsFor, certificate_of_judged};
-ghost use Rattle.sgm_app.specs.Refusals.{unless};
+ghost use Rattle.sgm_stages.specs.Judge.{CalibReads, StopsFor};
+ghost use Rattle.sgm_app.specs.Judge.{certificate_of_judged};
+ghost use Rattle.sgm_stages.specs.Refusals.{unless};
 ghost use Rattle.sgm_app.specs.Certificates.{certificate_for, inside_refusal, is_inside};
 
 use crate::Refusal;
-use crate::judge::{Judged, judge_pair};
-use crate::stops::TextsError;
+use crate::refused::survey_stop;
 use sgm_energy::Dir;
 use sgm_job::prepare;
+use sgm_stages::{Judged, TextsError, judge_pair};
 use sgm_strip::Scene;
 use sgm_trace::{trace, write_trace};
 use std::alloc::Global;
@@ -65,7 +66,7 @@ fn judged_certificate(alloc: Global, judged: &Judged, at: TracePlace) -> Result<
 {
     match prepare(alloc, &judged.left, &judged.right, &judged.calib) {
         Ok(scene) => certificate_of(alloc, &scene, at),
-        Err(error) => Err(TextsError::from(error)),
+        Err(error) => Err(survey_stop(error)),
     }
 }
 

@@ -1,8 +1,8 @@
 ghost use Rattle.sgm_words.specs.Ranges.{IsStrips, IsWorkers};
 
-use crate::judge::Judged;
 use sgm_base::Refine;
 use sgm_job::{SurveyError, Surveyed, survey_refined};
+use sgm_stages::Judged;
 use sgm_work::Gate;
 use std::alloc::Global;
 use std::thread::Threads;

@@ -1,19 +1,18 @@
 //! The survey of a generated pair.
 ghost use Rattle.std.specs.Prelude.{◌≡◌, Ok, IsTrue, MatchResult, string_bytes};
 ghost use Rattle.sgm_io.specs.Counts.{Counts};
-ghost use Rattle.sgm_app.specs.Judge.{StopsFor, demo_of_judged};
-ghost use Rattle.sgm_app.specs.Ends.{ShownBy, OutStands, OutCountsShow, faults};
+ghost use Rattle.sgm_stages.specs.Judge.{StopsFor};
+ghost use Rattle.sgm_app.specs.Judge.{demo_of_judged};
+ghost use Rattle.sgm_stages.specs.Ends.{ShownBy, OutStands, OutCountsShow, faults};
 ghost use Rattle.sgm_app.specs.Verdict.{demo_for, demoed};
 
+use crate::Outcome;
 use crate::crew::Crew;
-use crate::delivery::deliver_summary;
-use crate::judge::Judged;
-use crate::made::demo_text;
-use crate::stops::TextsError;
-use crate::{Outcome, pair};
+use crate::refused::survey_stop;
 use sgm_base::{Refine, Size};
 use sgm_calib::Calib;
 use sgm_io::Sink;
+use sgm_stages::{Judged, TextsError, deliver_summary, demo_text, pair};
 use sgm_work::Gate;
 use std::thread::Threads;
 
@@ -35,7 +34,7 @@ fn judged_summary<R: Threads + Sync, G: Gate + Sync>(
 {
     let surveyed = match crew.survey(judged, refine) {
         Ok(surveyed) => surveyed,
-        Err(error) => return Err(TextsError::from(error)),
+        Err(error) => return Err(survey_stop(error)),
     };
     match demo_text(crew.alloc, &surveyed.disp) {
         Ok(summary) => Ok(summary),

@@ -2,7 +2,7 @@
 ghost use Rattle.std.specs.Prelude.{◌≡◌, ℕ, List, IsTrue};
 ghost use Rattle.sgm_io.specs.Held.{Held};
 ghost use Rattle.sgm_app.specs.Calls.{CallsFor};
-ghost use Rattle.sgm_app.specs.Verdict.{Verdict};
+ghost use Rattle.sgm_stages.specs.Verdict.{Verdict};
 
 use sgm_io::Shelf;
 

@@ -6,15 +6,15 @@ ghost use Rattle.sgm_pgm.specs.declared.fault.PgmFault.{PgmFault};
 ghost use Rattle.sgm_calib.specs.Calibration.{Calibration};
 ghost use Rattle.sgm_calib.specs.declared.keys.CalibFault.{CalibFault};
 ghost use Rattle.sgm_words.specs.Ranges.{IsStrips, IsWorkers};
-ghost use Rattle.sgm_app.specs.Judge.{CalibReads, StopsFor, texts_of_judged};
-ghost use Rattle.sgm_app.specs.Made.{texts_in};
+ghost use Rattle.sgm_stages.specs.Judge.{CalibReads, StopsFor};
+ghost use Rattle.sgm_app.specs.Judge.{texts_of_judged};
+ghost use Rattle.sgm_stages.specs.Made.{texts_in};
 ghost use Rattle.sgm_app.specs.Verdict.{texts_for};
 
 use crate::crew::Crew;
-use crate::judge::{Judged, judge_pair};
-use crate::made::MadeTexts;
-use crate::stops::TextsError;
+use crate::refused::survey_stop;
 use sgm_base::Refine;
+use sgm_stages::{Judged, MadeTexts, TextsError, judge_pair};
 use sgm_work::Gate;
 use std::alloc::Global;
 use std::thread::Threads;
@@ -66,9 +66,15 @@ fn judged_texts<R: Threads + Sync, G: Gate + Sync>(
 {
     let surveyed = match crew.survey(judged, refine) {
         Ok(surveyed) => surveyed,
-        Err(error) => return Err(TextsError::from(error)),
+        Err(error) => return Err(survey_stop(error)),
     };
-    match MadeTexts::of(crew.alloc, &judged.calib, &surveyed) {
+    match MadeTexts::of(
+        crew.alloc,
+        &judged.calib,
+        &surveyed.disp,
+        &surveyed.grid,
+        &surveyed.tallies,
+    ) {
         Ok(made) => Ok(made),
         Err(_) => Err(TextsError::NoMemory),
     }

@@ -1,14 +1,13 @@
 //! The certificate of an index at a pixel, from the words to what is written.
 ghost use Rattle.sgm_words.specs.Operands.{of_trace};
 ghost use Rattle.sgm_app.specs.Calls.{TraceCallsFor};
-ghost use Rattle.sgm_app.specs.Moments.{Keeps, moment};
-ghost use Rattle.sgm_app.specs.RunEnds.{RunEnds};
+ghost use Rattle.sgm_stages.specs.Moments.{Keeps, moment};
+ghost use Rattle.sgm_stages.specs.RunEnds.{RunEnds};
 
 use crate::Outcome;
 use crate::certificate::{TracePlace, certificate};
-use crate::delivery::deliver_summary;
-use crate::gathering::gather;
 use sgm_io::{Shelf, Sink};
+use sgm_stages::{deliver_summary, gather};
 use sgm_words::OperandWords;
 use std::alloc::Global;
 

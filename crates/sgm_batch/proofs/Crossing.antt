@@ -3,11 +3,11 @@ use Rattle.std.proofs.Crossing.{crosses}
 use Rattle.atomic_table.proofs.shared.Seat.TheSendSync as seat
 use denote.Ref.{NamedLft}
 use denote.Param.Send.{IsSend, IsSync, sendable}
-use Rattle.sgm_app.specs.contracts.made.MadeTexts as made
-use Rattle.sgm_app.specs.contracts.stops.TextsError as error
+use Rattle.sgm_stages.specs.contracts.made.MadeTexts as made
+use Rattle.sgm_stages.specs.contracts.stops.TextsError as error
 use Rattle.sgm_draws.proofs.Crossing.{draws_sync}
 use Rattle.sgm_queue.proofs.Crossing.{queue_sync}
-use Rattle.sgm_app.specs.contracts.gathering.Inputs as inputs
+use Rattle.sgm_stages.specs.contracts.gathering.Inputs as inputs
 use Rattle.sgm_batch.specs.contracts.piece.Piece as piece
 use Rattle.sgm_batch.specs.contracts.worker.Worker as worker
 use Rattle.sgm_batch.specs.contracts.worker.Job as job

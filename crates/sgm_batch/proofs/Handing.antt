@@ -10,7 +10,7 @@ use Rattle.sgm_draws.specs.Tickets.{IsTicketOf}
 use Rattle.sgm_queue.specs.Queues.{IsQueuePassOf, log_of}
 use Rattle.sgm_queue.specs.Logs.{after_push}
 use Rattle.sgm_queue.specs.declared.log.Log.{Log}
-use Rattle.sgm_app.specs.Inputs.{InputBytes}
+use Rattle.sgm_stages.specs.Inputs.{InputBytes}
 use Rattle.sgm_batch.specs.Pieces.{IsPieceOf, PieceParts}
 use Rattle.sgm_batch.specs.Batches.{ArePlaced, Covers, HasPiece, IsAtWork, is_of}
 use Rattle.sgm_batch.specs.declared.worker.Worker.{Worker}

@@ -10,7 +10,7 @@ use Rattle.std.proofs.lemmas.Option.{slice_get-map, slice_get_past, slice_get_re
 use Rattle.sgm_queue.specs.Queues.{HasBoth, IsQueuePassOf, log_of}
 use Rattle.sgm_queue.specs.Logs.{after_pop}
 use Rattle.sgm_queue.specs.declared.log.Log.{Log}
-use Rattle.sgm_app.specs.Inputs.{InputBytes}
+use Rattle.sgm_stages.specs.Inputs.{InputBytes}
 use Rattle.sgm_batch.specs.Pieces.{IsPieceOf, PieceParts}
 use Rattle.sgm_batch.specs.Batches.{AreAll, ArePlaced, HasEach, IsAtWork, chosen, is_of}
 use Rattle.sgm_batch.specs.declared.worker.Worker.{Worker}

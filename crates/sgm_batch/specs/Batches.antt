@@ -5,7 +5,7 @@ use Rattle.std.specs.List.{sum_by}
 use Rattle.sgm_draws.specs.Numbers.{IsEachOnce, times}
 use Rattle.sgm_draws.specs.Tickets.{HasAll, IsTicketOf, count_of, parts_of, tickets_of}
 use Rattle.sgm_queue.specs.Queues.{IsQueuePassOf, log_of}
-use Rattle.sgm_app.specs.Inputs.{InputBytes}
+use Rattle.sgm_stages.specs.Inputs.{InputBytes}
 use Rattle.sgm_batch.specs.Pieces.{IsPieceOf, PieceParts}
 use Rattle.sgm_batch.specs.declared.worker.Worker.{Worker}
 use Rattle.sgm_batch.specs.declared.worker.Job.{Job}

@@ -6,11 +6,11 @@ use Rattle.sgm_pgm.specs.declared.fault.PgmFault.{PgmFault}
 use Rattle.sgm_calib.specs.Calibration.{Calibration}
 use Rattle.sgm_calib.specs.declared.keys.CalibFault.{CalibFault}
 use Rattle.sgm_base.specs.Refining.{plain}
-use Rattle.sgm_app.specs.declared.made.MadeTexts.{MadeTexts}
-use Rattle.sgm_app.specs.declared.stops.TextsError.{TextsError}
-use Rattle.sgm_app.specs.Inputs.{InputBytes}
-use Rattle.sgm_app.specs.Judge.{CalibReads, StopsFor}
-use Rattle.sgm_app.specs.Made.{texts_in}
+use Rattle.sgm_stages.specs.declared.made.MadeTexts.{MadeTexts}
+use Rattle.sgm_stages.specs.declared.stops.TextsError.{TextsError}
+use Rattle.sgm_stages.specs.Inputs.{InputBytes}
+use Rattle.sgm_stages.specs.Judge.{CalibReads, StopsFor}
+use Rattle.sgm_stages.specs.Made.{texts_in}
 use Rattle.sgm_app.specs.Verdict.{texts_for}
 
 -- the texts are those that the inputs call for where nothing is removed or filled, whatever their

@@ -5,16 +5,16 @@ use Rattle.std.proofs.lemmas.List.Elements.{All-append}
 use Rattle.std.proofs.lemmas.Option.{slice_get_within}
 use Rattle.sgm_io.specs.Held.{Held}
 use Rattle.sgm_list.specs.Entries.{EntryNames}
-use Rattle.sgm_app.specs.Deliver.{after_files, FilesPut}
-use Rattle.sgm_app.specs.Ends.{Faults, OutStands, NoneBefore, order_of}
-use Rattle.sgm_app.specs.Stops.{write_outcome}
-use Rattle.sgm_app.specs.Verdict.{Verdict, refused, absent}
-use Rattle.sgm_app.specs.declared.made.MadeTexts.{MadeTexts}
-use Rattle.sgm_app.specs.declared.stops.TextsError.{TextsError}
-use Rattle.sgm_app.specs.declared.stops.TextsError.TheVariants.{Refused, NoMemory}
+use Rattle.sgm_stages.specs.Deliver.{after_files, FilesPut}
+use Rattle.sgm_stages.specs.Ends.{Faults, OutStands, NoneBefore, order_of}
+use Rattle.sgm_stages.specs.Stops.{write_outcome}
+use Rattle.sgm_stages.specs.Verdict.{Verdict, refused, absent}
+use Rattle.sgm_stages.specs.declared.made.MadeTexts.{MadeTexts}
+use Rattle.sgm_stages.specs.declared.stops.TextsError.{TextsError}
+use Rattle.sgm_stages.specs.declared.stops.TextsError.TheVariants.{Refused, NoMemory}
 use Rattle.sgm_words.specs.declared.files.Input.TheVariants.{Left}
-use Rattle.sgm_app.specs.declared.stops.WriteStop.{WriteStop}
-use Rattle.sgm_app.specs.declared.stops.WriteStop.TheVariants as stop
+use Rattle.sgm_stages.specs.declared.stops.WriteStop.{WriteStop}
+use Rattle.sgm_stages.specs.declared.stops.WriteStop.TheVariants as stop
 use Rattle.sgm_series.specs.Answers.{AreAnswers, AreAnswered, Answers, verdict_made}
 use Rattle.sgm_series.specs.Counted.{EntryShows, SeriesCounts, EntryCounts}
 use Rattle.sgm_series.specs.Ends.{EntriesShow, HadTurns, SeriesOut}

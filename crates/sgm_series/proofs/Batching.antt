@@ -9,11 +9,11 @@ use Rattle.sgm_io.specs.Held.{Held}
 use Rattle.sgm_list.specs.Entries.{EntryNames}
 use Rattle.sgm_outcome.specs.declared.outcome.Outcome.TheVariants as run
 use Rattle.sgm_outcome.specs.declared.outcome.Refusal.{Refusal}
-use Rattle.sgm_app.specs.Ends.{Faults, faults, CountsShow, NoneBefore, order_of}
-use Rattle.sgm_app.specs.Inputs.{InputBytes}
-use Rattle.sgm_app.specs.Verdict.{Verdict}
-use Rattle.sgm_app.specs.declared.made.MadeTexts.{MadeTexts}
-use Rattle.sgm_app.specs.declared.stops.TextsError.{TextsError}
+use Rattle.sgm_stages.specs.Ends.{Faults, faults, CountsShow, NoneBefore, order_of}
+use Rattle.sgm_stages.specs.Inputs.{InputBytes}
+use Rattle.sgm_stages.specs.Verdict.{Verdict}
+use Rattle.sgm_stages.specs.declared.made.MadeTexts.{MadeTexts}
+use Rattle.sgm_stages.specs.declared.stops.TextsError.{TextsError}
 use Rattle.sgm_series.specs.Plans.{AreVerdicts, EntryCallsFor, IsJudged, names_for}
 use Rattle.sgm_series.specs.Answers.{IsAnswerOf}
 use Rattle.sgm_series.specs.Batches.{AreInputsOf, AreInputsAt, IsBatch, IsFetched, IsReadable, HasEntry, PlaceShown, PlaceCounts}

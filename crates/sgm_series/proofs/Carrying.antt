@@ -4,8 +4,8 @@ use Rattle.sgm_io.specs.Held.{Held}
 use Rattle.sgm_list.specs.Entries.{EntryNames, entries_of}
 use Rattle.sgm_list.specs.declared.fault.ListFault.{ListFault}
 use Rattle.sgm_io.specs.Counts.{Counts}
-use Rattle.sgm_app.specs.Ends.{Faults, faults, SameFaults}
-use Rattle.sgm_app.specs.Verdict.{Verdict}
+use Rattle.sgm_stages.specs.Ends.{Faults, faults, SameFaults}
+use Rattle.sgm_stages.specs.Verdict.{Verdict}
 use Rattle.sgm_series.specs.Words.{ListWords, series_words}
 use Rattle.sgm_series.specs.Counted.{SeriesCounts}
 use Rattle.sgm_series.specs.Ends.{HadTurns, SeriesOut}

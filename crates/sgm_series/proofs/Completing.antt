@@ -15,10 +15,10 @@ use Rattle.sgm_words.specs.declared.files.Output.TheVariants.{Disparity, Heights
 use Rattle.sgm_outcome.specs.declared.outcome.Refusal.TheVariants.{TooLong}
 use Rattle.sgm_outcome.specs.declared.outcome.Outcome.TheVariants as run
 use Rattle.sgm_list.specs.Entries.{EntryNames}
-use Rattle.sgm_app.specs.Outputs.{OutputFile}
-use Rattle.sgm_app.specs.Verdict.{Verdict, IsFiles, usage, absent, refused, files, fetched, calib_fetched, most_bytes, pair_fetched, outputs_of}
-use Rattle.sgm_app.specs.Ends.{Faults, NoneBefore, order_of}
-use Rattle.sgm_app.proofs.FirstAbsent.{first_absent}
+use Rattle.sgm_stages.specs.Outputs.{OutputFile}
+use Rattle.sgm_stages.specs.Verdict.{Verdict, IsFiles, usage, absent, refused, files, fetched, calib_fetched, most_bytes, pair_fetched, outputs_of}
+use Rattle.sgm_stages.specs.Ends.{Faults, NoneBefore, order_of}
+use Rattle.sgm_stages.proofs.FirstAbsent.{first_absent}
 use Rattle.sgm_app.proofs.VerdictLaws.{present_matched}
 use Rattle.sgm_series.specs.Words.{ListWords, series_words}
 use Rattle.sgm_series.specs.Plans.{Plan, usage as misused, no_list, faulty, series, asked_for, names_for, EntryCallsFor, AreVerdicts, EntriesCallFor, ListCallsFor, ReadCallsFor, SeriesCallsFor, entries_in, is_refused, IsJudged}

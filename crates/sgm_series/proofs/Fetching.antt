@@ -7,16 +7,16 @@ use Rattle.sgm_words.specs.declared.files.Input.{Input}
 use Rattle.sgm_list.specs.Entries.{EntryNames}
 use Rattle.sgm_outcome.specs.declared.outcome.Refusal.{Refusal}
 use Rattle.sgm_outcome.specs.declared.outcome.Refusal.TheVariants.{TooLong}
-use Rattle.sgm_app.specs.Ends.{ShownBy, NoneBefore, Faults, CountsShow}
-use Rattle.sgm_app.specs.Gather.{AtHand, HavePair, StopCounts}
-use Rattle.sgm_app.specs.Inputs.{InputBytes}
-use Rattle.sgm_app.specs.Stops.{fetch_outcome}
-use Rattle.sgm_app.specs.Verdict.{Verdict, pair_fetched}
-use Rattle.sgm_app.specs.declared.made.MadeTexts.{MadeTexts}
-use Rattle.sgm_app.specs.declared.stops.FetchStop.{FetchStop}
-use Rattle.sgm_app.specs.declared.stops.FetchStop.TheVariants as fetch
-use Rattle.sgm_app.specs.declared.stops.TextsError.{TextsError}
-use Rattle.sgm_app.specs.declared.stops.TextsError.TheVariants.{Refused, NoMemory}
+use Rattle.sgm_stages.specs.Ends.{ShownBy, NoneBefore, Faults, CountsShow}
+use Rattle.sgm_stages.specs.Gather.{AtHand, HavePair, StopCounts}
+use Rattle.sgm_stages.specs.Inputs.{InputBytes}
+use Rattle.sgm_stages.specs.Stops.{fetch_outcome}
+use Rattle.sgm_stages.specs.Verdict.{Verdict, pair_fetched}
+use Rattle.sgm_stages.specs.declared.made.MadeTexts.{MadeTexts}
+use Rattle.sgm_stages.specs.declared.stops.FetchStop.{FetchStop}
+use Rattle.sgm_stages.specs.declared.stops.FetchStop.TheVariants as fetch
+use Rattle.sgm_stages.specs.declared.stops.TextsError.{TextsError}
+use Rattle.sgm_stages.specs.declared.stops.TextsError.TheVariants.{Refused, NoMemory}
 use Rattle.sgm_app.proofs.Answering.{GoesOn, VerdictIs, made_is, fetch_shown, judged}
 use Rattle.sgm_series.specs.Plans.{asked_for, names_for, EntryCallsFor, IsJudged}
 use Rattle.sgm_series.specs.Answers.{Answers, IsAnswerOf}

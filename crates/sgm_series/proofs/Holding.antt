@@ -5,11 +5,11 @@ use Rattle.sgm_io.specs.Held.{Held, put}
 use Rattle.sgm_outcome.specs.declared.outcome.Outcome.{Outcome}
 use Rattle.sgm_list.specs.Entries.{EntryNames}
 use Rattle.sgm_list.specs.Clashes.{first_clash}
-use Rattle.sgm_app.specs.Outputs.{OutputFile, is_named}
-use Rattle.sgm_app.specs.Verdict.{Verdict, outputs_of}
-use Rattle.sgm_app.specs.Deliver.{after_files, FilesPut}
-use Rattle.sgm_app.specs.Ends.{FilesStand}
-use Rattle.sgm_app.proofs.Holding.{Distinct, hold, stand, named-append, or_left}
+use Rattle.sgm_stages.specs.Outputs.{OutputFile, is_named}
+use Rattle.sgm_stages.specs.Verdict.{Verdict, outputs_of}
+use Rattle.sgm_stages.specs.Deliver.{after_files, FilesPut}
+use Rattle.sgm_stages.specs.Ends.{FilesStand}
+use Rattle.sgm_stages.proofs.Holding.{Distinct, hold, stand, named-append, or_left}
 use Rattle.sgm_series.specs.Plans.{EntryCallsFor, AreVerdicts}
 use Rattle.sgm_series.specs.Turns.{files_for}
 use Rattle.sgm_series.specs.Ends.{HoldTurns, HoldStop}

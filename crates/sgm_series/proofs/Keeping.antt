@@ -15,12 +15,12 @@ use Rattle.sgm_words.specs.Operands.{Operands, is_plain}
 use Rattle.sgm_words.specs.declared.files.Input.TheVariants as input
 use Rattle.sgm_list.specs.Entries.{EntryNames}
 use Rattle.sgm_list.specs.Clashes.{is_output_of, is_output, first_clash}
-use Rattle.sgm_app.specs.Readings.{IsReading}
-use Rattle.sgm_app.specs.Outputs.{OutputFile, is_named}
-use Rattle.sgm_app.specs.Verdict.{Verdict, fetched, calib_fetched, pair_fetched, calib_of, outputs_of}
+use Rattle.sgm_stages.specs.Readings.{IsReading}
+use Rattle.sgm_stages.specs.Outputs.{OutputFile, is_named}
+use Rattle.sgm_stages.specs.Verdict.{Verdict, fetched, calib_fetched, pair_fetched, calib_of, outputs_of}
 use Rattle.sgm_app.specs.Calls.{PairCallsFor}
-use Rattle.sgm_app.specs.Deliver.{after_files}
-use Rattle.sgm_app.proofs.Holding.{others_stay}
+use Rattle.sgm_stages.specs.Deliver.{after_files}
+use Rattle.sgm_stages.proofs.Holding.{others_stay}
 use Rattle.sgm_series.specs.Plans.{asked_for, EntryCallsFor, AreVerdicts}
 use Rattle.sgm_series.specs.Turns.{files_for}
 use Rattle.sgm_series.proofs.Places.{of_take, in_flat, any_true, is_false}

@@ -7,13 +7,13 @@ use Rattle.std.proofs.Math.Seq.{take-add}
 use Rattle.sgm_io.specs.Unfinished.{NameSet}
 use Rattle.sgm_words.specs.declared.files.Output.{Output}
 use Rattle.sgm_list.specs.Entries.{EntryNames}
-use Rattle.sgm_app.specs.Ends.{OutStands}
-use Rattle.sgm_app.specs.Outputs.{OutputFile}
-use Rattle.sgm_app.specs.Stops.{write_outcome}
-use Rattle.sgm_app.specs.Unfinished.{AreFinished}
-use Rattle.sgm_app.specs.Verdict.{Verdict, outputs_of}
-use Rattle.sgm_app.specs.declared.stops.WriteStop.{WriteStop}
-use Rattle.sgm_app.specs.declared.stops.WriteStop.TheVariants as stop
+use Rattle.sgm_stages.specs.Ends.{OutStands}
+use Rattle.sgm_stages.specs.Outputs.{OutputFile}
+use Rattle.sgm_stages.specs.Stops.{write_outcome}
+use Rattle.sgm_stages.specs.Unfinished.{AreFinished}
+use Rattle.sgm_stages.specs.Verdict.{Verdict, outputs_of}
+use Rattle.sgm_stages.specs.declared.stops.WriteStop.{WriteStop}
+use Rattle.sgm_stages.specs.declared.stops.WriteStop.TheVariants as stop
 use Rattle.sgm_series.specs.Ends.{SeriesUntouched}
 use Rattle.sgm_series.specs.Stands.{IsListOutcome, batch_outcome, outcome_for, stop_outcome}
 use Rattle.sgm_series.specs.Turned.{IsLeftAt, OutTurned, UnfinishedTurned}

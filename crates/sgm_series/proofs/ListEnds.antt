@@ -15,7 +15,7 @@ use Rattle.sgm_base.specs.declared.limits.TheConstants.{MAX_LIST_BYTES}
 use Rattle.sgm_list.specs.declared.limits.TheConstants.{MAX_ENTRIES}
 use Rattle.sgm_list.specs.Entries.{entries_of}
 use Rattle.sgm_list.specs.Faults.{IsFault, clash_fault, count_fault, length_fault, line_fault, list_fault, text_fault}
-use Rattle.sgm_app.specs.Ends.{Faults, SameFaults, faults}
+use Rattle.sgm_stages.specs.Ends.{Faults, SameFaults, faults}
 use Rattle.sgm_series.specs.Counted.{SeriesCounts}
 use Rattle.sgm_series.specs.Stands.{IsListEnd, IsListOutcome, unfetched_outcome, unlisted_outcome}
 

@@ -5,16 +5,16 @@ use Rattle.std.proofs.lemmas.List.{take_all}
 use Rattle.sgm_io.specs.declared.shelf.Shelf as shelf
 use Rattle.sgm_io.specs.declared.sink.Sink as sink
 use Rattle.sgm_list.specs.Entries.{EntryNames}
-use Rattle.sgm_app.specs.Deliver.{after_files}
-use Rattle.sgm_app.specs.Ends.{Faults, SameFaults, faults_at, shelf_faults}
-use Rattle.sgm_app.specs.Moments.{Keeps}
-use Rattle.sgm_app.specs.Unfinished.{AreFinished}
-use Rattle.sgm_app.specs.Verdict.{Verdict}
-use Rattle.sgm_app.specs.declared.made.MadeTexts.{MadeTexts}
-use Rattle.sgm_app.specs.declared.stops.TextsError.{TextsError}
-use Rattle.sgm_app.specs.declared.stops.WriteStop.{WriteStop}
-use Rattle.sgm_app.specs.declared.stops.WriteStop.TheVariants as stop
-use Rattle.sgm_app.proofs.Holding.{in_none}
+use Rattle.sgm_stages.specs.Deliver.{after_files}
+use Rattle.sgm_stages.specs.Ends.{Faults, SameFaults, faults_at, shelf_faults}
+use Rattle.sgm_stages.specs.Moments.{Keeps}
+use Rattle.sgm_stages.specs.Unfinished.{AreFinished}
+use Rattle.sgm_stages.specs.Verdict.{Verdict}
+use Rattle.sgm_stages.specs.declared.made.MadeTexts.{MadeTexts}
+use Rattle.sgm_stages.specs.declared.stops.TextsError.{TextsError}
+use Rattle.sgm_stages.specs.declared.stops.WriteStop.{WriteStop}
+use Rattle.sgm_stages.specs.declared.stops.WriteStop.TheVariants as stop
+use Rattle.sgm_stages.proofs.Holding.{in_none}
 use Rattle.sgm_series.specs.Answers.{AreAnswered, AreAnswers}
 use Rattle.sgm_series.specs.Counted.{EntryCounts, SeriesCounts}
 use Rattle.sgm_series.specs.Moments.{SeriesMoment, series_at}

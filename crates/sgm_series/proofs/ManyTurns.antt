@@ -6,14 +6,14 @@ use Rattle.sgm_io.specs.Held.{Held}
 use Rattle.sgm_io.specs.declared.shelf.Shelf as shelf
 use Rattle.sgm_io.specs.declared.sink.Sink as sink
 use Rattle.sgm_list.specs.Entries.{EntryNames}
-use Rattle.sgm_app.specs.Deliver.{after_files, FilesPut}
-use Rattle.sgm_app.specs.Ends.{CountsShow, OutStands, SameFaults}
-use Rattle.sgm_app.specs.Stops.{write_outcome}
-use Rattle.sgm_app.specs.Unfinished.{AreFinished}
-use Rattle.sgm_app.specs.Verdict.{Verdict}
-use Rattle.sgm_app.specs.declared.made.MadeTexts.{MadeTexts}
-use Rattle.sgm_app.specs.declared.stops.TextsError.{TextsError}
-use Rattle.sgm_app.proofs.Holding.{in_none}
+use Rattle.sgm_stages.specs.Deliver.{after_files, FilesPut}
+use Rattle.sgm_stages.specs.Ends.{CountsShow, OutStands, SameFaults}
+use Rattle.sgm_stages.specs.Stops.{write_outcome}
+use Rattle.sgm_stages.specs.Unfinished.{AreFinished}
+use Rattle.sgm_stages.specs.Verdict.{Verdict}
+use Rattle.sgm_stages.specs.declared.made.MadeTexts.{MadeTexts}
+use Rattle.sgm_stages.specs.declared.stops.TextsError.{TextsError}
+use Rattle.sgm_stages.proofs.Holding.{in_none}
 use Rattle.sgm_series.specs.Answers.{AreAnswered}
 use Rattle.sgm_series.specs.Moments.{SeriesMoment, series_at}
 use Rattle.sgm_series.specs.Plans.{names_for, is_refused, IsJudged}

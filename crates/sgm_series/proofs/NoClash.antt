@@ -8,7 +8,7 @@ use Rattle.sgm_list.specs.Entries.{EntryNames, entries_of}
 use Rattle.sgm_list.specs.Clashes.{is_output_of, is_output, overwrites, repeats, clashes_at, clashes, first_clash}
 use Rattle.sgm_list.specs.Faults.{length_fault, text_fault, line_fault, count_fault, clash_fault, list_fault}
 use Rattle.sgm_list.specs.declared.fault.ListFault.TheVariants.{Clash}
-use Rattle.sgm_app.proofs.Holding.{or_left, or_right}
+use Rattle.sgm_stages.proofs.Holding.{or_left, or_right}
 use Rattle.sgm_series.proofs.Places.{in_take, in_length, any_false, none_found}
 
 -- a list without a fault

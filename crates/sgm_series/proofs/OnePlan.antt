@@ -5,7 +5,7 @@ use Rattle.sgm_io.specs.Held.{Held, HoldsBytes}
 use Rattle.sgm_list.specs.Entries.{EntryNames, entries_of}
 use Rattle.sgm_list.specs.Faults.{list_fault}
 use Rattle.sgm_list.specs.declared.fault.ListFault.{ListFault}
-use Rattle.sgm_app.specs.Verdict.{Verdict}
+use Rattle.sgm_stages.specs.Verdict.{Verdict}
 use Rattle.sgm_app.proofs.OneVerdict.{verdict_some, verdict_one}
 use Rattle.sgm_series.specs.EntryWords.{match_words}
 use Rattle.sgm_series.specs.Words.{ListWords, series_words}

@@ -6,16 +6,16 @@ use Rattle.sgm_list.specs.Entries.{EntryNames}
 use Rattle.sgm_outcome.specs.Lines.{refusal_line}
 use Rattle.sgm_outcome.specs.declared.outcome.Outcome.TheVariants as run
 use Rattle.sgm_outcome.specs.declared.outcome.Refusal.{Refusal}
-use Rattle.sgm_app.specs.Deliver.{FilesPut}
-use Rattle.sgm_app.specs.Ends.{CountsShow, OutStands, WritingStands, faults_at}
-use Rattle.sgm_app.specs.Unfinished.{AreFinished, UnfinishedStands}
-use Rattle.sgm_app.specs.Verdict.{Verdict, outputs_of}
-use Rattle.sgm_app.specs.declared.made.MadeTexts.{MadeTexts}
-use Rattle.sgm_app.specs.declared.stops.TextsError.TheVariants as texts
-use Rattle.sgm_app.specs.declared.stops.WriteStop.{WriteStop}
-use Rattle.sgm_app.specs.declared.stops.WriteStop.TheVariants as stop
-use Rattle.sgm_app.proofs.Finishing.{same_stands}
-use Rattle.sgm_app.proofs.Holding.{in_none}
+use Rattle.sgm_stages.specs.Deliver.{FilesPut}
+use Rattle.sgm_stages.specs.Ends.{CountsShow, OutStands, WritingStands, faults_at}
+use Rattle.sgm_stages.specs.Unfinished.{AreFinished, UnfinishedStands}
+use Rattle.sgm_stages.specs.Verdict.{Verdict, outputs_of}
+use Rattle.sgm_stages.specs.declared.made.MadeTexts.{MadeTexts}
+use Rattle.sgm_stages.specs.declared.stops.TextsError.TheVariants as texts
+use Rattle.sgm_stages.specs.declared.stops.WriteStop.{WriteStop}
+use Rattle.sgm_stages.specs.declared.stops.WriteStop.TheVariants as stop
+use Rattle.sgm_stages.proofs.Finishing.{same_stands}
+use Rattle.sgm_stages.proofs.Holding.{in_none}
 use Rattle.sgm_series.specs.Answers.{verdict_made}
 use Rattle.sgm_series.specs.Moments.{series_at}
 use Rattle.sgm_series.specs.Plans.{names_for}

@@ -7,9 +7,9 @@ use Rattle.std.proofs.lemmas.Option.{slice_get_within, slice_get-get_or}
 use Rattle.sgm_io.specs.Held.{Held}
 use Rattle.sgm_list.specs.Entries.{EntryNames}
 use Rattle.sgm_work.proofs.Lists.{get_set}
-use Rattle.sgm_app.specs.Inputs.{InputBytes}
-use Rattle.sgm_app.specs.declared.made.MadeTexts.{MadeTexts}
-use Rattle.sgm_app.specs.declared.stops.TextsError.{TextsError}
+use Rattle.sgm_stages.specs.Inputs.{InputBytes}
+use Rattle.sgm_stages.specs.declared.made.MadeTexts.{MadeTexts}
+use Rattle.sgm_stages.specs.declared.stops.TextsError.{TextsError}
 use Rattle.sgm_batch.specs.Pieces.{PieceParts, IsMadeOf, IsPieceOf}
 use Rattle.sgm_series.specs.Answers.{IsAnswerOf, AreAnswers}
 use Rattle.sgm_series.specs.Batches.{AreInputsAt}

@@ -8,9 +8,9 @@ use Rattle.sgm_io.specs.declared.sink.Sink as sink
 use Rattle.sgm_list.specs.Entries.{EntryNames, entries_of}
 use Rattle.sgm_list.specs.Faults.{list_fault}
 use Rattle.sgm_list.specs.declared.fault.ListFault.{ListFault}
-use Rattle.sgm_app.specs.Ends.{Faults, SameFaults, faults_at, shelf_faults}
-use Rattle.sgm_app.specs.Verdict.{Verdict, IsFiles}
-use Rattle.sgm_app.specs.Verdict as verdict
+use Rattle.sgm_stages.specs.Ends.{Faults, SameFaults, faults_at, shelf_faults}
+use Rattle.sgm_stages.specs.Verdict.{Verdict, IsFiles}
+use Rattle.sgm_stages.specs.Verdict as verdict
 use Rattle.sgm_series.specs.Counted.{EntryCounts, SeriesCounts}
 use Rattle.sgm_series.specs.Ends.{EntriesShow, IsUnread, SeriesShownBy}
 use Rattle.sgm_series.specs.Moments.{SeriesMoment, series_at}

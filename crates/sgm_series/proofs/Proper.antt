@@ -16,11 +16,12 @@ use Rattle.sgm_outcome.specs.declared.outcome.Refusal.{Refusal}
 use Rattle.sgm_outcome.specs.declared.outcome.Refusal.TheVariants.{TooLong}
 use Rattle.sgm_list.specs.Entries.{EntryNames}
 use Rattle.sgm_list.specs.Clashes.{is_output_of}
-use Rattle.sgm_app.specs.Texts.{Texts}
-use Rattle.sgm_app.specs.Outputs.{OutputFile, IsNamed, files_of}
-use Rattle.sgm_app.specs.Verdict.{Verdict, absent, refused, files, fetched, calib_fetched, most_bytes, pair_fetched, unless_refused, texts_for, calib_of, outputs_of}
-use Rattle.sgm_app.proofs.Holding.{Distinct, in_none}
-use Rattle.sgm_app.proofs.Named.{all_named, all_distinct}
+use Rattle.sgm_stages.specs.Texts.{Texts}
+use Rattle.sgm_stages.specs.Outputs.{OutputFile, IsNamed, files_of}
+use Rattle.sgm_stages.specs.Verdict.{Verdict, absent, refused, files, fetched, calib_fetched, most_bytes, pair_fetched, unless_refused, calib_of, outputs_of}
+use Rattle.sgm_app.specs.Verdict.{texts_for}
+use Rattle.sgm_stages.proofs.Holding.{Distinct, in_none}
+use Rattle.sgm_stages.proofs.Named.{all_named, all_distinct}
 use Rattle.sgm_series.specs.Plans.{asked_for, names_for, EntryCallsFor}
 use Rattle.sgm_series.proofs.Places.{or_true}
 

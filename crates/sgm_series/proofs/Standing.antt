@@ -7,7 +7,7 @@ use Rattle.sgm_io.specs.declared.sink.SinkError.{SinkError}
 use Rattle.sgm_list.specs.Clashes.{first_clash}
 use Rattle.sgm_outcome.specs.Lines.{TakesLine}
 use Rattle.sgm_outcome.specs.declared.outcome.Outcome.TheVariants as run
-use Rattle.sgm_app.specs.Verdict.{Verdict}
+use Rattle.sgm_stages.specs.Verdict.{Verdict}
 use Rattle.sgm_series.specs.Ends.{SeriesFiles}
 use Rattle.sgm_list.specs.Entries.{EntryNames, entries_of}
 use Rattle.sgm_list.specs.Faults.{list_fault}

@@ -8,10 +8,10 @@ use Rattle.sgm_series.specs.Plans.{IsJudged, is_refused}
 use Rattle.std.proofs.lemmas.Grind.{flat_map-append}
 use Rattle.std.proofs.Math.Seq.{take-add}
 use Rattle.sgm_io.specs.Held.{Held}
-use Rattle.sgm_app.specs.Deliver.{after_files}
-use Rattle.sgm_app.specs.Outputs.{OutputFile}
-use Rattle.sgm_app.specs.Verdict.{Verdict, outputs_of, summary_of}
-use Rattle.sgm_app.proofs.Filing.{after-append}
+use Rattle.sgm_stages.specs.Deliver.{after_files}
+use Rattle.sgm_stages.specs.Outputs.{OutputFile}
+use Rattle.sgm_stages.specs.Verdict.{Verdict, outputs_of, summary_of}
+use Rattle.sgm_stages.proofs.Filing.{after-append}
 use Rattle.sgm_series.specs.Turns.{files_for, summaries_for, lines_for, line_for}
 
 -- the files of the first n entries put, and then those of the next m

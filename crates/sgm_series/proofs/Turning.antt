@@ -11,16 +11,16 @@ use Rattle.sgm_io.specs.Unfinished.{NameSet}
 use Rattle.sgm_words.specs.declared.files.Output.{Output}
 use Rattle.sgm_words.specs.declared.files.Output.TheVariants.{Summary}
 use Rattle.sgm_list.specs.Entries.{EntryNames}
-use Rattle.sgm_app.specs.Deliver.{after_files, EndsIn}
-use Rattle.sgm_app.specs.Outputs.{OutputFile}
-use Rattle.sgm_app.specs.Stops.{write_outcome}
-use Rattle.sgm_app.specs.Unfinished.{AreFinished, UnfinishedStands}
-use Rattle.sgm_app.specs.Verdict.{Verdict, files, outputs_of, summary_of}
-use Rattle.sgm_app.specs.declared.made.MadeTexts.{MadeTexts}
-use Rattle.sgm_app.specs.declared.stops.TextsError.{TextsError}
-use Rattle.sgm_app.specs.declared.stops.WriteStop.{WriteStop}
-use Rattle.sgm_app.specs.declared.stops.WriteStop.TheVariants as stop
-use Rattle.sgm_app.proofs.Filing.{after-append}
+use Rattle.sgm_stages.specs.Deliver.{after_files, EndsIn}
+use Rattle.sgm_stages.specs.Outputs.{OutputFile}
+use Rattle.sgm_stages.specs.Stops.{write_outcome}
+use Rattle.sgm_stages.specs.Unfinished.{AreFinished, UnfinishedStands}
+use Rattle.sgm_stages.specs.Verdict.{Verdict, files, outputs_of, summary_of}
+use Rattle.sgm_stages.specs.declared.made.MadeTexts.{MadeTexts}
+use Rattle.sgm_stages.specs.declared.stops.TextsError.{TextsError}
+use Rattle.sgm_stages.specs.declared.stops.WriteStop.{WriteStop}
+use Rattle.sgm_stages.specs.declared.stops.WriteStop.TheVariants as stop
+use Rattle.sgm_stages.proofs.Filing.{after-append}
 use Rattle.sgm_series.specs.Plans.{names_for, is_refused}
 use Rattle.sgm_series.specs.Turns.{files_for, summaries_for, lines_for, line_for, HasOutput}
 use Rattle.sgm_series.specs.Answers.{Answers, AreAnswered}

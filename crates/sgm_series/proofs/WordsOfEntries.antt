@@ -21,7 +21,7 @@ use Rattle.sgm_text.specs.Words.{has_bytes, words_of, lines_of, is_space}
 use Rattle.sgm_list.specs.Entries.{EntryNames, calib_named, entry_of, entry_in, entries_of}
 use Rattle.sgm_list.specs.Faults.{list_fault}
 use Rattle.sgm_list.specs.Clashes.{is_output_of}
-use Rattle.sgm_app.specs.Verdict.{Verdict}
+use Rattle.sgm_stages.specs.Verdict.{Verdict}
 use Rattle.sgm_app.specs.Calls.{ReadCallsFor, CallsFor}
 use Rattle.sgm_series.specs.EntryWords.{match_words}
 use Rattle.sgm_series.specs.Plans.{EntryCallsFor}

@@ -2,12 +2,12 @@
 use Rattle.std.specs.Prelude.{◌≡◌, ⊤, ℕ, List, length, Some, slice_get, Result, Ok, Err}
 use Rattle.sgm_io.specs.Held.{Held}
 use Rattle.sgm_list.specs.Entries.{EntryNames}
-use Rattle.sgm_app.specs.Made.{texts_in}
-use Rattle.sgm_app.specs.Outputs.{files_of}
-use Rattle.sgm_app.specs.Verdict.{Verdict, files, refused}
-use Rattle.sgm_app.specs.declared.made.MadeTexts.{MadeTexts}
-use Rattle.sgm_app.specs.declared.stops.TextsError.{TextsError}
-use Rattle.sgm_app.specs.declared.stops.TextsError.TheVariants.{Refused, NoMemory}
+use Rattle.sgm_stages.specs.Made.{texts_in}
+use Rattle.sgm_stages.specs.Outputs.{files_of}
+use Rattle.sgm_stages.specs.Verdict.{Verdict, files, refused}
+use Rattle.sgm_stages.specs.declared.made.MadeTexts.{MadeTexts}
+use Rattle.sgm_stages.specs.declared.stops.TextsError.{TextsError}
+use Rattle.sgm_stages.specs.declared.stops.TextsError.TheVariants.{Refused, NoMemory}
 use Rattle.sgm_series.specs.Plans.{EntryCallsFor}
 
 -- the files of the texts that were made, under this OUT, and their summary

@@ -6,13 +6,13 @@ use Rattle.sgm_io.specs.Held.{Held}
 use Rattle.sgm_list.specs.Entries.{EntryNames}
 use Rattle.sgm_outcome.specs.declared.outcome.Outcome.TheVariants as run
 use Rattle.sgm_outcome.specs.declared.outcome.Refusal.{Refusal}
-use Rattle.sgm_app.specs.Ends.{Faults, SameFaults, CountsShow, NoneBefore, order_of}
-use Rattle.sgm_app.specs.Inputs.{InputBytes}
-use Rattle.sgm_app.specs.Verdict.{Verdict}
-use Rattle.sgm_app.specs.declared.made.MadeTexts.{MadeTexts}
-use Rattle.sgm_app.specs.declared.stops.TextsError.{TextsError}
-use Rattle.sgm_app.specs.declared.stops.TextsError.TheVariants.{Refused}
-use Rattle.sgm_app.specs.declared.stops.TextsError.TheVariants as texts
+use Rattle.sgm_stages.specs.Ends.{Faults, SameFaults, CountsShow, NoneBefore, order_of}
+use Rattle.sgm_stages.specs.Inputs.{InputBytes}
+use Rattle.sgm_stages.specs.Verdict.{Verdict}
+use Rattle.sgm_stages.specs.declared.made.MadeTexts.{MadeTexts}
+use Rattle.sgm_stages.specs.declared.stops.TextsError.{TextsError}
+use Rattle.sgm_stages.specs.declared.stops.TextsError.TheVariants.{Refused}
+use Rattle.sgm_stages.specs.declared.stops.TextsError.TheVariants as texts
 use Rattle.sgm_batch.specs.Pieces.{IsMadeOf}
 use Rattle.sgm_series.specs.Plans.{EntryCallsFor, IsJudged, names_for}
 use Rattle.sgm_series.specs.Answers.{IsAnswerOf}

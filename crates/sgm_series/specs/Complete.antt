@@ -5,9 +5,9 @@ use Rattle.sgm_io.specs.Counts.{Rose}
 use Rattle.sgm_words.specs.Operands.{IsInputName}
 use Rattle.sgm_words.specs.declared.files.Input.{Input}
 use Rattle.sgm_list.specs.Entries.{EntryNames}
-use Rattle.sgm_app.specs.Ends.{Faults}
-use Rattle.sgm_app.specs.Outputs.{OutputFile}
-use Rattle.sgm_app.specs.Verdict.{Verdict, IsFiles, absent}
+use Rattle.sgm_stages.specs.Ends.{Faults}
+use Rattle.sgm_stages.specs.Outputs.{OutputFile}
+use Rattle.sgm_stages.specs.Verdict.{Verdict, IsFiles, absent}
 use Rattle.sgm_series.specs.Plans.{Plan, usage, no_list, faulty, series, names_for, is_refused}
 use Rattle.sgm_series.specs.Plans.{IsJudged}
 use Rattle.sgm_series.specs.Turns.{files_for, IsReached}

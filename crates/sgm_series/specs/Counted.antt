@@ -5,7 +5,7 @@ use Rattle.sgm_list.specs.Entries.{EntryNames}
 use Rattle.sgm_words.specs.declared.files.Output.TheVariants.{Summary}
 use Rattle.sgm_outcome.specs.declared.outcome.Outcome.{Outcome}
 use Rattle.sgm_outcome.specs.declared.outcome.Outcome.TheVariants as run
-use Rattle.sgm_app.specs.Ends.{Faults, SameFaults, CountsShow, OutRose}
+use Rattle.sgm_stages.specs.Ends.{Faults, SameFaults, CountsShow, OutRose}
 use Rattle.sgm_series.specs.Plans.{names_for}
 use Rattle.sgm_series.specs.declared.outcome.SeriesOutcome.{SeriesOutcome}
 use Rattle.sgm_series.specs.declared.outcome.SeriesOutcome.TheVariants.{Done, Usage, RefusedList}

@@ -2,8 +2,8 @@
 use Rattle.std.specs.Prelude.{◌≡◌, ◌≢◌, ⊤, ◌⊎◌, ℕ, ◌+◌, ◌*◌, ◌<◌, ◌≤◌, List, ◌++◌, take}
 use Rattle.std.specs.Prelude.{count_by, All}
 use Rattle.sgm_io.specs.Held.{Held}
-use Rattle.sgm_app.specs.Ends.{Hold, FilesStand, OutStands, NoneBefore, order_of}
-use Rattle.sgm_app.specs.Verdict.{Verdict, IsFiles}
+use Rattle.sgm_stages.specs.Ends.{Hold, FilesStand, OutStands, NoneBefore, order_of}
+use Rattle.sgm_stages.specs.Verdict.{Verdict, IsFiles}
 use Rattle.sgm_words.specs.declared.files.Output.TheVariants.{Summary}
 use Rattle.sgm_outcome.specs.declared.outcome.Outcome.TheVariants as run
 use Rattle.sgm_series.specs.Plans.{Plan, usage, no_list, faulty, series, is_refused}

@@ -2,7 +2,7 @@
 use Rattle.std.specs.Prelude.{ℕ, List, Bool}
 use Rattle.sgm_io.specs.declared.shelf.Shelf as shelf
 use Rattle.sgm_io.specs.declared.sink.Sink as sink
-use Rattle.sgm_app.specs.Moments.{Moment, moment}
+use Rattle.sgm_stages.specs.Moments.{Moment, moment}
 use Rattle.sgm_series.specs.declared.turns.Tally.{Tally}
 
 pub record SeriesMoment : Type 0 where

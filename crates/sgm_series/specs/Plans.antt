@@ -8,8 +8,8 @@ use Rattle.sgm_list.specs.Faults.{list_fault}
 use Rattle.sgm_list.specs.declared.fault.ListFault.{ListFault}
 use Rattle.sgm_base.specs.Refining.{plain}
 use Rattle.sgm_app.specs.Calls.{MatchCallsFor}
-use Rattle.sgm_app.specs.Verdict.{Verdict}
-use Rattle.sgm_app.specs.Verdict as verdict
+use Rattle.sgm_stages.specs.Verdict.{Verdict}
+use Rattle.sgm_stages.specs.Verdict as verdict
 use Rattle.sgm_series.specs.Words.{ListWords, series_words}
 use Rattle.sgm_series.specs.declared.words.SeriesUsage.{SeriesUsage}
 

@@ -2,7 +2,7 @@
 use Rattle.std.specs.Prelude.{◌≡◌, ◌↔◌, ℕ, List, length, take, count_by, IsTrue, IfErr, OnOk}
 use Rattle.std.specs.Prelude.{Result, Err}
 use Rattle.sgm_list.specs.Entries.{EntryNames}
-use Rattle.sgm_app.specs.Verdict.{Verdict}
+use Rattle.sgm_stages.specs.Verdict.{Verdict}
 use Rattle.sgm_series.specs.Counted.{EntryCounts, SeriesCounts}
 use Rattle.sgm_series.specs.Ends.{HadTurns, SeriesOut, SeriesShownBy, SeriesUntouched}
 use Rattle.sgm_series.specs.Moments.{SeriesMoment}

@@ -14,13 +14,13 @@ use Rattle.sgm_outcome.specs.declared.outcome.Outcome.{Outcome}
 use Rattle.sgm_outcome.specs.declared.outcome.Outcome.TheVariants as run
 use Rattle.sgm_outcome.specs.declared.outcome.Refusal.{Refusal}
 use Rattle.sgm_outcome.specs.declared.outcome.Refusal.TheVariants as refusal
-use Rattle.sgm_app.specs.Deliver.{after_files, FilesPut}
-use Rattle.sgm_app.specs.Ends.{Faults, SameFaults}
-use Rattle.sgm_app.specs.Verdict.{Verdict}
-use Rattle.sgm_app.specs.declared.stops.FetchStop.{FetchStop}
-use Rattle.sgm_app.specs.declared.stops.FetchStop.TheVariants as fetch_stop
-use Rattle.sgm_app.specs.declared.stops.WriteStop.{WriteStop}
-use Rattle.sgm_app.specs.declared.stops.WriteStop.TheVariants as stop
+use Rattle.sgm_stages.specs.Deliver.{after_files, FilesPut}
+use Rattle.sgm_stages.specs.Ends.{Faults, SameFaults}
+use Rattle.sgm_stages.specs.Verdict.{Verdict}
+use Rattle.sgm_stages.specs.declared.stops.FetchStop.{FetchStop}
+use Rattle.sgm_stages.specs.declared.stops.FetchStop.TheVariants as fetch_stop
+use Rattle.sgm_stages.specs.declared.stops.WriteStop.{WriteStop}
+use Rattle.sgm_stages.specs.declared.stops.WriteStop.TheVariants as stop
 use Rattle.sgm_series.specs.Counted.{SeriesCounts}
 use Rattle.sgm_series.specs.Ends.{EntriesShow}
 use Rattle.sgm_series.specs.Plans.{IsJudged}

@@ -1,13 +1,13 @@
 -- How turns end, from the moment before to the moment after. No public clause speaks of this.
 use Rattle.std.specs.Prelude.{◌≡◌, ◌+◌, ◌≤◌, List, length, count_by, IsTrue, IfOk, Result}
 use Rattle.sgm_list.specs.Entries.{EntryNames}
-use Rattle.sgm_app.specs.Deliver.{FilesPut}
-use Rattle.sgm_app.specs.Ends.{CountsShow, OutStands}
-use Rattle.sgm_app.specs.Unfinished.{AreFinished, UnfinishedStands}
-use Rattle.sgm_app.specs.Verdict.{Verdict, outputs_of}
-use Rattle.sgm_app.specs.declared.made.MadeTexts.{MadeTexts}
-use Rattle.sgm_app.specs.declared.stops.TextsError.{TextsError}
-use Rattle.sgm_app.specs.declared.stops.WriteStop.{WriteStop}
+use Rattle.sgm_stages.specs.Deliver.{FilesPut}
+use Rattle.sgm_stages.specs.Ends.{CountsShow, OutStands}
+use Rattle.sgm_stages.specs.Unfinished.{AreFinished, UnfinishedStands}
+use Rattle.sgm_stages.specs.Verdict.{Verdict, outputs_of}
+use Rattle.sgm_stages.specs.declared.made.MadeTexts.{MadeTexts}
+use Rattle.sgm_stages.specs.declared.stops.TextsError.{TextsError}
+use Rattle.sgm_stages.specs.declared.stops.WriteStop.{WriteStop}
 use Rattle.sgm_series.specs.Answers.{Answers, AreAnswered}
 use Rattle.sgm_series.specs.Moments.{SeriesMoment}
 use Rattle.sgm_series.specs.Plans.{is_refused, names_for}

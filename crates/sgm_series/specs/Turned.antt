@@ -8,12 +8,12 @@ use Rattle.sgm_words.specs.declared.files.Output.{Output}
 use Rattle.sgm_list.specs.Entries.{EntryNames}
 use Rattle.sgm_outcome.specs.declared.outcome.Outcome.{Outcome}
 use Rattle.sgm_outcome.specs.declared.outcome.Outcome.TheVariants as run
-use Rattle.sgm_app.specs.Deliver.{after_files, FilesPut}
-use Rattle.sgm_app.specs.Ends.{Faults, SameFaults, OutStands, NoneBefore, order_of}
-use Rattle.sgm_app.specs.Stops.{write_outcome}
-use Rattle.sgm_app.specs.Verdict.{Verdict}
-use Rattle.sgm_app.specs.declared.stops.WriteStop.{WriteStop}
-use Rattle.sgm_app.specs.declared.stops.WriteStop.TheVariants as stop
+use Rattle.sgm_stages.specs.Deliver.{after_files, FilesPut}
+use Rattle.sgm_stages.specs.Ends.{Faults, SameFaults, OutStands, NoneBefore, order_of}
+use Rattle.sgm_stages.specs.Stops.{write_outcome}
+use Rattle.sgm_stages.specs.Verdict.{Verdict}
+use Rattle.sgm_stages.specs.declared.stops.WriteStop.{WriteStop}
+use Rattle.sgm_stages.specs.declared.stops.WriteStop.TheVariants as stop
 use Rattle.sgm_series.specs.Plans.{IsJudged, is_refused}
 use Rattle.sgm_series.specs.Turns.{files_for, summaries_for, line_for, AtEntry, IsReached}
 use Rattle.sgm_series.specs.Turns.{HasOutput}

@@ -4,9 +4,9 @@ use Rattle.std.specs.Prelude.{flat_map, slice_get, Some}
 use Rattle.sgm_words.specs.declared.files.Output.{Output}
 use Rattle.sgm_words.specs.declared.files.Output.TheVariants.{Summary}
 use Rattle.sgm_outcome.specs.Lines.{refusal_line}
-use Rattle.sgm_app.specs.Outputs.{OutputFile}
-use Rattle.sgm_app.specs.Verdict.{Verdict, IsFiles, outputs_of, summary_of}
-use Rattle.sgm_app.specs.Verdict as verdict
+use Rattle.sgm_stages.specs.Outputs.{OutputFile}
+use Rattle.sgm_stages.specs.Verdict.{Verdict, IsFiles, outputs_of, summary_of}
+use Rattle.sgm_stages.specs.Verdict as verdict
 use Rattle.sgm_series.specs.Plans.{IsJudged}
 
 -- the line of a refused entry

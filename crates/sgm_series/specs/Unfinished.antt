@@ -4,8 +4,8 @@ use Rattle.sgm_io.specs.Unfinished.{NameSet}
 use Rattle.sgm_words.specs.Operands.{IsOutputName}
 use Rattle.sgm_words.specs.declared.files.Output.{Output}
 use Rattle.sgm_list.specs.Entries.{EntryNames}
-use Rattle.sgm_app.specs.Unfinished.{AreFinished}
-use Rattle.sgm_app.specs.Verdict.{Verdict}
+use Rattle.sgm_stages.specs.Unfinished.{AreFinished}
+use Rattle.sgm_stages.specs.Verdict.{Verdict}
 use Rattle.sgm_series.specs.Plans.{names_for}
 use Rattle.sgm_series.specs.Turns.{files_for}
 use Rattle.sgm_series.specs.declared.outcome.SeriesOutcome.{SeriesOutcome}

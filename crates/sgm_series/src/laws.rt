@@ -4,7 +4,7 @@ ghost use Rattle.sgm_io.specs.Held.{Held};
 ghost use Rattle.sgm_list.specs.Entries.{EntryNames, entries_of};
 ghost use Rattle.sgm_list.specs.Faults.{list_fault};
 ghost use Rattle.sgm_app.specs.Calls.{CallsFor};
-ghost use Rattle.sgm_app.specs.Verdict.{Verdict};
+ghost use Rattle.sgm_stages.specs.Verdict.{Verdict};
 ghost use Rattle.sgm_series.specs.EntryWords.{match_words};
 ghost use Rattle.sgm_series.specs.Plans.{Plan, EntryCallsFor, SeriesCallsFor};
 

@@ -3,10 +3,10 @@ ghost use Rattle.std.specs.Prelude.{◌≡◌, ◌<◌, ◌≤◌, ◌+◌, List
 ghost use Rattle.std.specs.Prelude.{OnOk};
 ghost use Rattle.sgm_io.specs.Held.{Held};
 ghost use Rattle.sgm_list.specs.Entries.{EntryNames};
-ghost use Rattle.sgm_app.specs.Ends.{StageCounts};
-ghost use Rattle.sgm_app.specs.Inputs.{InputBytes};
-ghost use Rattle.sgm_app.specs.Moments.{Keeps};
-ghost use Rattle.sgm_app.specs.Verdict.{Verdict};
+ghost use Rattle.sgm_stages.specs.Ends.{StageCounts};
+ghost use Rattle.sgm_stages.specs.Inputs.{InputBytes};
+ghost use Rattle.sgm_stages.specs.Moments.{Keeps};
+ghost use Rattle.sgm_stages.specs.Verdict.{Verdict};
 ghost use Rattle.sgm_batch.specs.Pieces.{IsPieceOf};
 ghost use Rattle.sgm_series.specs.declared.limits.TheConstants.{BATCH};
 ghost use Rattle.sgm_series.specs.Answers.{AreAnswers};

@@ -4,7 +4,7 @@ ghost use Rattle.std.specs.Prelude.{true, IsTrue, IfOk, IfErr, Err};
 ghost use Rattle.sgm_words.specs.Operands.{bytes_of};
 ghost use Rattle.sgm_list.specs.declared.limits.TheConstants.{MAX_ENTRIES};
 ghost use Rattle.sgm_outcome.specs.Lines.{TakesLine};
-ghost use Rattle.sgm_app.specs.Ends.{faults, shelf_faults};
+ghost use Rattle.sgm_stages.specs.Ends.{faults, shelf_faults};
 ghost use Rattle.sgm_series.specs.Words.{series_words, list_of};
 ghost use Rattle.sgm_series.specs.Lines.{series_line};
 ghost use Rattle.sgm_series.specs.Plans.{Plan, SeriesCallsFor, verdicts_of, entries_in};

@@ -2,10 +2,10 @@
 ghost use Rattle.std.specs.Prelude.{◌≡◌, ◌+◌, ◌<◌, ◌≤◌, length, IsTrue, IfOk, IfErr};
 ghost use Rattle.sgm_outcome.specs.Lines.{refusal_line};
 ghost use Rattle.sgm_list.specs.declared.limits.TheConstants.{MAX_ENTRIES};
-ghost use Rattle.sgm_app.specs.Deliver.{FilesPut};
-ghost use Rattle.sgm_app.specs.Ends.{OutStands, WritingStands, CountsShow, faults_at};
-ghost use Rattle.sgm_app.specs.Unfinished.{AreFinished, UnfinishedStands};
-ghost use Rattle.sgm_app.specs.Verdict.{outputs_of};
+ghost use Rattle.sgm_stages.specs.Deliver.{FilesPut};
+ghost use Rattle.sgm_stages.specs.Ends.{OutStands, WritingStands, CountsShow, faults_at};
+ghost use Rattle.sgm_stages.specs.Unfinished.{AreFinished, UnfinishedStands};
+ghost use Rattle.sgm_stages.specs.Verdict.{outputs_of};
 ghost use Rattle.sgm_series.specs.Plans.{names_for};
 ghost use Rattle.sgm_series.specs.Answers.{verdict_made};
 ghost use Rattle.sgm_series.specs.Received.{ReceivesMore, StaysWhole};

@@ -1,6 +1,6 @@
 use Rattle.std.proofs.Common.{◌≡◌, sym, subst, List, ℕ, Result, Ok, MatchResult}
 use Rattle.sgm_outcome.specs.declared.outcome.Refusal.{Refusal}
-use Rattle.sgm_app.specs.Judge.{StopsFor}
+use Rattle.sgm_stages.specs.Judge.{StopsFor}
 use Rattle.sgm_app.proofs.CertificateSteps.{go_on, stop_judging}
 use Rattle.sgm_app.proofs.certificate.certificate.Goals as goal
 

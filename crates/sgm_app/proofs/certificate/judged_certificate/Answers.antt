@@ -1,6 +1,6 @@
 use Rattle.std.proofs.Common.{◌≡◌, sym, subst, List, ℕ, Result, Ok, MatchResult}
 use Rattle.sgm_outcome.specs.declared.outcome.Refusal.{Refusal}
-use Rattle.sgm_app.specs.Judge.{StopsFor}
+use Rattle.sgm_stages.specs.Judge.{StopsFor}
 use Rattle.sgm_app.proofs.CertificateSteps.{Asked, of_scene, stop_scene}
 use Rattle.sgm_app.proofs.certificate.judged_certificate.Goals as goal
 
@@ -14,4 +14,4 @@ returns-in-Ok c =
 pub returns-in-Err : goal.returns-in-Err
 returns-in-Err c =
     let asked : Asked = record { dir = c.args.at.dir; x = c.args.at.x; y = c.args.at.y; d = c.args.at.d } in
-    rw c.from.ensures (stop_scene c.args.judged.now asked c.in-Err.error c.in-Err.ensures)
+    rw c.survey_stop.ensures (stop_scene c.args.judged.now asked c.in-Err.error c.in-Err.ensures)

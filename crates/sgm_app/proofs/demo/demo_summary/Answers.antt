@@ -1,6 +1,6 @@
 use Rattle.std.proofs.Common.{◌≡◌, sym, subst, List, ℕ, Result, Ok, MatchResult, string_bytes}
 use Rattle.sgm_outcome.specs.declared.outcome.Refusal.{Refusal}
-use Rattle.sgm_app.specs.Judge.{StopsFor}
+use Rattle.sgm_stages.specs.Judge.{StopsFor}
 use Rattle.sgm_app.proofs.TextSteps.{demo_at}
 use Rattle.sgm_app.proofs.demo.demo_summary.Goals as goal
 

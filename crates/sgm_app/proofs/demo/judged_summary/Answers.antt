@@ -8,7 +8,7 @@ use Rattle.sgm_app.proofs.demo.judged_summary.Goals as goal
 
 pub returns-in-Err : goal.returns-in-Err
 returns-in-Err g c =
-    rw c.from.ensures (demo_stop c.args.judged.now c.args.refine (survey_stop c.in-Err.error) (survey_stops _ c.in-Err.error c.in-Err.ensures.exact))
+    rw c.survey_stop.ensures (demo_stop c.args.judged.now c.args.refine (survey_stop c.in-Err.error) (survey_stops _ c.in-Err.error c.in-Err.ensures.exact))
 
 pub returns-in-Ok-demo_text : goal.returns-in-Ok-demo_text
 returns-in-Ok-demo_text g c =

@@ -1,10 +1,11 @@
 use Rattle.std.proofs.Common.{◌∙◌, ap, sym, refl, [], List, ℕ, Result}
 use Rattle.sgm_outcome.specs.declared.outcome.Refusal.{Refusal}
-use Rattle.sgm_app.specs.Stops.{texts_outcome}
-use Rattle.sgm_app.specs.Verdict.{demo_for, files, unless_refused}
-use Rattle.sgm_app.proofs.Delivering.{out_along}
-use Rattle.sgm_app.proofs.Early.{early_out, texts_early}
-use Rattle.sgm_app.proofs.Steps.{shown_along, stop_shown}
+use Rattle.sgm_stages.specs.Stops.{texts_outcome}
+use Rattle.sgm_stages.specs.Verdict.{files, unless_refused}
+use Rattle.sgm_app.specs.Verdict.{demo_for}
+use Rattle.sgm_stages.proofs.Delivering.{out_along}
+use Rattle.sgm_stages.proofs.Early.{early_out, texts_early}
+use Rattle.sgm_stages.proofs.Steps.{shown_along, stop_shown}
 use Rattle.sgm_app.proofs.demo.run_demo.Goals as goal
 
 pub returns-in-Ok-clause-cause : goal.returns-in-Ok-clause-cause

@@ -2,7 +2,7 @@ use Rattle.std.proofs.Common.{◌∙◌, ap, sym, Result, Ok}
 use Rattle.sgm_job.specs.Answers.{seen}
 use Rattle.sgm_outcome.specs.declared.outcome.Refusal.{Refusal}
 use Rattle.sgm_app.specs.Stops.{survey_stop}
-use Rattle.sgm_app.specs.Texts.{Texts}
+use Rattle.sgm_stages.specs.Texts.{Texts}
 use Rattle.sgm_app.proofs.Steps.{survey_goes, survey_stops}
 use Rattle.sgm_app.proofs.TextSteps.{texts_made, stop_survey}
 use Rattle.sgm_app.proofs.Tallied.{tallied}
@@ -10,7 +10,7 @@ use Rattle.sgm_app.proofs.pipeline.judged_texts.Goals as goal
 
 pub returns-in-Err : goal.returns-in-Err
 returns-in-Err g c =
-    rw c.from.ensures (stop_survey c.args.judged.now c.args.refine (survey_stop c.in-Err.error) (survey_stops _ c.in-Err.error c.in-Err.ensures.exact))
+    rw c.survey_stop.ensures (stop_survey c.args.judged.now c.args.refine (survey_stop c.in-Err.error) (survey_stops _ c.in-Err.error c.in-Err.ensures.exact))
 
 pub of-requires-clause-tallies : goal.of-requires-clause-tallies
 of-requires-clause-tallies g c =

@@ -1,8 +1,8 @@
 use Rattle.std.proofs.Common.{◌≡◌, sym, subst, Result, Ok, MatchResult}
 use Rattle.sgm_outcome.specs.declared.outcome.Refusal.{Refusal}
-use Rattle.sgm_app.specs.Judge.{StopsFor}
-use Rattle.sgm_app.specs.Made.{texts_in}
-use Rattle.sgm_app.specs.Texts.{Texts}
+use Rattle.sgm_stages.specs.Judge.{StopsFor}
+use Rattle.sgm_stages.specs.Made.{texts_in}
+use Rattle.sgm_stages.specs.Texts.{Texts}
 use Rattle.sgm_app.proofs.TextSteps.{go_on, stop_judging}
 use Rattle.sgm_app.proofs.pipeline.texts.Goals as goal
 

@@ -3,15 +3,16 @@ use Rattle.sgm_words.specs.Operands.{Operands, ChangeOperands, MergeOperands, by
 use Rattle.sgm_words.specs.Operands.{operands, change_operands, merge_operands}
 use Rattle.sgm_words.specs.Operands.{of_none, of_match, of_trace, of_change, of_merge}
 use Rattle.sgm_words.specs.declared.options.Options.TheVariants as options
-use Rattle.sgm_app.specs.Calls.{MatchCallsFor, TraceCallsFor, ChangeCallsFor, MergeCallsFor}
-use Rattle.sgm_app.specs.Ends.{names_listed}
-use Rattle.sgm_app.specs.Moments.{moment, told_at}
-use Rattle.sgm_app.specs.RunEnds.{RunEnds}
+use Rattle.sgm_stages.specs.Calls.{ChangeCallsFor, MergeCallsFor}
+use Rattle.sgm_app.specs.Calls.{MatchCallsFor, TraceCallsFor}
+use Rattle.sgm_stages.specs.Ends.{names_listed}
+use Rattle.sgm_stages.specs.Moments.{moment, told_at}
+use Rattle.sgm_stages.specs.RunEnds.{RunEnds}
 use Rattle.sgm_app.specs.Verdict.{demoed}
 use Rattle.sgm_app.proofs.Completing.{demo_outputs, out_counts, summary_alone}
-use Rattle.sgm_app.proofs.Delivering.{out_along, untouched_by}
-use Rattle.sgm_app.proofs.Ending.{ends_alone}
-use Rattle.sgm_app.proofs.Steps.{shown_along}
+use Rattle.sgm_stages.proofs.Delivering.{out_along, untouched_by}
+use Rattle.sgm_stages.proofs.Ending.{ends_alone}
+use Rattle.sgm_stages.proofs.Steps.{shown_along}
 use Rattle.sgm_app.proofs.WordsEnding.{read_so, words_end, words_fault}
 use Rattle.sgm_app.proofs.top.carry_out.Goals as goal
 

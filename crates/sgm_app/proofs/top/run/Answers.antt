@@ -1,5 +1,5 @@
 use Rattle.sgm_app.proofs.Completing.{distinct_verdict, completes_run, is_told, no_file_fault, usage_by}
-use Rattle.sgm_app.proofs.Holding.{stand}
+use Rattle.sgm_stages.proofs.Holding.{stand}
 use Rattle.sgm_app.proofs.WordsEnding.{end_called, end_counts, end_unfinished, end_untouched, end_writing}
 use Rattle.sgm_app.proofs.top.run.Goals as goal
 

@@ -1,9 +1,9 @@
 use Rattle.std.proofs.Common.{Ok, Err, sym}
 use Rattle.sgm_words.specs.Operands.{of_match}
-use Rattle.sgm_app.specs.Moments.{moment}
+use Rattle.sgm_stages.specs.Moments.{moment}
 use Rattle.sgm_app.proofs.Answering.{made_of, made_is, fetch_shown, refusal_shown}
-use Rattle.sgm_app.proofs.Delivering.{delivered}
-use Rattle.sgm_app.proofs.Ending.{ends_delivered, ends_textless, ends_unfetched, ends_unnamed, unchanged, uncounted}
+use Rattle.sgm_stages.proofs.Delivering.{delivered}
+use Rattle.sgm_stages.proofs.Ending.{ends_delivered, ends_textless, ends_unfetched, ends_unnamed, unchanged, uncounted}
 use Rattle.sgm_app.proofs.top.run_match.Goals as goal
 
 pub returns-in-Err : goal.returns-in-Err

@@ -1,13 +1,13 @@
 use Rattle.std.proofs.Common.{arith, ◌∙◌, sym, ap, [], List, ℕ}
 use Rattle.sgm_words.specs.Operands.{of_trace}
 use Rattle.sgm_app.specs.Certificates.{certificate_for}
-use Rattle.sgm_app.specs.Verdict.{files, calib_of}
+use Rattle.sgm_stages.specs.Verdict.{files, calib_of}
 use Rattle.sgm_app.proofs.Completing.{out_counts, summary_alone, trace_outputs}
-use Rattle.sgm_app.proofs.Counting.{counts_since}
-use Rattle.sgm_app.proofs.Delivering.{settled, out_along, untouched_by}
-use Rattle.sgm_app.proofs.Ending.{ends_alone, ends_textless, ends_unfetched, unchanged, uncounted}
-use Rattle.sgm_app.proofs.Reading.{image_reads, calib_reads}
-use Rattle.sgm_app.proofs.Steps.{shown_along, stop_shown}
+use Rattle.sgm_stages.proofs.Counting.{counts_since}
+use Rattle.sgm_stages.proofs.Delivering.{settled, out_along, untouched_by}
+use Rattle.sgm_stages.proofs.Ending.{ends_alone, ends_textless, ends_unfetched, unchanged, uncounted}
+use Rattle.sgm_stages.proofs.Reading.{image_reads, calib_reads}
+use Rattle.sgm_stages.proofs.Steps.{shown_along, stop_shown}
 use Rattle.sgm_app.proofs.VerdictLaws.{none_traced}
 use Rattle.sgm_app.proofs.trace.run_trace.Goals as goal
 

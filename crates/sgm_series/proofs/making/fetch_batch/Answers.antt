@@ -1,7 +1,7 @@
 use Rattle.std.proofs.Common.{◌≡◌, ◌∙◌, refl, Some, length}
 use Rattle.std.specs.List.{slice_get}
 use Rattle.std.proofs.lemmas.Option.{slice_get_read}
-use Rattle.sgm_app.proofs.Ending.{keeps_both}
+use Rattle.sgm_stages.proofs.Ending.{keeps_both}
 use Rattle.sgm_series.proofs.Batching.{batch_more, answers_more, inputs_more, judged_more, batch_shown, batch_counts, fetched_since, readable_since}
 use Rattle.sgm_series.proofs.making.fetch_batch.Goals as goal
 

@@ -1,6 +1,6 @@
 use Rattle.std.proofs.Common.{◌≡◌, List, All, take, IsTrue}
-use Rattle.sgm_app.specs.Moments.{Keeps}
-use Rattle.sgm_app.specs.Verdict.{Verdict}
+use Rattle.sgm_stages.specs.Moments.{Keeps}
+use Rattle.sgm_stages.specs.Verdict.{Verdict}
 use Rattle.sgm_series.specs.Plans.{AreVerdicts, IsJudged}
 use Rattle.sgm_series.specs.Batches.{AreInputsAt, IsBatch}
 use Rattle.sgm_series.proofs.Batching.{AnswerThese}

@@ -1,6 +1,6 @@
 use Rattle.std.proofs.Common.{◌∙◌, refl, sym, subst, Err}
 use Rattle.sgm_outcome.specs.declared.outcome.Refusal.{Refusal}
-use Rattle.sgm_app.specs.declared.stops.TextsError.TheVariants.{Refused}
+use Rattle.sgm_stages.specs.declared.stops.TextsError.TheVariants.{Refused}
 use Rattle.sgm_series.specs.Answers.{IsAnswerOf}
 use Rattle.sgm_series.specs.Plans.{names_for}
 use Rattle.sgm_series.proofs.Fetching.{inputs_of, readable, refused_is, place_counts, place_shown, stop_shown, too_long, too_long_readable, have_names, stop_counts}

@@ -1,7 +1,7 @@
 use Rattle.std.proofs.Common.{◌≡◌, ◌∙◌, sym, subst, ap, ℕ, List, Result, drop, length}
-use Rattle.sgm_app.specs.Inputs.{InputBytes}
-use Rattle.sgm_app.specs.declared.made.MadeTexts.{MadeTexts}
-use Rattle.sgm_app.specs.declared.stops.TextsError.{TextsError}
+use Rattle.sgm_stages.specs.Inputs.{InputBytes}
+use Rattle.sgm_stages.specs.declared.made.MadeTexts.{MadeTexts}
+use Rattle.sgm_stages.specs.declared.stops.TextsError.{TextsError}
 use Rattle.sgm_series.specs.Answers.{AreAnswers}
 use Rattle.sgm_series.specs.Batches.{AreInputsAt}
 use Rattle.sgm_series.proofs.Placing.{pieces_of, pieces_below, written_whole}

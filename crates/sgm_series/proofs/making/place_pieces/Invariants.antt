@@ -1,7 +1,7 @@
 use Rattle.std.proofs.Common.{◌≡◌, List, All, length}
 use Rattle.sgm_io.specs.Held.{Held}
 use Rattle.sgm_list.specs.Entries.{EntryNames}
-use Rattle.sgm_app.specs.Inputs.{InputBytes}
+use Rattle.sgm_stages.specs.Inputs.{InputBytes}
 use Rattle.sgm_batch.specs.Pieces.{IsPieceOf}
 use Rattle.sgm_series.specs.Answers.{AreAnswers}
 use Rattle.sgm_series.specs.Batches.{AreInputsAt}

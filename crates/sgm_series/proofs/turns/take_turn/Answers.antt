@@ -1,8 +1,8 @@
 use Rattle.std.proofs.Common.{Result, Ok, Err, IsTrue, rules, sym, subst}
 use Rattle.sgm_outcome.specs.Lines.{refusal_line}
-use Rattle.sgm_app.specs.declared.made.MadeTexts.{MadeTexts}
-use Rattle.sgm_app.specs.declared.stops.TextsError.{TextsError}
-use Rattle.sgm_app.specs.declared.stops.WriteStop.TheVariants as stop
+use Rattle.sgm_stages.specs.declared.made.MadeTexts.{MadeTexts}
+use Rattle.sgm_stages.specs.declared.stops.TextsError.{TextsError}
+use Rattle.sgm_stages.specs.declared.stops.WriteStop.TheVariants as stop
 use Rattle.sgm_series.specs.Moments.{series_at}
 use Rattle.sgm_series.specs.Received.{ReceivesMore}
 use Rattle.sgm_series.specs.TurnEnds.{TurnEnds}

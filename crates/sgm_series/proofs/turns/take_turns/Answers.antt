@@ -4,7 +4,7 @@ use Rattle.std.proofs.lemmas.List.FromFn.{length-enumerate_from}
 use Rattle.std.proofs.lemmas.Option.{slice_get_read}
 use Rattle.std.proofs.lemmas.Iterator.Adapters.{YieldsList-from_vec}
 use Rattle.std.proofs.lemmas.Iterator.Consumers.{YieldsList-end, YieldsList-from_enumerate, YieldsList-turn}
-use Rattle.sgm_app.specs.Verdict.{Verdict}
+use Rattle.sgm_stages.specs.Verdict.{Verdict}
 use Rattle.sgm_series.specs.Answers.{AreAnswered}
 use Rattle.sgm_series.proofs.ManyTurns.{turns_none, turns_more, turns_done, turns_stop}
 use Rattle.sgm_series.proofs.Turning.{item_at, Turn, turn_at}

@@ -1,8 +1,8 @@
 use Rattle.std.proofs.Common.{◌∙◌, List, ap, subst}
 use Rattle.sgm_words.specs.Operands.{Operands}
-use Rattle.sgm_app.specs.Made.{texts_in}
-use Rattle.sgm_app.specs.Outputs.{OutputFile, files_of}
-use Rattle.sgm_app.specs.Unfinished.{AreFinished}
+use Rattle.sgm_stages.specs.Made.{texts_in}
+use Rattle.sgm_stages.specs.Outputs.{OutputFile, files_of}
+use Rattle.sgm_stages.specs.Unfinished.{AreFinished}
 use Rattle.sgm_series.proofs.Turning.{has_output}
 use Rattle.sgm_series.proofs.turns.write_entry.Goals as goal
 

@@ -1,6 +1,6 @@
 use Rattle.std.proofs.Common.{◌≡◌, ℕ, List, Option, subst, option_map}
 use Rattle.sgm_pgm.specs.Read.{Reads}
-use Rattle.sgm_app.specs.Judge.{CalibReads}
+use Rattle.sgm_stages.specs.Judge.{CalibReads}
 use Rattle.sgm_batch.proofs.piece.Piece.make.Goals as goal
 
 pub invariant_of-result : goal.invariant_of-result
