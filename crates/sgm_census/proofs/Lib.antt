@@ -1,3 +1,4 @@
+pub mod Appended
 pub mod Bits
 pub mod Centres
 pub mod CodeLists

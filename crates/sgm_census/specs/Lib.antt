@@ -1,3 +1,4 @@
+pub mod Appending
 pub mod Coded
 pub mod Codes
 pub mod Costs

@@ -1,9 +1,10 @@
 ghost use Rattle.std.specs.Prelude.{◌≡◌, ℕ, ◌+◌, ◌-◌, ◌*◌, ◌^◌, ◌<◌, ◌≤◌, ◌⊎◌, length, slice_index};
-ghost use Rattle.std.specs.Prelude.{slice_index_or, All, EachIndex, Some, option_and_then};
+ghost use Rattle.std.specs.Prelude.{slice_index_or, All, EachIndex, Some, option_and_then, OnOk};
 ghost use Rattle.std.specs.Prelude.{if◌then◌else◌, false};
 ghost use Rattle.sgm_base.specs.Columns.{left_column};
 ghost use Rattle.sgm_lanes.specs.Middles.{smoothed};
 ghost use Rattle.sgm_census.specs.Windows.{greatest_of};
+ghost use Rattle.sgm_census.specs.Appending.{AppendsCosts};
 ghost use Rattle.sgm_census.specs.Costs.{cost_between, missing_cost, single_cost, cost_by};
 ghost use Rattle.sgm_census.specs.Costs.{census_cost};
 ghost use Rattle.sgm_census.specs.Packed.{bits_of, unpacked, HoldsSmall};
@@ -13,6 +14,7 @@ use crate::code_plane::{CodePlane, CodeRow};
 use crate::{CostRule, Window};
 use sgm_base::{MAX_COST, MAX_COUNT, Overlap, Span};
 use sgm_lanes::{differing, hamming_to, smooth, smooth_last};
+use std::alloc::AllocError;
 
 /// How many bits the codes of a pair of planes have, and the cost where a code is missing.
 #[derive(Clone, Copy)]
@@ -215,6 +217,66 @@ pub fn cost_row(left: &CodePlane, right: &CodePlane, span: Span, y: u32, into: &
             smooth_row(left.size().width as usize, span.count as usize, into);
         }
     }
+}
+
+/// Appends the single costs of the row `y`, pixel by pixel.
+fn append_single(
+    left: &CodePlane,
+    right: &CodePlane,
+    span: Span,
+    y: u32,
+    into: &mut Vec<u8>,
+) -> Result<(), AllocError>
+    requires same_width { left.now.width ≡ right.now.width }
+    requires same_height { left.now.height ≡ right.now.height }
+    requires same_window { left.now.window ≡ right.now.window }
+    requires row { y < left.now.height }
+    ensures { OnOk result
+        (AppendsCosts left.now.width span.count
+        (λ x d. single_cost left.now right.now span.first x y d) into.old.items into.new.items) }
+{
+    let count = span.count as usize;
+    let scale = scale_of(left.rule(), left.window());
+    let (left, right) = (left.row(y), right.row(y));
+    let width = left.words.len();
+    // A pixel's costs, which stay in the first cache until they are appended.
+    let mut room = [0u8; MAX_COUNT as usize];
+    let (cells, _) = room.split_at_mut(count);
+    for x in 0..width {
+        cost_pixel(left, right, scale, span, width - 1 - x, cells);
+        into.extend_from_slice(cells)?;
+    }
+    Ok(())
+}
+
+/// Appends the costs of the row `y`: what [`cost_row`] writes. A pixel's costs are made in a small
+/// room and appended while they are in the first cache, so that new memory is written once. After
+/// an error `into` may have some of them.
+pub fn append_costs(
+    left: &CodePlane,
+    right: &CodePlane,
+    span: Span,
+    y: u32,
+    into: &mut Vec<u8>,
+) -> Result<(), AllocError>
+    requires same_width { left.now.width ≡ right.now.width }
+    requires same_height { left.now.height ≡ right.now.height }
+    requires same_window { left.now.window ≡ right.now.window }
+    requires row { y < left.now.height }
+    ensures { OnOk result
+        (AppendsCosts left.now.width span.count
+        (λ x d. census_cost left.now right.now span.first x y d) into.old.items into.new.items) }
+{
+    let at = into.len();
+    append_single(left, right, span, y, into)?;
+    match left.rule() {
+        CostRule::Plain => {}
+        CostRule::Smoothed => {
+            let (_, row) = into.split_at_mut(at);
+            smooth_row(left.size().width as usize, span.count as usize, row);
+        }
+    }
+    Ok(())
 }
 
 /// The cost of a code against the one that stands at `place` in a row of the right image.

@@ -14,6 +14,6 @@ mod smoothed;
 mod window;
 
 pub use code_plane::{CodePlane, codes, codes_by};
-pub use cost::{cost_at, cost_row};
+pub use cost::{append_costs, cost_at, cost_row};
 pub use rule::CostRule;
 pub use window::Window;

@@ -4,6 +4,7 @@
 #![tactic(auto)]
 
 mod codes;
+mod first;
 mod lane;
 mod minimum;
 mod network;
@@ -12,6 +13,7 @@ mod smoothing;
 mod sums;
 
 pub use codes::{differing, hamming, hamming_to};
+pub use first::first_of;
 pub use minimum::least;
 pub use network::{middle, middles};
 pub use recurrence::{add_step, step};

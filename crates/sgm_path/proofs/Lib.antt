@@ -1,3 +1,4 @@
 pub mod Follow
 pub mod PathRows
 mod Sweeps
+mod Appending

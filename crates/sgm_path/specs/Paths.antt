@@ -1,12 +1,12 @@
 -- What rows of costs and of path values say of a problem.
 use Rattle.std.specs.Prelude.{◌≡◌, ℕ, ◌+◌, ◌-◌, ◌*◌, ◌/◌, ◌%◌, ◌^◌, ◌<◌, ◌≤◌, ◌⊎◌, Bool, true}
-use Rattle.std.specs.Prelude.{false, List, length, map, slice_index, slice_index_or, All, EachIndex}
+use Rattle.std.specs.Prelude.{false, List, ◌++◌, length, map, slice_index, slice_index_or, All, EachIndex}
 use Rattle.std.specs.Prelude.{Option, Some, None, MatchOption, if◌then◌else◌}
 use Rattle.sgm_base.specs.declared.limits.TheConstants.{MAX_COST, MAX_COUNT, MAX_PATH_VALUE}
 use Rattle.sgm_base.specs.declared.limits.TheConstants.{MAX_PENALTY}
 use Rattle.sgm_energy.specs.Step.{IsStepped}
 use Rattle.sgm_energy.specs.declared.dir.Dir.{Dir}
-use Rattle.sgm_energy.specs.declared.dir.Dir.TheVariants.{Left, DownRight, UpRight}
+use Rattle.sgm_energy.specs.declared.dir.Dir.TheVariants.{Right, Left, DownRight, UpRight}
 use Rattle.sgm_energy.specs.Dirs.{is_level}
 use Rattle.sgm_energy.specs.Pens.{Penalties, far_of, penalties_of}
 use Rattle.sgm_energy.specs.Rays.{pixel_at, Problem, column_before, row_before}
@@ -164,3 +164,20 @@ FollowsAt t far from at old new = OthersStay at t.count old new
     × ((d : ℕ) → d < t.count
     → Follows (λ a. slice_index old (from + a)) t.count t.penalties.p1 far
     (slice_index t.costs (at + d)) d (slice_index new (at + d)))
+
+-- a row of path values came to the end, each of which follows from the row itself and none of which
+-- is too great
+pub record AppendsValues (t : RowTerms) (old new : List ℕ) : Type 0 where
+  pub row : List ℕ
+  pub added : new ≡ old ++ row
+  pub whole : length row ≡ length t.costs
+  pub low : All (λ v. v ≤ MAX_PATH_VALUE) row
+  pub follows : RowFollows t.dir t.count t.penalties.p1 (far_in t) row t.costs row
+
+-- the sums of the path values of both level directions of a row came to the end, whatever row of
+-- whatever problem these costs belong to
+pub record AppendsSums (p1 count : ℕ) (far : ℕ → ℕ → ℕ) (costs old new : List ℕ) : Type 0 where
+  pub row : List ℕ
+  pub added : new ≡ old ++ row
+  pub holds : (g : Problem) (y : ℕ) → Suits g y p1 count costs → HasFar g y y far
+      → HoldsRow g y (λ p d. path_value g Right p d + path_value g Left p d) row

@@ -3,12 +3,14 @@
 //! `x * count + d`.
 #![tactic(auto)]
 
+mod append;
 mod pixel;
 mod row_pass;
 mod run;
 mod step;
 mod sweep;
 
+pub use append::append_level_sums;
 pub use row_pass::RowPass;
 pub use run::{level_sums, run_row};
 pub use step::{begin_row, pass_row, step_row};

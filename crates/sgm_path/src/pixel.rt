@@ -84,7 +84,7 @@ pub(crate) fn begin_at<const ADD: bool>(
 /// The values of the pixel that begins at `at`, from those of the pixel before. `BACK` is whether
 /// the pixels to whose sums values are added come from right to left.
 #[inline(always)]
-fn follow<const ADD: bool, const BACK: bool>(
+pub(crate) fn follow<const ADD: bool, const BACK: bool>(
     row: &RowPass,
     far: u16,
     prev: &[u16],

@@ -8,6 +8,7 @@ ghost use Rattle.sgm_select.specs.Keys.{key_of, HoldsKeys};
 ghost use Rattle.sgm_select.specs.Rows.{base_in, matched_in};
 
 use sgm_base::{MAX_COUNT, MAX_SIDE, Overlap, Span};
+use sgm_lanes::{first_of, least};
 
 /// The columns of the right row whose keys are held at a time.
 const COLUMNS: usize = MAX_SIDE as usize;
@@ -35,12 +36,7 @@ fn base_at(sums: &[u16]) -> u16
         → slice_index sums.now result ≤ slice_index sums.now d }
     ensures first { (d : ℕ) → d < result → slice_index sums.now result < slice_index sums.now d }
 {
-    let mut least = key(sums[0], 0);
-    // From 0 on, so that whole chunks of lanes are left.
-    for d in 0..sums.len() {
-        least = least.min(key(sums[d], d as u32));
-    }
-    (least % MAX_COUNT) as u16
+    first_of(sums, least(sums)) as u16
 }
 
 /// What [`base_row`] writes.
@@ -100,6 +96,7 @@ fn places(len: usize, count: usize, shift: i64) -> Overlap
 
 /// Replaces each key by that of the sum at its place, where that is less. The first sum has the
 /// index `skipped`.
+#[inline(always)]
 fn lower(keys: &mut [u32], sums: &[u16], skipped: usize)
     requires same_length { length sums.now ≡ length keys.old }
     requires indices { skipped + length sums.now ≤ MAX_COUNT }
@@ -114,6 +111,23 @@ fn lower(keys: &mut [u32], sums: &[u16], skipped: usize)
     }
 }
 
+/// The same for so many keys from `start` on, by the sums from `skipped` on.
+#[inline(always)]
+fn lower_part(keys: &mut [u32], sums: &[u16], skipped: usize, start: usize, len: usize)
+    requires indices { skipped + len ≤ length sums.now }
+    requires few { length sums.now ≤ MAX_COUNT }
+    requires places { start + len ≤ length keys.old }
+    ensures here { (k : ℕ) → k < len → slice_index keys.new (start + k)
+        ≡ min (slice_index keys.old (start + k))
+        (key_of (slice_index sums.now (skipped + k)) (skipped + k)) }
+    ensures before { (m : ℕ) → m < start → slice_index keys.new m ≡ slice_index keys.old m }
+    ensures after { (m : ℕ) → start + len ≤ m → slice_index keys.new m ≡ slice_index keys.old m }
+{
+    let (_, rest) = keys.split_at_mut(start);
+    let (some, _) = rest.split_at_mut(len);
+    lower(some, &sums[skipped..skipped + len], skipped);
+}
+
 /// The same for the places at which the sums of one pixel of the left row count.
 fn lower_some(keys: &mut [u32], sums: &[u16], there: Overlap)
     requires indices { there.skipped + there.len ≤ length sums.now }
@@ -126,13 +140,12 @@ fn lower_some(keys: &mut [u32], sums: &[u16], there: Overlap)
     ensures after { (m : ℕ) → there.start + there.len ≤ m
         → slice_index keys.new m ≡ slice_index keys.old m }
 {
-    let (_, rest) = keys.split_at_mut(there.start);
-    let (some, _) = rest.split_at_mut(there.len);
-    lower(
-        some,
-        &sums[there.skipped..there.skipped + there.len],
-        there.skipped,
-    );
+    // Compiled apart as in `base_row`: most pixels have a place for each index.
+    match there.len {
+        64 => lower_part(keys, sums, there.skipped, there.start, 64),
+        128 => lower_part(keys, sums, there.skipped, there.start, 128),
+        len => lower_part(keys, sums, there.skipped, there.start, len),
+    }
 }
 
 /// Where the index 0 of the column `p` of the left row would stand among so many columns of the

@@ -1,10 +1,10 @@
 -- Pieces that are made side by side.
-use Rattle.std.proofs.Common.{◌≡◌, ◌<◌, ◌∙◌, ℕ, suc, List, [], ◌∷◌, length, get_or, Option, Some, None, Vec, Global, Result, Ok, Err, map, sym, ap, subst, arith}
+use Rattle.std.proofs.Common.{◌≡◌, ◌<◌, ◌∙◌, ℕ, suc, List, [], ◌∷◌, length, get_or, Option, Some, None, Vec, Global, Result, Ok, Err, map, refl, sym, ap, subst, arith}
 use Rattle.std.specs.Prelude.{All, IfOk, IfSome, slice_get}
 use Rattle.std.specs.Iterator.{Yields}
 use Rattle.std.specs.Option.{option_or}
-use Rattle.std.specs.Vec.Iter.{into_iter_items, into_iter_steps}
-use Rattle.std.proofs.lemmas.List.{get_or-map, get_or_default, length-map}
+use Rattle.std.specs.Vec.Iter.{into_iter_items, into_iter_len, into_iter_steps}
+use Rattle.std.proofs.lemmas.List.{get_or-map, get_or_default, length-map, nil_from_length}
 use Rattle.std.proofs.lemmas.Option.{get_or_from_slice_get, slice_get_within}
 use denote.Param.Members.{Shared}
 use Rattle.sgm_threads.specs.Sharing.{AreMade, AreOwn, HoldOwn, MayGive}
@@ -18,6 +18,14 @@ each_given P [] x s t u all y e =
 each_given P (z ∷ xs) x s t u all y e =
     let items = y.1.0 in
     each_given P xs x y.0 t u (λ k d h. (subst (All P) items all) (suc k) d (omega (arith, h))) y.2 e
+
+-- what a vector's iterator has given when it ends is all that it held
+pub drained : {A Z : Type 0} → (xs all : List A) → (s : _) → (t : _) → (u : _) → into_iter_items s ≡ all → into_iter_len s ≡ length all
+    → Yields (into_iter_steps {X = A} {Z = Z}) s xs t → into_iter_steps {X = A} {Z = Z} t None u → xs ≡ all
+drained [] all s t u items len y e = sym (nil_from_length all (omega (arith, len, ap (λ i. into_iter_len i) y, e.0)))
+drained (x ∷ xs) all s t u items len y e =
+    let more = sym items ∙ y.1.0 in
+    ap (λ ys. x ∷ ys) (drained xs (into_iter_items y.0) y.0 t u refl (omega (arith, len, y.1.1, ap length more)) y.2 e) ∙ sym more
 
 -- the one or the other was made for its place
 either_held : {X : Type 0} (P : X → Type 0) (own place : Option X) → IfSome own P → IfSome place P → IfSome (option_or own place) P

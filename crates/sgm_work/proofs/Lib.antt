@@ -7,4 +7,5 @@ pub mod Glancing
 pub mod Threads
 pub mod Crews
 pub mod Crossing
+pub mod Gathering
 pub mod Making

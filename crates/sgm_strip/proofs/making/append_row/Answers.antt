@@ -1,6 +1,7 @@
-use Rattle.std.proofs.Common.{◌≡◌, ℕ, ◌+◌, ◌*◌, ◌<◌, ◌≤◌, ◌++◌, ◌∙◌, List, length, slice_index, refl, sym, ap, subst, arith}
+use Rattle.std.proofs.Common.{◌≡◌, ◌+◌, ◌-◌, ◌*◌, ◌<◌, ◌≤◌, ◌++◌, ◌∙◌, ℕ, List, length, slice_index, take, drop, refl, sym, ap, subst, arith}
 use Rattle.std.specs.Prelude.{All}
-use Rattle.std.proofs.lemmas.List.{with_items_is}
+use Rattle.std.proofs.lemmas.List.{length-append}
+use Rattle.std.proofs.Math.Seq.{drop-append_seam, take-length}
 use Rattle.sgm_base.specs.declared.limits.TheConstants.{MAX_COST}
 use Rattle.sgm_energy.specs.Pens.{Penalties, penalties_of}
 use Rattle.sgm_energy.specs.Rays.{pixel_at}
@@ -11,63 +12,47 @@ use Rattle.sgm_strip.proofs.Guides.{rows_far}
 use Rattle.sgm_strip.proofs.Passed.{pixels, whole_pixels}
 use Rattle.sgm_strip.proofs.making.append_row.Goals as goal
 
--- what was written is what the vectors hold
-pub level_sums-requires-clause-costs : goal.level_sums-requires-clause-costs
-level_sums-requires-clause-costs c =
-    let new = c.cost_row.new.into in
-    let costs = c.deref.result.now in
-    let same : costs ≡ new = c.deref.ensures.value ∙ with_items_is c.args.room.now.costs new (omega (arith, c.cost_row.auto.into, c.deref_mut.ensures.len)) in
+-- what came to the end of a list is the part from its old end on
+part_is : (old row all : List ℕ) (at : ℕ) → all ≡ old ++ row → at ≡ length old → take (length all - at) (drop at all) ≡ row
+part_is old row all at e l =
+    let rest : drop at all ≡ row = ap (drop at) e ∙ ap (λ n. drop n (old ++ row)) l ∙ drop-append_seam old row in
+    let n : length all - at ≡ length row = omega (arith, ap length e, length-append old row, l) in
+    ap (λ k. take k (drop at all)) n ∙ ap (take (length row)) rest ∙ take-length row
+
+-- costs that were made for a scene by another name
+held : (scene scene' : SceneParts) (y : ℕ) (row : List ℕ) → scene' ≡ scene → length row ≡ row_length scene' → ((x d : ℕ) → x < scene'.left.width → d < scene'.span.count → slice_index row (x * scene'.span.count + d) ≡ (problem_of scene').cost (pixel_at x y) d) → HoldsRow (problem_of scene) y (problem_of scene).cost row
+held scene scene' y row e whole each =
+    subst (λ (s : SceneParts). HoldsRow (problem_of s) y (problem_of s).cost row) e (record { whole = whole; each = each })
+
+pub append_level_sums-requires-clause-costs : goal.append_level_sums-requires-clause-costs
+append_level_sums-requires-clause-costs c =
+    let made = c.in_ok-append_costs.ensures in
+    let all = c.deref.result.now in
+    let costs = take (length all - c.len-at.result) (drop c.len-at.result all) in
+    let same : costs ≡ made.row = part_is c.args.costs.now.items made.row all c.len-at.result (c.deref.ensures.value ∙ made.added) (c.len-at.ensures ∙ c.args.costs.now.ok.0) in
     let width = c.args.scene.now.left.width in
-    let long : length costs ≡ width * c.count.result = omega (arith, ap length same, ap (λ k. width * k) c.count.ensures.value, c.cost_row.auto.into, c.deref_mut.ensures.len, c.requires.room) in (
+    let long : length costs ≡ width * c.count.result = omega (arith, ap length same, made.whole, ap row_length c.scene.view_is, ap (λ k. width * k) c.count.ensures.value) in (
       omega (arith, c.count.ensures.range),
       omega (arith, c.count.ensures.range),
       whole_pixels (length costs) width c.count.result long,
       c.row.ensures.whole ∙ c.scene.invariant.guide_width ∙ ap (λ (s : SceneParts). s.left.width) c.scene.view_is
           ∙ pixels (length costs) width c.count.result long (omega (arith, c.count.ensures.range)),
-      subst (All (λ v. v ≤ MAX_COST)) (sym same) c.cost_row.ensures.most,
+      subst (All (λ v. v ≤ MAX_COST)) (sym same) made.low,
     )
-
-pub returns-clause-room : goal.returns-clause-room
-returns-clause-room c =
-    let new = c.cost_row.new.into in
-    ap length (with_items_is c.args.room.now.costs new (omega (arith, c.cost_row.auto.into, c.deref_mut.ensures.len)))
-    ∙ c.cost_row.auto.into ∙ ap length c.deref_mut.ensures.value
-
-costs_are : (c : goal.In_ok-extend_from_slice-2) → c.extend_from_slice.new.self.items ≡ c.args.made.now.costs.items ++ c.cost_row.new.into
-costs_are c =
-    let new = c.cost_row.new.into in
-    let same : c.deref-2.result.now ≡ new = c.deref-2.ensures.value ∙ with_items_is c.args.room.now.costs new (omega (arith, c.cost_row.auto.into, c.deref_mut.ensures.len)) in
-    c.in_ok-extend_from_slice.ensures.items ∙ ap (λ (v : List ℕ). c.args.made.now.costs.items ++ v) same
-
--- costs that were made for a scene by another name
-made : (scene scene' : SceneParts) (y : ℕ) (new : List ℕ) → scene' ≡ scene → length new ≡ row_length scene → ((x d : ℕ) → x < scene'.left.width → d < scene'.span.count → slice_index new (x * scene'.span.count + d) ≡ (problem_of scene').cost (pixel_at x y) d) → HoldsRow (problem_of scene) y (problem_of scene).cost new
-made scene scene' y new e whole each =
-    subst (λ (s : SceneParts). length new ≡ row_length s → HoldsRow (problem_of s) y (problem_of s).cost new) e (λ w. record { whole = w; each = each }) whole
-
-pub returns-clause-costs : goal.returns-clause-costs
-returns-clause-costs c =
-    let new = c.cost_row.new.into in
-    let whole : length new ≡ row_length c.args.scene.now = omega (arith, c.cost_row.auto.into, c.deref_mut.ensures.len, c.requires.room) in
-    record {
-      row = new;
-      added = costs_are c;
-      holds = made c.args.scene.now _ c.args.y new c.scene.view_is whole c.cost_row.ensures.each;
-    }
 
 pub returns-clause-sums : goal.returns-clause-sums
 returns-clause-sums c =
     let g = problem_of c.args.scene.now in
-    let new = c.cost_row.new.into in
-    let same : c.deref.result.now ≡ new = c.deref.ensures.value ∙ with_items_is c.args.room.now.costs new (omega (arith, c.cost_row.auto.into, c.deref_mut.ensures.len)) in
-    let whole : length new ≡ row_length c.args.scene.now = omega (arith, c.cost_row.auto.into, c.deref_mut.ensures.len, c.requires.room) in
-    let costs : HoldsRow g c.args.y g.cost c.deref.result.now =
-    subst (λ v. HoldsRow g c.args.y g.cost v) (sym same) (made c.args.scene.now _ c.args.y new c.scene.view_is whole c.cost_row.ensures.each) in
+    let made = c.in_ok-append_costs.ensures in
+    let all = c.deref.result.now in
+    let costs = take (length all - c.len-at.result) (drop c.len-at.result all) in
+    let same : costs ≡ made.row = part_is c.args.costs.now.items made.row all c.len-at.result (c.deref.ensures.value ∙ made.added) (c.len-at.ensures ∙ c.args.costs.now.ok.0) in
     let penalties : Penalties = penalties_of c.scene.inside.pen in
-    let suits : Suits g c.args.y penalties.p1 c.count.result c.deref.result.now = record {
+    let suits : Suits g c.args.y penalties.p1 c.count.result costs = record {
       same_count = sym c.count.ensures.value;
       same_p1 = sym (ap (λ (s : SceneParts). s.penalties.p1) c.scene.view_is);
       inside = c.requires.y;
-      holds = costs;
+      holds = subst (λ v. HoldsRow g c.args.y g.cost v) (sym same) (held c.args.scene.now _ c.args.y made.row c.scene.view_is made.whole made.each);
     } in
     let inside : c.args.y < c.scene.inside.guide.height = omega (arith, c.requires.y, c.scene.invariant.guide_height, ap (λ (s : SceneParts). s.left.height) c.scene.view_is) in
     let far : HasFar g c.args.y c.args.y (far_between penalties c.row.result.now c.row.result.now) =
@@ -75,11 +60,5 @@ returns-clause-sums c =
     (subst (λ us. HasFar (problem_of (scene_of c.scene.inside.left c.scene.inside.right c.scene.inside.span penalties c.scene.inside.guide)) c.args.y c.args.y (far_between penalties us us)) (sym c.row.ensures.value)
     (rows_far (problem_of (scene_of c.scene.inside.left c.scene.inside.right c.scene.inside.span penalties c.scene.inside.guide)) penalties c.scene.inside.guide c.args.y c.args.y (λ _ _. refl)
     (sym c.scene.invariant.guide_width) inside inside)) in
-    let level = c.level_sums.new.into in
-    let there : c.deref-3.result.now ≡ level =
-    c.deref-3.ensures.value ∙ with_items_is c.args.room.now.level level (omega (arith, c.level_sums.auto.into, c.deref_mut-3.ensures.len)) in
-    record {
-      row = level;
-      added = c.in_ok-extend_from_slice-2.ensures.items ∙ ap (λ (v : List ℕ). c.args.made.now.sums.items ++ v) there;
-      holds = c.level_sums.ensures g c.args.y suits far;
-    }
+    let sums = c.in_ok-append_level_sums.ensures in
+    record { row = sums.row; added = sums.added; holds = sums.holds g c.args.y suits far }

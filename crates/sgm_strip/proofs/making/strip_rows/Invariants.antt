@@ -1,4 +1,6 @@
-use Rattle.std.proofs.Common.{◌≡◌, ◌+◌, ◌-◌, length}
+use Rattle.std.proofs.Common.{◌≡◌, ◌+◌, ◌-◌, ◌≤◌, length}
+use Rattle.std.specs.Prelude.{All}
+use Rattle.sgm_base.specs.declared.limits.TheConstants.{MAX_COST}
 use Rattle.sgm_energy.specs.declared.dir.Dir.TheVariants.{Right, Left}
 use Rattle.sgm_energy.specs.Energies.{path_value}
 use Rattle.sgm_strip.specs.Scenes.{problem_of, row_length}
@@ -8,7 +10,8 @@ use Rattle.sgm_strip.proofs.making.strip_rows.Given as goal
 abbrev pub invariant-loop-y : goal.invariant-loop-y
 invariant-loop-y l =
     record {
-      room : length l.room.costs.items ≡ row_length l.scene;
-      costs : HoldsRows (problem_of l.scene) l.top (l.y - l.top) (problem_of l.scene).cost l.made.costs.items;
-      sums : HoldsRows (problem_of l.scene) l.top (l.y - l.top) (λ p d. path_value (problem_of l.scene) Right p d + path_value (problem_of l.scene) Left p d) l.made.sums.items;
+      spare : length l.spare.items ≡ row_length l.scene;
+      low : All (λ c. c ≤ MAX_COST) l.costs.items;
+      costs : HoldsRows (problem_of l.scene) l.top (l.y - l.top) (problem_of l.scene).cost l.costs.items;
+      sums : HoldsRows (problem_of l.scene) l.top (l.y - l.top) (λ p d. path_value (problem_of l.scene) Right p d + path_value (problem_of l.scene) Left p d) l.sums.items;
     }

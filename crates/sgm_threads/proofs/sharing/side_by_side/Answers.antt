@@ -7,6 +7,16 @@ use Rattle.sgm_threads.proofs.Pieces.{if_ok}
 use Rattle.sgm_threads.proofs.Pieces.{all_made, each_given, put_held, so_many}
 use Rattle.sgm_threads.proofs.sharing.side_by_side.Goals as goal
 
+pub put_own-requires : goal.put_own-requires
+put_own-requires g c =
+    let Own = AreOwn g.F.Fn c.args.make.now c.args.count in
+    let all = c.into_iter-own-iterator.ensures.into_iter_gives.0 in
+    let given : IfSome c.in-Some.own Own =
+    each_given (λ own. IfSome own Own) c.loop-own.yielded c.in-Some.own c.into_iter-own-iterator.result c.loop-own.own-iterator c.next.new.self
+    (subst (All (λ own. IfSome own Own)) (sym all) c.in_ok-crew.ensures) c.loop-own.yielded_by c.in-Some.ensures.steps in
+    let own : Own c.in-Some-own.own = subst (λ r. IfSome r Own) c.in-Some-own.is given in
+    omega (arith, own.all, c.loop-own.invariant.all, ap length c.as_mut_slice.ensures.value)
+
 pub loop-own-preserved : goal.loop-own-preserved
 loop-own-preserved g c =
     let Own = AreOwn g.F.Fn c.args.make.now c.args.count in
