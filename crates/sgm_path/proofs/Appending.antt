@@ -1,8 +1,8 @@
 -- A row of path values that is appended pixel by pixel, in a direction that comes from the left.
-use Rattle.std.proofs.Common.{◌≡◌, ℕ, ◌+◌, ◌-◌, ◌*◌, ◌/◌, ◌<◌, ◌≤◌, ◌∙◌, ◌++◌, inl, inr, List, length, take, drop, slice_index, Some, None, MatchOption, refl, sym, ap, subst, arith}
+use Rattle.std.proofs.Common.{◌≡◌, ℕ, ◌+◌, ◌-◌, ◌*◌, ◌/◌, ◌%◌, ◌<◌, ◌≤◌, ◌∙◌, ◌++◌, inl, inr, List, length, slice_index, Some, None, MatchOption, refl, sym, ap, subst, arith}
 use Rattle.std.specs.List.{All}
 use Rattle.std.proofs.lemmas.Bool.{cases_eq}
-use Rattle.std.proofs.lemmas.List.{length-append, get_or_append_left, get_or-append-add}
+use Rattle.std.proofs.lemmas.List.{append_assoc, length-append, get_or_append_left, get_or-append-add}
 use Rattle.std.proofs.lemmas.List.Elements.{All-append}
 use Rattle.std.proofs.lemmas.Nat.{mul-add-lt, mul-le, div-mul-add}
 use Rattle.sgm_energy.specs.declared.dir.Dir.{Dir}
@@ -10,7 +10,7 @@ use Rattle.sgm_energy.specs.declared.dir.Dir.TheVariants.{Right}
 use Rattle.sgm_energy.specs.Rays.{column_before}
 use Rattle.sgm_energy.proofs.RayLemmas.{minus_one, minus_one_none, minus_pos}
 use Rattle.sgm_path.specs.Paths.{EntryFollows, far_in, Follows, RowFollows, RowTerms, StepsAt}
-use Rattle.sgm_path.proofs.Follow.{follows_same, part_at}
+use Rattle.sgm_path.proofs.Follow.{follows_same}
 use Rattle.sgm_path.proofs.PathRows.{steps_same}
 use Rattle.sgm_path.proofs.Sweeps.{entry_follows}
 
@@ -83,21 +83,67 @@ appended_row t row hc a x d hx hd =
     subst (λ w. StepsAt t.dir w t.count t.penalties.p1 (far_in t) row t.costs x d (slice_index row (x * t.count + d))) (sym width_is)
     (a.each x d (omega (arith, hx, width_is)) hd)
 
--- the values of the last pixel, at the end of the list
-last_place : (x count : ℕ) → 0 < x → x * count ≡ (x - 1) * count + count
-last_place x count h =
-    let e : x ≡ x - 1 + 1 = omega arith in
-    ap (λ n. n * count) e ∙ omega arith
+-- a room holds the values of the last pixel
+pub record HoldsLast (t : RowTerms) (x : ℕ) (row room : List ℕ) : Type 0 where
+  pub same : (d : ℕ) → d < t.count → slice_index room d ≡ slice_index row ((x - 1) * t.count + d)
+  pub low : All (λ v. v ≤ 4062) room
 
-pub last_long : (t : RowTerms) (x : ℕ) (old all : List ℕ) (a : IsAppended t x old all) → 0 < x → length all ≡ length old + (x - 1) * t.count + t.count
-last_long t x old all a h = omega (arith, ap length a.added, length-append old a.row, a.is.whole, last_place x t.count h)
+-- the room from which a pixel was appended
+pub holds_last : (t : RowTerms) (x : ℕ) (row values : List ℕ) → length row ≡ x * t.count → All (λ v. v ≤ 4062) values
+    → HoldsLast t (x + 1) (row ++ values) values
+holds_last t x row values whole low = record {
+  same = λ d hd.
+      let place : (x + 1 - 1) * t.count ≡ length row = ap (λ n. n * t.count) (omega arith) ∙ sym whole in
+      sym (ap (λ n. slice_index (row ++ values) (n + d)) place ∙ get_or-append-add row values d 0);
+  low = low;
+}
 
-pub last_value : (t : RowTerms) (x : ℕ) (old all : List ℕ) (a : IsAppended t x old all) → 0 < x → (last n k : ℕ) → last ≡ length all - t.count → k < n
-    → slice_index (take n (drop last all)) k ≡ slice_index a.row ((x - 1) * t.count + k)
-last_value t x old all a h last n k at hk =
-    let place : last + k ≡ length old + ((x - 1) * t.count + k) = omega (arith, at, last_long t x old all a h) in
-    part_at all last n k hk ∙ ap (slice_index all) place
-    ∙ ap (λ l. slice_index l (length old + ((x - 1) * t.count + k))) a.added ∙ get_or-append-add old a.row ((x - 1) * t.count + k) 0
+-- so many pixels came to the end, and the room for the values of the last one holds them
+pub record Turned (t : RowTerms) (x : ℕ) (old new even odd : List ℕ) : Type 0 where
+  pub made : IsAppended t x old new
+  pub even_last : x % 2 ≡ 1 → HoldsLast t x made.row even
+  pub odd_last : x % 2 ≡ 0 → HoldsLast t x made.row odd
+
+record Next (t : RowTerms) (x : ℕ) (old new values : List ℕ) : Type 0 where
+  made : IsAppended t x old new
+  last : HoldsLast t x made.row values
+
+next : (t : RowTerms) (x : ℕ) (old new new' prev values : List ℕ) → t.dir ≡ Right → 0 < x → x < length t.guide → (a : IsAppended t x old new)
+    → HoldsLast t x a.row prev → length values ≡ t.count
+    → ((d : ℕ) → d < t.count → Follows (slice_index prev) t.count t.penalties.p1 (far_in t (x - 1) x) (slice_index t.costs (x * t.count + d)) d (slice_index values d))
+    → All (λ v. v ≤ 4062) values → new' ≡ new ++ values → Next t (x + 1) old new' values
+next t x old new new' prev values right some inside a last long follows low added = record {
+  made = record {
+    row = a.row ++ values;
+    added = added ∙ ap (λ (l : List ℕ). l ++ values) a.added ∙ append_assoc old a.row values;
+    is = appended_more t x a.row prev values right some inside a.is long last.same follows low;
+  };
+  last = holds_last t x a.row values a.is.whole low;
+}
+
+pub turned_odd : (t : RowTerms) (x : ℕ) (old new new' even odd odd' : List ℕ) → t.dir ≡ Right → 0 < x → x < length t.guide → x % 2 ≡ 1
+    → Turned t x old new even odd → length odd' ≡ t.count
+    → ((d : ℕ) → d < t.count → Follows (slice_index even) t.count t.penalties.p1 (far_in t (x - 1) x) (slice_index t.costs (x * t.count + d)) d (slice_index odd' d))
+    → All (λ v. v ≤ 4062) odd' → new' ≡ new ++ odd' → Turned t (x + 1) old new' even odd'
+turned_odd t x old new new' even odd odd' right some inside is turned long follows low added =
+    let n = next t x old new new' even odd' right some inside turned.made (turned.even_last is) long follows low added in
+    record {
+      made = n.made;
+      even_last = λ e. absurd (omega (arith, is, e));
+      odd_last = λ _. n.last;
+    }
+
+pub turned_even : (t : RowTerms) (x : ℕ) (old new new' even odd even' : List ℕ) → t.dir ≡ Right → 0 < x → x < length t.guide → x % 2 ≡ 0
+    → Turned t x old new even odd → length even' ≡ t.count
+    → ((d : ℕ) → d < t.count → Follows (slice_index odd) t.count t.penalties.p1 (far_in t (x - 1) x) (slice_index t.costs (x * t.count + d)) d (slice_index even' d))
+    → All (λ v. v ≤ 4062) even' → new' ≡ new ++ even' → Turned t (x + 1) old new' even' odd
+turned_even t x old new new' even odd even' right some inside is turned long follows low added =
+    let n = next t x old new new' odd even' right some inside turned.made (turned.odd_last is) long follows low added in
+    record {
+      made = n.made;
+      even_last = λ _. n.last;
+      odd_last = λ e. absurd (omega (arith, is, e));
+    }
 
 -- a row has room for a pixel's entries
 pub first_fits : (n count len : ℕ) → len ≡ n * count → 0 < n → count ≤ len

@@ -2,3 +2,4 @@ pub mod Follow
 pub mod PathRows
 mod Sweeps
 mod Appending
+mod Pairs

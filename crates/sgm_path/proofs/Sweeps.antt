@@ -68,7 +68,7 @@ before_across UpLeft width x z l h e =
     let m = minus_negsuc width x 0 z e in (m.1, omega (arith, m.0))
 
 -- a column at another place in the order than x is another column
-apart_of : (dir : Dir) (width i x z : ℕ) → i < width → x ≡ column_at dir width i
+pub apart_of : (dir : Dir) (width i x z : ℕ) → i < width → x ≡ column_at dir width i
     → (column_at dir width z < i) ⊎ (i < column_at dir width z) → (z < x) ⊎ (x < z)
 apart_of dir width i x z h ex o = elim (cases_lt z x) [
   | inl l ↦ inl l
@@ -83,7 +83,7 @@ apart_of dir width i x z h ex o = elim (cases_lt z x) [
 ]
 
 -- what stands at another column stays
-other_column : (old new : List ℕ) (count x z d : ℕ) → OthersStay (x * count) count old new → (z < x) ⊎ (x < z) → d < count
+pub other_column : (old new : List ℕ) (count x z d : ℕ) → OthersStay (x * count) count old new → (z < x) ⊎ (x < z) → d < count
     → slice_index new (z * count + d) ≡ slice_index old (z * count + d)
 other_column old new count x z d others (inl l) hd =
     others (z * count + d) (inl (omega (arith, mul-add-lt z count d x l hd)))

@@ -1,12 +1,13 @@
 -- What rows of costs and of path values say of a problem.
 use Rattle.std.specs.Prelude.{◌≡◌, ℕ, ◌+◌, ◌-◌, ◌*◌, ◌/◌, ◌%◌, ◌^◌, ◌<◌, ◌≤◌, ◌⊎◌, Bool, true}
-use Rattle.std.specs.Prelude.{false, List, ◌++◌, length, map, slice_index, slice_index_or, All, EachIndex}
-use Rattle.std.specs.Prelude.{Option, Some, None, MatchOption, if◌then◌else◌}
+use Rattle.std.specs.Prelude.{false, List, length, map, slice_index, slice_index_or, All, EachIndex}
+use Rattle.std.specs.Prelude.{◌++◌, Option, Some, None, MatchOption, if◌then◌else◌}
 use Rattle.sgm_base.specs.declared.limits.TheConstants.{MAX_COST, MAX_COUNT, MAX_PATH_VALUE}
 use Rattle.sgm_base.specs.declared.limits.TheConstants.{MAX_PENALTY}
 use Rattle.sgm_energy.specs.Step.{IsStepped}
 use Rattle.sgm_energy.specs.declared.dir.Dir.{Dir}
-use Rattle.sgm_energy.specs.declared.dir.Dir.TheVariants.{Right, Left, DownRight, UpRight}
+use Rattle.sgm_energy.specs.declared.dir.Dir.TheVariants.{Right, Left, Down, DownRight, Up}
+use Rattle.sgm_energy.specs.declared.dir.Dir.TheVariants.{UpRight}
 use Rattle.sgm_energy.specs.Dirs.{is_level}
 use Rattle.sgm_energy.specs.Pens.{Penalties, far_of, penalties_of}
 use Rattle.sgm_energy.specs.Rays.{pixel_at, Problem, column_before, row_before}
@@ -116,6 +117,13 @@ starts_right _ = false
 abbrev pub column_at : Dir → ℕ → ℕ → ℕ
 column_at dir width i = if starts_right dir then width - 1 - i else i
 
+-- by how many columns the second of two rows stays behind the first where both are gone through at
+-- once: its values come from those that the first was given last
+abbrev pub lag_of : Dir → ℕ
+lag_of Down = 0
+lag_of Up = 0
+lag_of _ = 1
+
 -- the row that each entry comes from: in a level direction the row itself
 abbrev pub row_from : Dir → List ℕ → List ℕ → List ℕ
 row_from dir old new = if is_level dir then new else old
@@ -181,3 +189,41 @@ pub record AppendsSums (p1 count : ℕ) (far : ℕ → ℕ → ℕ) (costs old n
   pub added : new ≡ old ++ row
   pub holds : (g : Problem) (y : ℕ) → Suits g y p1 count costs → HasFar g y y far
       → HoldsRow g y (λ p d. path_value g Right p d + path_value g Left p d) row
+
+-- value is that of the column x and the index d of a row, from the values prev of the pixel that
+-- the direction comes from
+abbrev pub EntryFrom : RowTerms → List ℕ → ℕ → ℕ → ℕ → Type 0
+EntryFrom t prev x d value =
+    MatchOption (column_before t.dir (length t.guide) x)
+    (value ≡ slice_index t.costs (x * t.count + d))
+    (λ z. Follows (slice_index prev) t.count t.penalties.p1 (far_in t z x)
+    (slice_index t.costs (x * t.count + d)) d value)
+
+-- two rows are gone through in one direction, with the same penalties
+pub record AreAlike (t u : RowTerms) : Type 0 where
+  pub dir : u.dir ≡ t.dir
+  pub count : u.count ≡ t.count
+  pub width : length u.guide ≡ length t.guide
+
+-- Two rows came after one another: there is a row between, which follows from the row before and is
+-- added to the first sums, and the row after follows from it and is added to the second.
+pub record FollowsTwo (t u : RowTerms) (before after old new more more' : List ℕ) : Type 0 where
+  pub between : List ℕ
+  pub whole : length between ≡ length t.costs
+  pub first : RowFollows t.dir t.count t.penalties.p1 (far_in t) before t.costs between
+  pub second : RowFollows u.dir u.count u.penalties.p1 (far_in u) between u.costs after
+  pub added : EachIndex new (λ k. slice_index new k ≡ slice_index old k + slice_index between k)
+  pub more_added : EachIndex more'
+      (λ k. slice_index more' k ≡ slice_index more k + slice_index after k)
+
+-- The same of path values, whatever rows of whatever problem the costs belong to.
+pub record PassesTwo (t u : RowTerms) (before after old new more more' : List ℕ) : Type 0 where
+  pub between : List ℕ
+  pub whole : length between ≡ length t.costs
+  pub first : (g : Problem) (y : ℕ) → Suits g y t.penalties.p1 t.count t.costs
+      → HoldsRowBefore g t.dir y (far_in t) before → HoldsRow g y (path_value g t.dir) between
+  pub second : (g : Problem) (y : ℕ) → Suits g y u.penalties.p1 u.count u.costs
+      → HoldsRowBefore g u.dir y (far_in u) between → HoldsRow g y (path_value g u.dir) after
+  pub added : EachIndex new (λ k. slice_index new k ≡ slice_index old k + slice_index between k)
+  pub more_added : EachIndex more'
+      (λ k. slice_index more' k ≡ slice_index more k + slice_index after k)

@@ -1,5 +1,5 @@
 ghost use Rattle.std.specs.Prelude.{◌≡◌, ℕ, ◌+◌, ◌-◌, ◌*◌, ◌<◌, ◌≤◌, ◌⊎◌, length, slice_index};
-ghost use Rattle.std.specs.Prelude.{All, OnOk};
+ghost use Rattle.std.specs.Prelude.{◌++◌, All, OnOk};
 ghost use Rattle.sgm_energy.specs.declared.dir.Dir.TheVariants.{Right, Left};
 ghost use Rattle.sgm_energy.specs.Pens.{penalties_of};
 ghost use Rattle.sgm_energy.specs.Rays.{Problem};
@@ -32,10 +32,39 @@ fn next_values<const ADAPTIVE: bool>(row: &RowPass, x: usize, prev: &[u16], valu
     follow::<false, false>(row, far, prev, x * row.count, values, &mut []);
 }
 
-/// Appends the values of a row, where the direction comes from the left. Those of a pixel are made
-/// in a small room, which stays in the first cache.
+/// Appends the values of the pixel `x`, made in `values` from those of the pixel before. `COUNT` is
+/// the row's, so that as few places as can be call this and the compiler puts it there.
 #[inline(always)]
-fn append_values<const ADAPTIVE: bool>(row: &RowPass, into: &mut Vec<u16>) -> Result<(), AllocError>
+fn append_next<const ADAPTIVE: bool, const COUNT: usize>(
+    row: &RowPass,
+    x: usize,
+    prev: &[u16],
+    values: &mut [u16],
+    into: &mut Vec<u16>,
+) -> Result<(), AllocError>
+    requires kind { (penalties_of row.now.pen).adaptive ≡ ADAPTIVE }
+    requires inside { (0 < x) × (x < length row.now.guide.now) }
+    requires prev { (length prev.now ≡ row.now.count) × All (λ v. v ≤ MAX_PATH_VALUE) prev.now }
+    requires values { length values.old ≡ row.now.count }
+    ensures each { let t = terms_of row.now in (d : ℕ) → d < t.count
+        → Follows (slice_index prev.now) t.count t.penalties.p1 (far_in t (x - 1) x)
+        (slice_index t.costs (x * t.count + d)) d (slice_index values.new d) }
+    ensures bound { All (λ v. v ≤ MAX_PATH_VALUE) values.new }
+    ensures added { OnOk result (into.new.items ≡ into.old.items ++ values.new) }
+{
+    next_values::<ADAPTIVE>(row, x, prev, values);
+    into.extend_from_slice(values)
+}
+
+/// Appends the values of a row, where the direction comes from the left. Those of a pixel are made
+/// in a small room, which stays in the first cache. Two rooms take turns, so that the values of the
+/// pixel before are read from the other one and not from new memory, which takes time to be
+/// written.
+#[inline(always)]
+fn append_values<const ADAPTIVE: bool, const COUNT: usize>(
+    row: &RowPass,
+    into: &mut Vec<u16>,
+) -> Result<(), AllocError>
     requires kind { (penalties_of row.now.pen).adaptive ≡ ADAPTIVE }
     requires right { row.now.dir ≡ Right }
     ensures { OnOk result (AppendsValues (terms_of row.now) into.old.items into.new.items) }
@@ -45,13 +74,17 @@ fn append_values<const ADAPTIVE: bool>(row: &RowPass, into: &mut Vec<u16>) -> Re
     }
     let count = row.count;
     let mut room = [0u16; MAX_COUNT as usize];
-    let (values, _) = room.split_at_mut(count);
-    begin(&row.costs[..count], count, 0, values);
-    into.extend_from_slice(values)?;
+    let mut other = [0u16; MAX_COUNT as usize];
+    let (even, _) = room.split_at_mut(count);
+    let (odd, _) = other.split_at_mut(count);
+    begin(&row.costs[..count], count, 0, even);
+    into.extend_from_slice(even)?;
     for x in 1..row.guide.len() {
-        let last = into.len() - count;
-        next_values::<ADAPTIVE>(row, x, &into[last..], values);
-        into.extend_from_slice(values)?;
+        if x % 2 == 1 {
+            append_next::<ADAPTIVE, COUNT>(row, x, even, odd, into)?;
+        } else {
+            append_next::<ADAPTIVE, COUNT>(row, x, odd, even, into)?;
+        }
     }
     Ok(())
 }
@@ -78,7 +111,7 @@ fn append_both<const ADAPTIVE: bool, const COUNT: usize>(
 {
     let at = into.len();
     let right = RowPass::make(Dir::Right, pen, costs, guide, guide, count);
-    append_values::<ADAPTIVE>(&right.counted::<COUNT>(), into)?;
+    append_values::<ADAPTIVE, COUNT>(&right.counted::<COUNT>(), into)?;
     let (_, sums) = into.split_at_mut(at);
     let left = RowPass::make(Dir::Left, pen, costs, guide, guide, count);
     sweep::<ADAPTIVE, true, COUNT>(&left, spare, &mut [], sums);

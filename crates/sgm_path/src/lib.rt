@@ -4,6 +4,7 @@
 #![tactic(auto)]
 
 mod append;
+mod pair;
 mod pixel;
 mod row_pass;
 mod run;
@@ -11,6 +12,7 @@ mod step;
 mod sweep;
 
 pub use append::append_level_sums;
+pub use pair::pass_two;
 pub use row_pass::RowPass;
 pub use run::{level_sums, run_row};
 pub use step::{begin_row, pass_row, step_row};

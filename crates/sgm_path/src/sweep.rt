@@ -15,7 +15,7 @@ use sgm_energy::Dir;
 
 /// The column that is the `i`-th to be gone through: no value is written over that is still needed.
 #[inline(always)]
-fn column(dir: Dir, width: usize, i: usize) -> usize
+pub(crate) fn column(dir: Dir, width: usize, i: usize) -> usize
     requires inside { i < width }
     ensures value { result ≡ column_at dir width i }
     ensures inside { result < width }

@@ -1,3 +1,4 @@
+mod Adding
 pub mod Crossing
 pub mod CutLemmas
 pub mod Entering

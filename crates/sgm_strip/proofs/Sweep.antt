@@ -1,7 +1,7 @@
 -- From one row of a strip to the next.
 use Rattle.std.proofs.Common.{◌≡◌, ℕ, ◌+◌, ◌-◌, ◌*◌, ◌/◌, ◌<◌, ◌≤◌, ◌⊎◌, ◌||◌, Bool, true, false, cond, ltb, List, ◌++◌, length, take, drop, slice_index, slice_range, Option, Some, refl, sym, ap, ◌∙◌, subst, inl, inr, arith, ◌≢◌}
 use Rattle.std.proofs.lemmas.Bool.{cases_eq, cases_lt, lt-ltb, le-ltb, true≢false}
-use Rattle.std.proofs.lemmas.Nat.{div-mul-add, mul-add-lt, mul-le}
+use Rattle.std.proofs.lemmas.Nat.{div-add-mod', div-mul-add, mul-add-lt, mul-le}
 use Rattle.sgm_base.specs.Values.{Values, row_of}
 use Rattle.sgm_energy.specs.declared.dir.Dir.{Dir}
 use Rattle.sgm_energy.specs.declared.dir.Dir.TheVariants.{Right, Left, Down, DownRight, DownLeft, Up, UpRight, UpLeft}
@@ -14,7 +14,7 @@ use Rattle.sgm_energy.proofs.RayLemmas.{minus_one, minus_up}
 use Rattle.sgm_path.specs.Paths.{far_between, HasFar}
 use Rattle.sgm_path.proofs.Follow.{mid_at, mid_others, mid_was}
 use Rattle.sgm_strip.specs.Volumes.{HoldsRows}
-use Rattle.sgm_strip.specs.Passing.{AddsAt, ComesBefore, SuitsRow, SuitsRows, visited}
+use Rattle.sgm_strip.specs.Passing.{AddsAt, ComesBefore, HoldsBefore, SuitsRow, SuitsRows, visited}
 use Rattle.sgm_strip.proofs.Guides.{rows_far}
 use Rattle.sgm_strip.proofs.Rows.{row_holds}
 
@@ -203,3 +203,53 @@ finished g dir top rows penalties guide count row n i begun costs start last old
 -- a row of some pixels and some indices has entries
 pub some_entries : (width count n : ℕ) → 0 < width → 0 < count → n ≡ width * count → 0 < n
 some_entries width count n hw hc e = omega (arith, e, mul-le 1 1 width count (omega (arith, hw)) (omega (arith, hc)))
+
+-- ---- what is known after i visits
+pub record Visited (dir : Dir) (top rows : ℕ) (penalties : Penalties) (guide : Values) (count n : ℕ) (costs : List ℕ) (begun : Bool) (i : ℕ) (start last first sums : List ℕ) : Type 0 where
+  pub left : (z k : ℕ) → z < rows → i ≤ visited dir rows z → k < n → slice_index sums (z * n + k) ≡ slice_index first (z * n + k)
+  pub done : (g : Problem) → SuitsRows g top rows penalties guide count n costs → ComesBefore g dir (top + visited dir rows 0) begun start
+      → Done g dir top rows i n start last first sums
+
+pub visited_none : (dir : Dir) (top rows : ℕ) (penalties : Penalties) (guide : Values) (count n : ℕ) (costs : List ℕ) (begun : Bool) (start first : List ℕ)
+    → Visited dir top rows penalties guide count n costs begun 0 start start first first
+visited_none dir top rows penalties guide count n costs begun start first = record {
+  left = λ z k hz hv hk. refl;
+  done = λ g s b. record {
+    started = λ e. refl;
+    handed = λ h. absurd (omega (arith, h));
+    added = λ z x d hz hx hd hv. absurd (omega (arith, hv));
+  };
+}
+
+-- one visit more
+pub visited_more : (dir : Dir) (top rows : ℕ) (penalties : Penalties) (guide : Values) (count n : ℕ) (costs : List ℕ) (begun : Bool) (i r : ℕ) (start last last' first old new : List ℕ)
+    → is_level dir ≡ false → r ≡ visited dir rows i → i < rows → length last' ≡ n → AddsAt (r * n) last' old new
+    → ((g : Problem) → SuitsRows g top rows penalties guide count n costs → ComesBefore g dir (top + r) (begun || ltb 0 i) last → HoldsRow g (top + r) (path_value g dir) last')
+    → Visited dir top rows penalties guide count n costs begun i start last first old
+    → Visited dir top rows penalties guide count n costs begun (i + 1) start last' first new
+visited_more dir top rows penalties guide count n costs begun i r start last last' first old new level er hi len adds paths v =
+    let others : (k : ℕ) → (k < r * n) ⊎ (r * n + n ≤ k) → slice_index new k ≡ slice_index old k =
+    λ k h. adds.others k (subst (λ m. (k < r * n) ⊎ (r * n + m ≤ k)) (sym len) h) in
+    let here : (k : ℕ) → k < n → slice_index new (r * n + k) ≡ slice_index old (r * n + k) + slice_index last' k =
+    λ k h. adds.each k (omega (arith, h, len)) in
+    record {
+      left = left_more dir rows i n r first old new er hi others v.left;
+      done = λ g s b. done_more g dir top rows i n r begun start last last' first old new s.same_row s.inside level er hi b (v.done g s b) (paths g s) others here v.left;
+    }
+
+-- the row visited before is there
+pub begun_before : (g : Problem) (dir : Dir) (y i : ℕ) (begun : Bool) (before : List ℕ) → 0 < i → ComesBefore g dir y (begun || ltb 0 i) before → HoldsBefore g dir y before
+begun_before g dir y i begun before h b = subst (λ t. ComesBefore g dir y t before) (or_true begun (ltb 0 i) (lt-ltb 0 i h)) b
+
+-- a row that is still to come can be added to
+pub room_left : (dir : Dir) (top rows : ℕ) (penalties : Penalties) (guide : Values) (count n : ℕ) (costs : List ℕ) (begun : Bool) (i j r size : ℕ) (start last first sums : List ℕ)
+    → r ≡ visited dir rows j → i ≤ j → j < rows → rows ≡ size / n → length first ≡ size
+    → ((k : ℕ) → k < length first → slice_index first k + 4062 < 65536)
+    → Visited dir top rows penalties guide count n costs begun i start last first sums
+    → (k : ℕ) → k < n → slice_index sums (r * n + k) + 4062 < 65536
+room_left dir top rows penalties guide count n costs begun i j r size start last first sums er le hj el long room v k hk =
+    let hr : r < rows = omega (arith, er, visited_inside dir rows j hj) in
+    let back : visited dir rows r ≡ j = ap (visited dir rows) er ∙ visited_back dir rows j hj in
+    let inside : r * n + k < length first =
+    omega (arith, long, mul-add-lt r n k rows hr hk, ap (λ m. m * n) el, div-add-mod' size n) in
+    omega (arith, v.left r k hr (omega (arith, back, le)) hk, room (r * n + k) inside)

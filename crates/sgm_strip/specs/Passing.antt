@@ -9,7 +9,7 @@ use Rattle.sgm_energy.specs.Energies.{path_value}
 use Rattle.sgm_energy.specs.Pens.{Penalties, far_of}
 use Rattle.sgm_energy.specs.Rays.{Pixel, Problem, row_before}
 use Rattle.sgm_energy.specs.Rows.{HoldsRow}
-use Rattle.sgm_path.specs.Paths.{HasFar, Suits}
+use Rattle.sgm_path.specs.Paths.{far_in, HasFar, RowTerms, Suits}
 use Rattle.sgm_strip.specs.Volumes.{HoldsRows}
 
 -- which row of a strip is the i-th to which a direction comes: from its top downwards, or from its
@@ -67,3 +67,17 @@ pub record AddsRow (g : Problem) (y : ℕ) (f : Pixel → ℕ → ℕ) (old new 
   pub row : List ℕ
   pub added : new ≡ old ++ row
   pub holds : HoldsRow g y f row
+
+-- The values of two rows after one another are added to the sums, each from a place on: there are a
+-- row between, which is the first's, and the sums to which it alone was added.
+pub record AddsTwo (t u : RowTerms) (at at' : ℕ) (before after old new : List ℕ) : Type 0 where
+  pub between : List ℕ
+  pub middle : List ℕ
+  pub whole : length between ≡ length after
+  pub adds : AddsAt at between old middle
+  pub adds_more : AddsAt at' after middle new
+  pub paths : (g : Problem) (y : ℕ) → SuitsRow g t.dir y t.penalties.p1 t.count (far_in t) t.costs
+      → HoldsBefore g t.dir y before → HoldsRow g y (path_value g t.dir) between
+  pub paths_more : (g : Problem) (y : ℕ)
+      → SuitsRow g u.dir y u.penalties.p1 u.count (far_in u) u.costs
+      → HoldsBefore g u.dir y between → HoldsRow g y (path_value g u.dir) after

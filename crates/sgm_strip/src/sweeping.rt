@@ -1,5 +1,5 @@
 // One direction through the rows of a strip.
-ghost use Rattle.std.specs.Prelude.{◌≡◌, ℕ, ◌+◌, ◌*◌, ◌/◌, ◌%◌, ◌-◌, ◌^◌, ◌<◌, ◌≤◌, ◌||◌};
+ghost use Rattle.std.specs.Prelude.{◌≡◌, ℕ, ◌+◌, ◌*◌, ◌/◌, ◌%◌, ◌-◌, ◌^◌, ◌<◌, ◌≤◌, ◌||◌, ◌⊎◌};
 ghost use Rattle.std.specs.Prelude.{false, Some, nat_lt, length, slice_index, EachIndex, All};
 ghost use Rattle.sgm_base.specs.declared.limits.TheConstants.{MAX_COST, MAX_COUNT, MAX_PATH_VALUE};
 ghost use Rattle.sgm_energy.specs.Dirs.{is_level};
@@ -7,14 +7,14 @@ ghost use Rattle.sgm_energy.specs.Pens.{penalties_of};
 ghost use Rattle.sgm_energy.specs.Rays.{Pixel, Problem, row_before};
 ghost use Rattle.sgm_energy.specs.Energies.{path_value};
 ghost use Rattle.sgm_energy.specs.Rows.{HoldsRow};
-ghost use Rattle.sgm_path.specs.Paths.{far_in, terms_of};
+ghost use Rattle.sgm_path.specs.Paths.{AreAlike, far_in, terms_of};
 ghost use Rattle.sgm_strip.specs.Volumes.{HoldsRows};
-ghost use Rattle.sgm_strip.specs.Passing.{AddsAt, ComesBefore, IsPathRow, SuitsRow, SuitsRows};
-ghost use Rattle.sgm_strip.specs.Passing.{visited};
+ghost use Rattle.sgm_strip.specs.Passing.{AddsAt, AddsTwo, ComesBefore, IsPathRow, SuitsRow};
+ghost use Rattle.sgm_strip.specs.Passing.{SuitsRows, visited};
 
 use crate::Guide;
 use sgm_energy::{Dir, Pen};
-use sgm_path::{RowPass, begin_row, pass_row};
+use sgm_path::{RowPass, begin_row, pass_row, pass_two};
 
 /// Which row of a strip is the `i`-th to which a direction comes.
 fn visited(dir: Dir, rows: usize, i: usize) -> usize
@@ -90,6 +90,71 @@ fn advance(
     }
 }
 
+/// Goes on to the next two rows, one beside the other, whose sums begin at `at` and `at_second`: a
+/// row was visited before, whose path values `last` has, and then those of the second.
+fn advance_two(
+    first: &RowPass,
+    second: &RowPass,
+    at: usize,
+    at_second: usize,
+    last: &mut [u16],
+    sums: &mut [u16],
+)
+    requires across { is_level (terms_of first.now).dir ≡ false }
+    requires alike { AreAlike (terms_of first.now) (terms_of second.now) }
+    requires same_kind { (terms_of first.now).penalties.adaptive
+        ≡ (terms_of second.now).penalties.adaptive }
+    requires last { IsPathRow (length (terms_of first.now).costs) last.old }
+    requires second { length (terms_of second.now).costs ≡ length last.old }
+    requires beside { (at + length last.old ≡ at_second) ⊎ (at_second + length last.old ≡ at) }
+    requires inside { (at + length last.old ≤ length sums.old)
+        × (at_second + length last.old ≤ length sums.old) }
+    requires room { (k : ℕ) → k < length last.old
+        → (slice_index sums.old (at + k) + MAX_PATH_VALUE < 2 ^ 16)
+        × (slice_index sums.old (at_second + k) + MAX_PATH_VALUE < 2 ^ 16) }
+    ensures bound { All (λ v. v ≤ MAX_PATH_VALUE) last.new }
+    ensures added { AddsTwo (terms_of first.now) (terms_of second.now) at at_second
+        last.old last.new sums.old sums.new }
+{
+    let row = last.len();
+    let (_, rest) = sums.split_at_mut(at.min(at_second));
+    let (upper, rest) = rest.split_at_mut(row);
+    let (lower, _) = rest.split_at_mut(row);
+    if at < at_second {
+        pass_two(first, second, last, upper, lower);
+    } else {
+        pass_two(first, second, last, lower, upper);
+    }
+}
+
+/// The pass over the row at this place of a strip, whose rows have so many entries.
+fn row_at<'a>(dir: Dir, strip: &StripCosts<'a>, row: usize, place: usize) -> RowPass<'a>
+    requires row { row ≡ strip.now.guide.now.width * strip.now.count }
+    requires place { place < length strip.now.costs.now / row }
+    ensures dir { (terms_of result).dir ≡ dir }
+    ensures penalties { (terms_of result).penalties ≡ penalties_of strip.now.pen }
+    ensures count { (terms_of result).count ≡ strip.now.count }
+    ensures width { length (terms_of result).guide ≡ strip.now.guide.now.width }
+    ensures whole { length (terms_of result).costs ≡ row }
+    ensures suits { let s = strip.now in let t = terms_of result in (g : Problem) (rows : ℕ)
+        → SuitsRows g s.top rows (penalties_of s.pen) s.guide.now s.count row s.costs.now
+        → place < rows
+        → SuitsRow g t.dir (s.top + place) t.penalties.p1 t.count (far_in t) t.costs }
+{
+    let height = strip.guide.size().height;
+    let y = strip.top + place as u32;
+    let from = row_from(dir, height, y);
+    let at = place * row;
+    RowPass::make(
+        dir,
+        strip.pen,
+        &strip.costs[at..at + row],
+        strip.guide.row(y),
+        strip.guide.row(from),
+        strip.count,
+    )
+}
+
 /// Adds the path values of one direction to the sums of a strip. Where the direction has `begun`,
 /// `last` hands in the row from which it comes to the strip; afterwards it has the last row of the
 /// strip. `spare` has room for a pixel, and what it holds does not matter.
@@ -121,20 +186,19 @@ pub(crate) fn pass_rows(
 {
     let row = last.len();
     let rows = strip.costs.len() / row;
-    let height = strip.guide.size().height;
-    for i in 0..rows {
+    let mut i = 0;
+    // Two rows at once take less time; the first of a ray stands alone, and one that is left over.
+    while i < rows {
         let place = visited(dir, rows, i);
-        let at = place * row;
-        let y = strip.top + place as u32;
-        let guide_before = strip.guide.row(row_from(dir, height, y));
-        let here = RowPass::make(
-            dir,
-            strip.pen,
-            &strip.costs[at..at + row],
-            strip.guide.row(y),
-            guide_before,
-            strip.count,
-        );
-        advance(&here, is_begun(begun, i), at, last, spare, sums);
+        let here = row_at(dir, strip, row, place);
+        if is_begun(begun, i) && i + 1 < rows {
+            let next = visited(dir, rows, i + 1);
+            let there = row_at(dir, strip, row, next);
+            advance_two(&here, &there, place * row, next * row, last, sums);
+            i += 2;
+        } else {
+            advance(&here, is_begun(begun, i), place * row, last, spare, sums);
+            i += 1;
+        }
     }
 }
